@@ -1,0 +1,7 @@
+pub mod Refusals
+pub mod Settings
+pub mod Utf8
+pub mod Leaves
+pub mod Questions
+pub mod Grammar
+pub mod SizeTable
