@@ -20,6 +20,10 @@ AtLeast k f = (v : Value) (p : ℕ) → Valid f v p → k ≤ length (bytes f v)
 unfoldable pub Closed : Format → Type 0
 Closed f = (v : Value) (p : ℕ) → Valid f v p → ahead f v ≡ 0
 
+pub least-at : (k : ℕ) (f : Format) → AtLeast k f → (v : Value) (p : ℕ) → Valid f v p → k ≤ length (bytes f v)
+unfolding AtLeast
+least-at k f h v p g = h v p g
+
 pub least-zero : (f : Format) → AtLeast 0 f
 unfolding AtLeast
 least-zero f v p h = omega arith
@@ -114,7 +118,7 @@ unfolding chain
 closed-chain f u h zero x = closed-empty
 closed-chain f u h (suc n) x = closed-seq (f x) _ (h x) (λ v. closed-chain f u h n (u x v))
 
-least-chain : {S : Type 0} (m : ℕ) (f : S → Format) (u : S → Value → S) → ((x : S) → AtLeast m (f x)) → (n : ℕ) (x : S) → AtLeast (n * m) (chain f u x n)
+pub least-chain : {S : Type 0} (m : ℕ) (f : S → Format) (u : S → Value → S) → ((x : S) → AtLeast m (f x)) → (n : ℕ) (x : S) → AtLeast (n * m) (chain f u x n)
 unfolding chain
 least-chain m f u h zero x = least-down 0 _ _ (least-zero _) (omega arith)
 least-chain m f u h (suc n) x = least-down (m + n * m) _ _ (least-seq m (n * m) (f x) _ (h x) (λ v. least-chain m f u h n (u x v))) (omega arith)

@@ -11,3 +11,4 @@ pub mod Charging
 pub mod Decoding
 pub mod Laying
 pub mod Closing
+pub mod Bounding

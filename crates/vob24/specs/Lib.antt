@@ -5,3 +5,7 @@ pub mod Leaves
 pub mod Questions
 pub mod Grammar
 pub mod SizeTable
+pub mod Cost
+pub mod PackCost
+pub mod PackLayout
+pub mod PackBound

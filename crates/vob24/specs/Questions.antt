@@ -69,8 +69,8 @@ unfoldable pub transferWords : ℕ → ℕ → List (ℕ × ℕ) → List Ask
 transferWords c i [] = []
 transferWords c i (x ∷ xs) =
     refuseUnless (packedOk (x .0)) (functionWrong c i (x .0))
-    ++ refuseUnless (packedOk (x .1)) (functionWrong (c + 1) i (x .1))
-    ++ transferWords c (i + 1) xs
+    ++ (refuseUnless (packedOk (x .1)) (functionWrong (c + 1) i (x .1))
+    ++ transferWords c (i + 1) xs)
 
 -- "slot types as many as `local_slots`? 20 (for 5 slot types, then `local_slots`)"
 abbrev pub sameSlots : ℕ → ℕ → List Ask
