@@ -83,7 +83,7 @@ pub rated-up : {a k a′ k′ : ℕ} {f : Format} → a ≤ a′ → k ≤ k′ 
 rated-up {a} {k} {a′} {k′} h i r =
     record {
       stops = λ s p u b. omega (arith, r .stops s p u b, mul-le-mul-right (length s - p) i);
-      ends = λ s p {v} {q} u b e. omega (arith, r .ends s p u b e, mul-le-mul-right (q - p) i)
+      ends = λ s p {v} {q} u b e. omega (arith, r .ends s p u b e, mul-le-mul-right (q - p) i);
     }
 
 -- questions on charges
@@ -153,7 +153,7 @@ unfolding trace
 rated-string {k} {r} {c} {ok} =
     record {
       stops = λ s p _ _. string-under r c ok s p _ (λ b. text-join k _ p (length s) b);
-      ends = λ s p {v} {q} _ _ e. let h = leaf-ends (string r c ok) s p e in string-under r c ok s p _ (λ b. text-join k _ p q (omega (arith, h .4)))
+      ends = λ s p {v} {q} _ _ e. let h = leaf-ends (string r c ok) s p e in string-under r c ok s p _ (λ b. text-join k _ p q (omega (arith, h .4)));
     }
 
 pub rated-payload : {k : ℕ} {r : Rule} {c : ℕ} → Rated 0 (suc k) (leaf (payload r c))
@@ -161,7 +161,7 @@ unfolding trace
 rated-payload {k} {r} {c} =
     record {
       stops = λ s p _ _. payload-under r c s p _ (λ b. text-join k _ p (length s) b);
-      ends = λ s p {v} {q} _ _ e. let h = leaf-ends (payload r c) s p e in payload-under r c s p _ (λ b. text-join k _ p q (omega (arith, h .3)))
+      ends = λ s p {v} {q} _ _ e. let h = leaf-ends (payload r c) s p e in payload-under r c s p _ (λ b. text-join k _ p q (omega (arith, h .3)));
     }
 
 ask-under : (l : List Ask) (p : ℕ) → total (traceAsk l p) ≤ chargesAsk l
@@ -198,7 +198,7 @@ unfolding trace
 rated-count {r} {m} {c} {z} {k} few =
     record {
       stops = λ s p _ _. count-under r m c z s p _ (λ t b. omega (arith, few _ t, four k (length s) p (omega arith)));
-      ends = λ s p {v} {q} _ _ e. let h = leaf-ends (count r m c z) s p e in count-under r m c z s p _ (λ t b. omega (arith, few _ t, four k q p (omega (arith, h .3))))
+      ends = λ s p {v} {q} _ _ e. let h = leaf-ends (count r m c z) s p e in count-under r m c z s p _ (λ t b. omega (arith, few _ t, four k q p (omega (arith, h .3))));
     }
 
 -- with n entries of size z in x bytes

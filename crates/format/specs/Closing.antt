@@ -1,16 +1,17 @@
 -- Formats whose counts ask for nothing that their items do not hold: what they ask against the bytes left is implied by the layout.
 use Prim.Native.Nat.{ℕ, suc, zero, _+_, _-_, _*_, _/_, _%_, _≤_, _<_, max}
-use mathlib.Core.Path.{_≡_, refl}
+use mathlib.Core.Path.{_≡_, refl, ap, sym, _∙_}
+use mathlib.Core.Logic.{_↔_}
 use mathlib.Core.List.{List, [], _∷_, _++_}
 use mathlib.Core.Bool.{Bool, true, false}
 use native.Mathlib.Omega.{arith}
-use lib.ListN.{length, getD, length-append}
+use lib.ListN.{length, getD, length-append, length-take, length-drop}
 use lib.Dec.{ltb}
-use Rattle.format.specs.Trace.{Wrong, pick}
+use Rattle.format.specs.Trace.{Wrong, pick, ended, Ends}
 use Rattle.format.specs.Format.{Value, number, content, first, second, Rule, Width, byte, half, word, long, option, Ask, Leaf, fixed, mark, packed, string, payload, count, ask, Format, empty, leaf, seq, chain}
-use Rattle.format.specs.Reading.{size}
-use Rattle.format.specs.Layout.{groups, bytesLeaf, bytes, Valid, aheadLeaf, ahead}
-use Rattle.format.specs.Laying.{length-digits}
+use Rattle.format.specs.Reading.{size, trace}
+use Rattle.format.specs.Layout.{groups, Bytes, bytesLeaf, bytes, Valid, aheadLeaf, ahead}
+use Rattle.format.specs.Laying.{length-digits, At, Placed, trace-placed, placed-trace}
 
 -- Every value of f takes at least k bytes.
 unfoldable pub AtLeast : ℕ → Format → Type 0
@@ -141,3 +142,17 @@ closed-get (also h k) zero = h
 closed-get (also h k) (suc n) = closed-get k n
 
 pub ruleset closed = (closed-empty, closed-fixed, closed-mark, closed-packed, closed-string, closed-payload, closed-ask, closed-list, done, also, closed-seq, least-fore, one-fixed, one-string, one-count, least-packed)
+
+at-length : (s : List ℕ) (p : ℕ) (bs : List ℕ) → p ≤ length s → At s p bs → p + length bs ≤ length s
+at-length s p bs h a = let e = simp (length-take, length-drop) at (ap length a) in omega arith
+
+-- A closed format is read, from p to q, exactly where the layout of a valid value stands.
+pub layout-iff : (f : Format) → Closed f → (s : List ℕ) (p : ℕ) (v : Value) (q : ℕ) → Bytes s → p ≤ length s → Ends (trace f s p) v q ↔ Valid f v p × At s p (bytes f v) × (q ≡ p + length (bytes f v))
+unfolding Closed
+layout-iff f c s p v q b h = (to, from)
+  where
+    to : Ends (trace f s p) v q → Valid f v p × At s p (bytes f v) × (q ≡ p + length (bytes f v))
+    to e = let r = trace-placed f s p b e in (r .0, r .1 .there, r .1 .next)
+
+    from : Valid f v p × At s p (bytes f v) × (q ≡ p + length (bytes f v)) → Ends (trace f s p) v q
+    from r = placed-trace f s p v (r .0) (r .1) (omega (arith, c v p (r .0), at-length s p (bytes f v) h (r .1))) ∙ ap (ended v) (sym (r .2))

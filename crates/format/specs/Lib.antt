@@ -12,3 +12,4 @@ pub mod Decoding
 pub mod Laying
 pub mod Closing
 pub mod Bounding
+pub mod Placing

@@ -7,7 +7,7 @@ use mathlib.Core.Logic.{_↔_}
 use native.Mathlib.Omega.{arith}
 use lib.Dec.{T, leb, leb→le, nleb→lt, le→leb}
 use lib.ListN.{length, take}
-use Rattle.format.specs.Trace.{Wrong, Trace, stop, end, charge, asks, bind, amounts, sum, total, Out, stopped, ended, out, Ends, Settled, refused, taken, left, pick, spent, settle, covered, Longest, finish, broke}
+use Rattle.format.specs.Trace.{Charge, here, later, past, Wrong, Trace, stop, end, charge, asks, bind, amounts, sum, total, Out, stopped, ended, out, Ends, Settled, refused, taken, left, pick, spent, settle, covered, Longest, finish, broke}
 
 -- a budget that reaches the total: every charge goes through
 pub settle-reached : {A : Type 0} (b : ℕ) (t : Trace A) → total t ≤ b → settle b t ≡ finish (b - total t) t
@@ -130,3 +130,30 @@ settle-bind {A} {B} b (charge c n p t) k = go (leb n b) (settle-bind (b - n) t k
     go true e = e
     go false e = refl
 settle-bind b (asks n p t) k = settle-bind b t k
+
+-- The charge at which a trace breaks off.
+pub record Broken {A : Type 0} (t : Trace A) (i b : ℕ) : Type 0 where
+  pub context : ℕ
+  pub amount : ℕ
+  pub place : ℕ
+  pub there : Charge t i context amount place
+  pub is : broke i b t ≡ refused (spent context amount b) place b
+
+pub broke-at : {A : Type 0} (t : Trace A) (i b : ℕ) → i < length (amounts t) → Broken t i b
+unfolding broke amounts
+broke-at (stop w p) i b h = absurd (omega arith)
+broke-at (end a p) i b h = absurd (omega arith)
+broke-at (charge c n p t) zero b h = record { context = c; amount = n; place = p; there = here; is = refl }
+broke-at (charge c n p t) (suc i) b h = let r = broke-at t i b (omega arith) in record { context = r .context; amount = r .amount; place = r .place; there = later (r .there); is = r .is }
+broke-at (asks m q t) i b h = let r = broke-at t i b h in record { context = r .context; amount = r .amount; place = r .place; there = past (r .there); is = r .is }
+
+-- What is paid first is paid in full; a trace that stops is refused there.
+pub settle-stopped : {A : Type 0} (b : ℕ) (t : Trace A) {w : Wrong} {q : ℕ} → out t ≡ stopped w q → total t ≤ b → settle b t ≡ refused w q (b - total t)
+unfolding out finish
+settle-stopped b t h g = settle-reached b t g ∙ go t (b - total t) h
+  where
+    go : {A : Type 0} (t : Trace A) (l : ℕ) {w : Wrong} {q : ℕ} → out t ≡ stopped w q → finish l t ≡ refused w q l
+    go (stop w p) l h = cc
+    go (end a p) l h = cc
+    go (charge c n p t) l h = go t l h
+    go (asks n p t) l h = go t l h

@@ -114,6 +114,12 @@ pub record Longest (b : ℕ) (ns : List ℕ) (k : ℕ) : Type 0 where
   pub fits : sum (take k ns) ≤ b
   pub most : (i : ℕ) → i ≤ length ns → sum (take i ns) ≤ b → i ≤ k
 
+-- The charge number i of the list, counted from 0: its context, amount and place.
+pub data Charge {A : Type 0} : Trace A → ℕ → ℕ → ℕ → ℕ → Type 0 where
+  here : {c n p : ℕ} {t : Trace A} → Charge (charge c n p t) 0 c n p
+  later : {c′ n′ p′ i c n p : ℕ} {t : Trace A} → Charge t i c n p → Charge (charge c′ n′ p′ t) (suc i) c n p
+  past : {m q i c n p : ℕ} {t : Trace A} → Charge t i c n p → Charge (asks m q t) i c n p
+
 -- The end of a trace whose charges all go through, with so much left.
 unfoldable pub finish : {A : Type 0} → ℕ → Trace A → Settled A
 finish b (stop w p) = refused w p b

@@ -1,6 +1,6 @@
 -- Document 01's cost, "What is charged", worked out from a record and its texts alone: a clause for each record, and no use of the
 -- grammar's charges. `PackCost` proves it equal to what a reading charges.
-use Prim.Native.Nat.{ℕ, _+_, _*_}
+use Prim.Native.Nat.{ℕ, suc, zero, _+_, _*_}
 use mathlib.Core.List.{List, [], _∷_, map}
 use lib.ListN.{length, getD}
 use Rattle.format.specs.Trace.{sum}
@@ -9,7 +9,7 @@ use Rattle.format.specs.Record.{decode}
 use Rattle.vob24.specs.Settings as of
 use Rattle.vob24.specs.Settings.{Settings, sizeOf}
 use Rattle.vob24.specs.Questions.{named}
-use Rattle.vob24.specs.Grammar.{Section, name, structs, interfaces, namedTypes, itabs, runtimeTypes, wellKnown, constants, globals, functions, externs, entry, islandInit, artifacts, files, functionLocations, inlineSources, pack}
+use Rattle.vob24.specs.Grammar.{Section, name, structs, interfaces, namedTypes, itabs, runtimeTypes, wellKnown, constants, globals, functions, externs, entry, islandInit, artifacts, files, functionLocations, inlineSources, section, pack}
 
 -- "text and payload their length"
 abbrev pub textCost : Value → ℕ
@@ -173,28 +173,30 @@ sectionCost set files = listCost (sizeOf set of.String) textCost
 sectionCost set functionLocations = listCost (sizeOf set of.FuncDebugInfo) (listCost (sizeOf set of.DebugLoc) nothing)
 sectionCost set inlineSources = inlineSourcesCost set
 
-abbrev afterFunctions : Value → Value
-afterFunctions v = second (second (second (second (second (second (second (second (second (second (second (second v)))))))))))
+-- What stands after the first n parts of a sequence.
+abbrev pub after : ℕ → Value → Value
+after zero v = v
+after (suc n) v = after n (second v)
 
--- The part of a pack's value that is a section's.
+-- The part of a pack's value that is a section's; magic and version stand before the first.
 unfoldable pub partOf : Section → Value → Value
-partOf name v = first (second (second v))
-partOf structs v = first (second (second (second v)))
-partOf interfaces v = first (second (second (second (second v))))
-partOf namedTypes v = first (second (second (second (second (second v)))))
-partOf itabs v = first (second (second (second (second (second (second v))))))
-partOf runtimeTypes v = first (second (second (second (second (second (second (second v)))))))
-partOf wellKnown v = first (second (second (second (second (second (second (second (second v))))))))
-partOf constants v = first (second (second (second (second (second (second (second (second (second v)))))))))
-partOf globals v = first (second (second (second (second (second (second (second (second (second (second v))))))))))
-partOf functions v = first (second (second (second (second (second (second (second (second (second (second (second v)))))))))))
-partOf externs v = first (afterFunctions v)
-partOf entry v = first (second (afterFunctions v))
-partOf islandInit v = first (second (second (afterFunctions v)))
-partOf artifacts v = first (second (second (second (afterFunctions v))))
-partOf files v = first (second (second (second (second (afterFunctions v)))))
-partOf functionLocations v = first (second (second (second (second (second (afterFunctions v))))))
-partOf inlineSources v = second (second (second (second (second (second (afterFunctions v))))))
+partOf name v = first (after 2 v)
+partOf structs v = first (after 3 v)
+partOf interfaces v = first (after 4 v)
+partOf namedTypes v = first (after 5 v)
+partOf itabs v = first (after 6 v)
+partOf runtimeTypes v = first (after 7 v)
+partOf wellKnown v = first (after 8 v)
+partOf constants v = first (after 9 v)
+partOf globals v = first (after 10 v)
+partOf functions v = first (after 11 v)
+partOf externs v = first (after 12 v)
+partOf entry v = first (after 13 v)
+partOf islandInit v = first (after 14 v)
+partOf artifacts v = first (after 15 v)
+partOf files v = first (after 16 v)
+partOf functionLocations v = first (after 17 v)
+partOf inlineSources v = after 18 v
 
 -- "all sections, from name to inline sources"
 abbrev pub allSections : List Section
@@ -206,3 +208,7 @@ packCost set v = sum (map (λ x. sectionCost set x (partOf x v)) allSections)
 -- Document 01's cost of a record: from the words, and the bytes of the texts that they point to in s.
 abbrev pub recordCost : Settings → List ℕ → List ℕ → ℕ
 recordCost set ws s = packCost set (decode (pack set) ws s .0)
+
+-- The same of a section's record.
+abbrev pub sectionRecordCost : Settings → ℕ → Section → List ℕ → List ℕ → ℕ
+sectionRecordCost set n x ws s = sectionCost set x (decode (section set n x) ws s .0)

@@ -9,3 +9,11 @@ pub mod Cost
 pub mod PackCost
 pub mod PackLayout
 pub mod PackBound
+pub mod Calls
+pub mod Calling
+pub mod Theorems
+pub mod Lookup
+pub mod Packed
+pub mod MarkedCases
+pub mod Examples
+pub mod Accessors

@@ -159,8 +159,10 @@ module _ (set : Settings) (licensed : Licensed set) where
   level-interface : {d : ℕ} → Level (suc (suc (suc (suc d)))) (g.interface set)
   unfolding g.interface
   level-interface {d} =
-      level-seq level-string (λ _. record { rated = rated-up (omega arith) (omega arith)
-        (rated-seq 0 0 65536 (suc (suc (suc d)) * 65536) (g.list set of.String str) _ (λ a. chargesAsk (g.methodSet set (entries a))) (names {d = suc d} .rated) (λ a. inner a) (λ v p h. omega (arith, names-under of.String str (one-string _ _ _) v p h))) })
+      level-seq level-string (λ _. record {
+        rated = rated-up (omega arith) (omega arith)
+            (rated-seq 0 0 65536 (suc (suc (suc d)) * 65536) (g.list set of.String str) _ (λ a. chargesAsk (g.methodSet set (entries a))) (names {d = suc d} .rated) (λ a. inner a) (λ v p h. omega (arith, names-under of.String str (one-string _ _ _) v p h)));
+      })
     where
       names : {d : ℕ} → Level (suc (suc d)) (g.list set of.String str)
       names = level-list (small of.String) (one-string _ _ _) level-string

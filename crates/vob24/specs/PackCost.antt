@@ -169,10 +169,12 @@ module _ (set : Settings) where
   interface-costs =
       let names : Costs (g.list set of.String str) (listCost (sizeOf set of.String) textCost) = list-costs text-costs in
       let methods : Costs (g.list set of.InterfaceMethodMeta (g.interfaceMethod set)) (listCost (sizeOf set of.InterfaceMethodMeta) (cost.interfaceMethodCost set)) = list-costs interfaceMethod-costs in
-      record { is = λ v.
-        let a = first (second v) in
-        let b = first (second (second v)) in
-        omega (arith, names .is a, methods .is b, names-free [] (entries a), names-free [] (map first (entries b)), names-cost (counted a) (second a) (sizeOf set of.Str), set-cost (counted b) (second b) first (sizeOf set of.Str)) }
+      record {
+        is = λ v.
+            let a = first (second v) in
+            let b = first (second (second v)) in
+            omega (arith, names .is a, methods .is b, names-free [] (entries a), names-free [] (map first (entries b)), names-cost (counted a) (second a) (sizeOf set of.Str), set-cost (counted b) (second b) first (sizeOf set of.Str));
+      }
 
   newMethod-costs : (seen : List (List ℕ)) → Costs (g.newMethod set seen) (cost.methodCost set)
   unfolding charges chargesLeaf chargesAsk g.newMethod g.method cost.methodCost
@@ -198,9 +200,11 @@ module _ (set : Settings) where
   unfolding charges chargesLeaf chargesAsk g.runtimeStruct cost.runtimeStructCost
   runtimeStruct-costs =
       let fields : Costs (g.list set of.StructField (g.runtimeField set)) (listCost (sizeOf set of.StructField) (cost.runtimeFieldCost set)) = list-costs runtimeField-costs in
-      record { is = λ v.
-        let a = first (second v) in
-        omega (arith, fields .is a, identities-free [] (map (g.identity set) (entries a)), set-cost (counted a) (second a) (g.identity set) (sizeOf set of.StrStr)) }
+      record {
+        is = λ v.
+            let a = first (second v) in
+            omega (arith, fields .is a, identities-free [] (map (g.identity set) (entries a)), set-cost (counted a) (second a) (g.identity set) (sizeOf set of.StrStr));
+      }
 
   runtimeMethod-costs : Costs (g.runtimeMethod set) (cost.interfaceMethodCost set)
   unfolding charges chargesLeaf g.runtimeMethod cost.interfaceMethodCost
@@ -210,9 +214,11 @@ module _ (set : Settings) where
   unfolding charges chargesLeaf chargesAsk g.runtimeInterface cost.runtimeInterfaceCost
   runtimeInterface-costs =
       let methods : Costs (g.list set of.InterfaceMethod (g.runtimeMethod set)) (listCost (sizeOf set of.InterfaceMethod) (cost.interfaceMethodCost set)) = list-costs runtimeMethod-costs in
-      record { is = λ v.
-        let a = first (second v) in
-        omega (arith, methods .is a, names-free [] (map first (entries a)), set-cost (counted a) (second a) first (sizeOf set of.Str)) }
+      record {
+        is = λ v.
+            let a = first (second v) in
+            omega (arith, methods .is a, names-free [] (map first (entries a)), set-cost (counted a) (second a) first (sizeOf set of.Str));
+      }
 
   rttids-costs : Costs (g.rttids set) (cost.rttidsCost set)
   rttids-costs = list-costs fixed-costs
@@ -302,13 +308,14 @@ module _ (set : Settings) where
       cost.codeCost set (first v) + cost.transfersCost set (first (first (second v))) + cost.slotTypesCost set (first (second (second v))) + cost.transfersCost set (first (first (second (second (second v)))))
   unfolding charges chargesLeaf g.functionBody
   functionBody-costs types locals v =
-      omega
-      (arith,
-      code-costs .is (first v),
-      transfers-costs Refusals.captureMeta .is (first (second v)),
-      slotTypes-costs .is (first (second (second v))),
-      transfers-costs Refusals.parameterMeta .is (first (second (second (second v)))),
-      agree-free (eqb types locals) (Questions.functionWrong Refusals.slotCount types locals))
+      omega (
+        arith,
+        code-costs .is (first v),
+        transfers-costs Refusals.captureMeta .is (first (second v)),
+        slotTypes-costs .is (first (second (second v))),
+        transfers-costs Refusals.parameterMeta .is (first (second (second (second v)))),
+        agree-free (eqb types locals) (Questions.functionWrong Refusals.slotCount types locals),
+      )
 
   functionReturns-costs : (v : Value) → charges (g.functionReturns set) v ≡ cost.slotTypesCost set (first (second v)) + listCost (sizeOf set of.U16) nothing (second (second (second (second (second v)))))
   unfolding charges chargesLeaf g.functionReturns
@@ -319,13 +326,16 @@ module _ (set : Settings) where
   function-costs : Costs (g.function set) (cost.functionCost set)
   unfolding charges chargesLeaf g.function g.functionHead g.functionTraits cost.functionCost
   function-costs =
-      record { is = λ v.
-        let types = second (second (second (second v))) in
-        omega
-        (arith,
-        functionReturns-costs (first (second (second v))),
-        slotTypes-costs .is (first types),
-        functionBody-costs (counted (first types)) (number (first (second v))) (second types)) }
+      record {
+        is = λ v.
+            let types = second (second (second (second v))) in
+            omega (
+              arith,
+              functionReturns-costs (first (second (second v))),
+              slotTypes-costs .is (first types),
+              functionBody-costs (counted (first types)) (number (first (second v))) (second types),
+            );
+      }
 
   artifact-costs : Costs (g.artifact set) (cost.artifactCost set)
   unfolding charges chargesLeaf g.artifact cost.artifactCost
@@ -392,24 +402,27 @@ module _ (set : Settings) where
   pub pack-costs : Costs (g.pack set) (packCost set)
   unfolding charges chargesLeaf g.pack g.sections g.afterFunctions packCost partOf sum
   pack-costs =
-      record { is = λ v.
-        let n = counted (partOf functions v) in
-        omega
-        (arith,
-        section-costs 0 name .is (partOf name v),
-        section-costs 0 structs .is (partOf structs v),
-        section-costs 0 interfaces .is (partOf interfaces v),
-        section-costs 0 namedTypes .is (partOf namedTypes v),
-        section-costs 0 itabs .is (partOf itabs v),
-        section-costs 0 runtimeTypes .is (partOf runtimeTypes v),
-        section-costs 0 wellKnown .is (partOf wellKnown v),
-        section-costs 0 constants .is (partOf constants v),
-        section-costs 0 globals .is (partOf globals v),
-        section-costs 0 functions .is (partOf functions v),
-        section-costs n externs .is (partOf externs v),
-        section-costs n entry .is (partOf entry v),
-        section-costs n islandInit .is (partOf islandInit v),
-        section-costs n artifacts .is (partOf artifacts v),
-        section-costs n files .is (partOf files v),
-        section-costs n functionLocations .is (partOf functionLocations v),
-        section-costs n inlineSources .is (partOf inlineSources v)) }
+      record {
+        is = λ v.
+            let n = counted (partOf functions v) in
+            omega (
+              arith,
+              section-costs 0 name .is (partOf name v),
+              section-costs 0 structs .is (partOf structs v),
+              section-costs 0 interfaces .is (partOf interfaces v),
+              section-costs 0 namedTypes .is (partOf namedTypes v),
+              section-costs 0 itabs .is (partOf itabs v),
+              section-costs 0 runtimeTypes .is (partOf runtimeTypes v),
+              section-costs 0 wellKnown .is (partOf wellKnown v),
+              section-costs 0 constants .is (partOf constants v),
+              section-costs 0 globals .is (partOf globals v),
+              section-costs 0 functions .is (partOf functions v),
+              section-costs n externs .is (partOf externs v),
+              section-costs n entry .is (partOf entry v),
+              section-costs n islandInit .is (partOf islandInit v),
+              section-costs n artifacts .is (partOf artifacts v),
+              section-costs n files .is (partOf files v),
+              section-costs n functionLocations .is (partOf functionLocations v),
+              section-costs n inlineSources .is (partOf inlineSources v),
+            );
+      }

@@ -131,6 +131,6 @@ module _ (set : Settings) where
   closed-section n functionLocations = search (closed-location, closed)
   closed-section n inlineSources = closed-inlineSources n
 
-  closed-pack : Closed (g.pack set)
+  pub closed-pack : Closed (g.pack set)
   unfolding g.pack g.sections g.afterFunctions
   closed-pack = search (closed-section, closed) depth 40

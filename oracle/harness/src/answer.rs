@@ -1,0 +1,400 @@
+//! The answers of document 01, from what the patched Rust says and reports.
+
+use crate::words;
+use measured::bytecode::Module;
+use measured::report::{self, Charge, Mark, Report, Site, Span};
+use measured::serialize::{SerializeError, MAX_VOB_BYTES};
+
+pub const RUST_BUDGET: u64 = 512 * 1024 * 1024;
+pub const NO_END: usize = usize::MAX;
+const EXTERNS: usize = 11;
+const INLINE_SOURCES: usize = 17;
+
+#[derive(Clone, Copy, Debug, PartialEq, Eq)]
+pub enum Answer {
+    Taken { words: u64, bytes: u64, charged: u64, left: u64 },
+    Refused { number: u64, c: u64, d1: u64, d2: u64, place: u64, left: u64 },
+}
+
+impl Answer {
+    /// Status (0 taken, 1 refused) and the fields, the unused ones 0.
+    pub fn fields(&self) -> [u64; 7] {
+        match *self {
+            Answer::Taken { words, bytes, charged, left } => [0, words, bytes, charged, left, 0, 0],
+            Answer::Refused { number, c, d1, d2, place, left } => [1, number, c, d1, d2, place, left],
+        }
+    }
+
+    pub fn number(&self) -> u64 {
+        match *self {
+            Answer::Taken { .. } => 0,
+            Answer::Refused { number, .. } => number,
+        }
+    }
+}
+
+impl std::fmt::Display for Answer {
+    fn fmt(&self, f: &mut std::fmt::Formatter<'_>) -> std::fmt::Result {
+        match self {
+            Answer::Taken { words, bytes, charged, left } => write!(f, "taken {words} {bytes} {charged} {left}"),
+            Answer::Refused { number, c, d1, d2, place, left } => {
+                write!(f, "refused {number} {c} {d1} {d2} {place} {left}")
+            }
+        }
+    }
+}
+
+pub struct Reading {
+    pub answer: Answer,
+    /// The tape's words, section by section, where the answer is taken.
+    pub words: Vec<Vec<u32>>,
+    /// Charges that were asked for; where the answer is 5, the last one is the one that couldn't be paid.
+    pub charges: Vec<Charge>,
+    /// The sections that were begun, with the budget left there.
+    pub sections: Vec<Mark>,
+    /// Name, and start and length of the payload, of each artifact of a taken pack.
+    artifacts: Vec<(Vec<u8>, Span)>,
+    /// Whether the last section was read to its end.
+    through: Option<Mark>,
+}
+
+/// Module::deserialize on a whole pack, and what document 01 adds to it (25, 26).
+pub fn read(pack: &[u8], budget: u64, tape: u64) -> Reading {
+    let (result, report) = report::with_budget(budget as usize, || Module::deserialize(pack));
+    if budget == RUST_BUDGET {
+        same_as_original(pack, &result);
+    }
+    let start = Mark { place: 0, left: budget as usize };
+    let end = report.end.unwrap_or(start);
+    let Report { mut charges, spans, mut sections, .. } = report;
+
+    if let Some(count) = sections.get(EXTERNS - 1).and_then(|at| extern_count(pack, at.place)) {
+        let at = sections[EXTERNS - 1];
+        sections.truncate(EXTERNS);
+        charges.retain(|charge| charge.place <= at.place);
+        let answer = refused(25, 0, count as u64, 0, Mark { place: at.place + 4, left: at.left });
+        return Reading { answer, words: Vec::new(), charges, sections, artifacts: Vec::new(), through: None };
+    }
+
+    match result {
+        Ok(module) => {
+            let words = words::words(&module, pack, &spans, 0);
+            let needed: u64 = words.iter().map(|section| section.len() as u64).sum();
+            let answer = if needed > tape {
+                refused(26, 0, needed, tape, end)
+            } else {
+                Answer::Taken {
+                    words: needed,
+                    bytes: end.place as u64,
+                    charged: charges.iter().map(|charge| charge.amount as u64).sum(),
+                    left: end.left as u64,
+                }
+            };
+            let payloads = spans.iter().filter(|span| span.site == Site::ArtifactPayload);
+            let artifacts =
+                module.artifacts.iter().map(|artifact| artifact.name.clone().into_bytes()).zip(payloads.copied());
+            Reading { answer, words, charges, sections, artifacts: artifacts.collect(), through: Some(end) }
+        }
+        Err(error) => {
+            let through = matches!(error, SerializeError::TrailingBytes(_)).then_some(end);
+            let answer = refusal(pack, &error, &charges, &spans, end);
+            Reading { answer, words: Vec::new(), charges, sections, artifacts: Vec::new(), through }
+        }
+    }
+}
+
+/// The lookup: the pack under the Rust's budget, then the first artifact with exactly these name bytes.
+/// `Module::artifact` searches a sorted list and is no judge here.
+pub fn lookup(pack: &[u8], name: &[u8]) -> Result<(u64, u64), Answer> {
+    let reading = read(pack, RUST_BUDGET, u64::MAX);
+    let Answer::Taken { bytes, left, .. } = reading.answer else { return Err(reading.answer) };
+    match reading.artifacts.iter().find(|(other, _)| other == name) {
+        Some((_, span)) => Ok((span.start as u64, span.len as u64)),
+        None => Err(refused(27, 0, 0, 0, Mark { place: bytes as usize, left: left as usize })),
+    }
+}
+
+/// A section alone. The Rust has no such call, but it reads section `number` of any pack whose earlier sections are
+/// bare: so the bytes from `place` on are put behind a bare opening part, and all places are shifted back.
+pub fn section(pack: &[u8], number: usize, place: u64, budget: u64, functions: u64, tape: u64) -> (Answer, Vec<u32>) {
+    let given = |number, d1, d2| (Answer::Refused { number, c: 0, d1, d2, place, left: budget }, Vec::new());
+    if pack.len() > MAX_VOB_BYTES {
+        return given(1, pack.len() as u64, MAX_VOB_BYTES as u64);
+    }
+    if place > pack.len() as u64 {
+        return given(2, 0, 0);
+    }
+    // No pack costs 2^62; what a budget has beyond that is set aside, so that the opening part's charges fit.
+    let aside = budget.saturating_sub(1 << 62);
+    let (mut answer, words) = section_behind(pack, number, place, budget - aside, functions, tape);
+    match &mut answer {
+        Answer::Taken { left, .. } | Answer::Refused { left, .. } => *left += aside,
+    }
+    (answer, words)
+}
+
+fn section_behind(
+    pack: &[u8],
+    number: usize,
+    place: u64,
+    budget: u64,
+    functions: u64,
+    tape: u64,
+) -> (Answer, Vec<u32>) {
+    // More functions than the inline limit make no difference to it.
+    let functions = if number == INLINE_SOURCES { functions.min(131_072) } else { 0 };
+    let opening = opening_part(number, functions);
+    let paid = functions * std::mem::size_of::<measured::FunctionDef>() as u64;
+    let shift = place as i64 - opening.len() as i64;
+    let rest = &pack[place as usize..];
+
+    let behind = [&opening[..], rest].concat();
+    let reading = read(&behind, budget + paid, u64::MAX);
+    let at = *reading.sections.get(number - 1).expect("opening part and section fit the longest pack");
+    assert_eq!((at.place, at.left as u64), (opening.len(), budget));
+
+    let end = if number == INLINE_SOURCES { reading.through } else { reading.sections.get(number).copied() };
+    let Some(end) = end else {
+        return (shifted(reading.answer, shift), Vec::new());
+    };
+    let taken = end.place - at.place;
+    let alone = [&opening[..], &rest[..taken], &closing_part(number)].concat();
+    let (module, report) = report::with_budget(NO_END, || Module::deserialize(&alone));
+    let module = module.expect("the section was taken, and nothing is amiss after it");
+    let words = words::words(&module, &alone, &report.spans, shift).swap_remove(number - 1);
+    if words.len() as u64 > tape {
+        let at = Mark { place: (end.place as i64 + shift) as usize, left: end.left };
+        return (refused(26, 0, words.len() as u64, tape, at), Vec::new());
+    }
+    let answer = Answer::Taken {
+        words: words.len() as u64,
+        bytes: taken as u64,
+        charged: budget - end.left as u64,
+        left: end.left as u64,
+    };
+    (answer, words)
+}
+
+/// Bytes of each section of the bare pack.
+const BARE: [usize; 17] = [4, 4, 4, 4, 4, 4, 37, 4, 4, 4, 4, 4, 4, 4, 4, 4, 8];
+/// Bytes of a function with an empty name and empty lists.
+const BARE_FUNCTION: usize = 4 + 4 * 2 + 4 + 3 * 2 + 4 + 1 + 4 + 1 + 6 * 4;
+
+pub fn opening_part(number: usize, functions: u64) -> Vec<u8> {
+    let mut out = b"VOB\x18\0\0\0".to_vec();
+    for section in 1..number {
+        let at = out.len();
+        out.resize(at + BARE[section - 1], 0);
+        if section == 10 {
+            out[at..at + 4].copy_from_slice(&(functions as u32).to_le_bytes());
+            out.resize(at + 4 + functions as usize * BARE_FUNCTION, 0);
+        }
+    }
+    out
+}
+
+fn closing_part(number: usize) -> Vec<u8> {
+    vec![0; BARE[number..].iter().sum()]
+}
+
+fn shifted(answer: Answer, shift: i64) -> Answer {
+    let move_by = |at: u64| (at as i64 + shift) as u64;
+    let Answer::Refused { number, mut c, mut d1, d2, place, left } = answer else {
+        panic!("a section that did not end is refused");
+    };
+    if (16..=19).contains(&number) {
+        d1 = move_by(d1);
+    }
+    if number == 19 {
+        c = move_by(c);
+    }
+    Answer::Refused { number, c, d1, d2, place: move_by(place), left }
+}
+
+fn refused(number: u64, c: u64, d1: u64, d2: u64, at: Mark) -> Answer {
+    Answer::Refused { number, c, d1, d2, place: at.place as u64, left: at.left as u64 }
+}
+
+/// The extern count, where it is there and is not 0.
+fn extern_count(pack: &[u8], at: usize) -> Option<u32> {
+    let bytes = pack.get(at..at + 4)?;
+    let count = u32::from_le_bytes(bytes.try_into().expect("four bytes"));
+    (count != 0).then_some(count)
+}
+
+fn context(name: &str) -> u64 {
+    match name {
+        "byte string" => 1,
+        "vector" => 2,
+        "struct field index" => 3,
+        "struct field index key" => 4,
+        "interface method identity set" => 5,
+        "named method map" => 6,
+        "runtime struct field identity set" => 7,
+        "module artifacts" => 8,
+        "Module.artifacts[].name" => 9,
+        "Module.artifacts[].payload" => 10,
+        "Module.artifacts" => 11,
+        "inline source frames" => 12,
+        "inline source functions" => 13,
+        "inline source entries" => 14,
+        other => panic!("no number for the context {other}"),
+    }
+}
+
+pub fn charge_context(charge: &Charge) -> u64 {
+    context(charge.context)
+}
+
+fn refusal(pack: &[u8], error: &SerializeError, charges: &[Charge], spans: &[Span], at: Mark) -> Answer {
+    use SerializeError as E;
+    let (number, c, d1, d2) = match error {
+        E::InputTooLarge { len, max } => (1, 0, *len as u64, *max as u64),
+        E::UnexpectedEof => (2, 0, 0, 0),
+        E::InvalidMagic => (3, 0, 0, 0),
+        E::UnsupportedVersion(version) => (4, 0, *version as u64, 0),
+        E::AllocationBudgetExceeded { context: name, requested, remaining } => {
+            (5, context(name), *requested as u64, *remaining as u64)
+        }
+        E::InvalidUtf8 => (6, 0, 0, 0),
+        E::InvalidBoolean(byte) => (7, 0, *byte as u64, 0),
+        E::InvalidSlotType(byte) => (8, 0, *byte as u64, 0),
+        E::InvalidValueKind(byte) => (9, 0, *byte as u64, 0),
+        E::InvalidPackedValueMeta(word) => (10, 0, *word as u64, 0),
+        E::InvalidPackedValueRttid(word) => (11, 0, *word as u64, 0),
+        E::InvalidChanDir(byte) => (12, 0, *byte as u64, 0),
+        E::InvalidRuntimeType(byte) => (13, 0, *byte as u64, 0),
+        E::InvalidConstant => (14, 0, 0, 0),
+        E::InvalidInstructionMetadata => (15, 0, 0, 0),
+        E::DuplicateStructField(name) => {
+            let span = struct_field_repeat(pack, charges, spans);
+            assert_eq!(bytes(pack, span), name.as_bytes());
+            (16, 0, span.start as u64, span.len as u64)
+        }
+        E::DuplicateInterfaceMethod(name) => {
+            let span = interface_method_repeat(pack, charges, spans);
+            assert_eq!(bytes(pack, span), name.as_bytes());
+            (17, 0, span.start as u64, span.len as u64)
+        }
+        E::DuplicateNamedMethod(name) => {
+            let span = *spans.last().expect("the repeat was read");
+            assert_eq!((span.site, bytes(pack, span)), (Site::NamedMethod, name.as_bytes()));
+            (18, 0, span.start as u64, span.len as u64)
+        }
+        E::DuplicateRuntimeStructField(name) => {
+            let (package, span) = runtime_field_repeat(pack, charges, spans);
+            let joined = [bytes(pack, package), b":", bytes(pack, span)].concat();
+            assert_eq!(joined, name.as_bytes());
+            (19, package.start as u64, span.start as u64, span.len as u64)
+        }
+        E::InvalidFunctionMetadata(text) => function_metadata(text),
+        E::InvalidSourceInteger => (21, 0, 0, 0),
+        E::ModuleArtifactLimitExceeded { context: name, len, max } => (22, context(name), *len as u64, *max as u64),
+        E::DebugMetadataLimitExceeded { context: name, len, max } => (23, context(name), *len as u64, *max as u64),
+        E::TrailingBytes(left) => (24, 0, *left as u64, 0),
+        other => panic!("no number for {other:?}"),
+    };
+    refused(number, c, d1, d2, at)
+}
+
+fn bytes<'a>(pack: &'a [u8], span: Span) -> &'a [u8] {
+    &pack[span.start..span.start + span.len]
+}
+
+/// The last `count` spans of a site.
+fn last_spans(spans: &[Span], site: impl Fn(&Span) -> bool, count: usize) -> Vec<Span> {
+    let mut found: Vec<Span> = spans.iter().rev().filter(|span| site(span)).take(count).copied().collect();
+    assert_eq!(found.len(), count);
+    found.reverse();
+    found
+}
+
+/// Charges give the table: its size from the index's charge, and the repeat's number from the key charges after it.
+fn struct_field_repeat(pack: &[u8], charges: &[Charge], spans: &[Span]) -> Span {
+    let index =
+        charges.iter().rposition(|charge| charge.context == "struct field index").expect("the index is charged");
+    let keys = charges.len() - index - 1;
+    let count = charges[index].amount / std::mem::size_of::<(String, usize)>();
+    let named = |span: &Span| span.site == Site::StructFieldName && bytes(pack, *span) != b"_";
+    last_spans(spans, named, count)[keys - 1]
+}
+
+fn interface_method_repeat(pack: &[u8], charges: &[Charge], spans: &[Span]) -> Span {
+    let is_set = |charge: &Charge| charge.context == "interface method identity set";
+    let (last, before) = charges.split_last().expect("the set is charged");
+    assert!(is_set(last));
+    let count = last.amount / (2 * std::mem::size_of::<&str>());
+    let text = spans.last().expect("a repeat was read").site;
+    // An interface's two sets are charged one after the other; before the first one comes a text or a list.
+    let site = match text {
+        Site::RuntimeMethodName => Site::RuntimeMethodName,
+        _ if before.last().is_some_and(is_set) => Site::InterfaceMethod,
+        _ => Site::InterfaceMethodName,
+    };
+    let names = last_spans(spans, |span| span.site == site, count);
+    first_repeat(names.iter().map(|span| bytes(pack, *span)), |_| false)
+        .map(|i| names[i])
+        .expect("the Rust found a repeat")
+}
+
+fn runtime_field_repeat(pack: &[u8], charges: &[Charge], spans: &[Span]) -> (Span, Span) {
+    let last = charges.last().expect("the set is charged");
+    assert_eq!(last.context, "runtime struct field identity set");
+    let count = last.amount / (2 * std::mem::size_of::<(&str, &str)>());
+    let names = last_spans(spans, |span| span.site == Site::RuntimeFieldName, count);
+    let packages = last_spans(spans, |span| span.site == Site::RuntimeFieldPackage, count);
+    let pairs = packages.iter().zip(&names).map(|(package, name)| (bytes(pack, *package), bytes(pack, *name)));
+    let repeat = first_repeat(pairs, |(_, name)| *name == b"_").expect("the Rust found a repeat");
+    (packages[repeat], names[repeat])
+}
+
+fn first_repeat<T: Eq + std::hash::Hash>(items: impl Iterator<Item = T>, exempt: impl Fn(&T) -> bool) -> Option<usize> {
+    let mut seen = std::collections::HashSet::new();
+    items.enumerate().find_map(|(i, item)| (!exempt(&item) && !seen.insert(item)).then_some(i))
+}
+
+/// The Rust says 20's details in its text only. The function's name comes first in it and may hold anything, so the
+/// text is taken apart from its end.
+fn function_metadata(text: &str) -> (u64, u64, u64, u64) {
+    let tail = |mark: &str| text.rfind(mark).map(|at| (at, &text[at + mark.len()..]));
+    let found = [tail(" capture_types["), tail(" param_types["), tail(" slot_types has ")];
+    let which =
+        (0..3).filter(|i| found[*i].is_some()).max_by_key(|i| found[*i].map(|(at, _)| at)).expect("one of three forms");
+    let rest = found[which].expect("it was found").1;
+    if which == 2 {
+        let (have, rest) = rest.split_once(" entries but local_slots is ").expect("the slot count's form");
+        return (20, 5, have.parse().expect("a number"), rest.parse().expect("a number"));
+    }
+    let (index, rest) = rest.split_once("].").expect("the transfer word's form");
+    let (field, rest) = rest.split_once(" 0x").expect("the transfer word's form");
+    let (word, _) = rest.split_once(" is invalid: ").expect("the transfer word's form");
+    let c = 1 + 2 * which as u64 + (field == "rttid_raw") as u64;
+    (20, c, index.parse().expect("a number"), u64::from_str_radix(word, 16).expect("a number"))
+}
+
+/// The Module's text without the hash map's chance order: the field indexes apart, sorted.
+macro_rules! plain_text {
+    ($module:expr) => {{
+        let mut module = $module.clone();
+        let mut indexes = Vec::new();
+        for meta in &mut module.struct_metas {
+            indexes
+                .push(std::mem::take(&mut meta.field_index).into_iter().collect::<std::collections::BTreeMap<_, _>>());
+        }
+        format!("{module:?} {indexes:?}")
+    }};
+}
+
+/// The self-check: the patch has changed neither answer nor Module nor error.
+fn same_as_original(pack: &[u8], result: &Result<Module, SerializeError>) {
+    let original = original::bytecode::Module::deserialize(pack);
+    match (&original, result) {
+        (Ok(original), Ok(patched)) => {
+            assert_eq!(plain_text!(original), plain_text!(patched));
+            // The text shows all NaNs alike; the written bytes don't.
+            assert_eq!(format!("{:?}", original.serialize()), format!("{:?}", patched.serialize()));
+        }
+        (Err(original), Err(patched)) => assert_eq!(format!("{original:?}"), format!("{patched:?}")),
+        _ => panic!("one build takes the pack, the other refuses it"),
+    }
+}
