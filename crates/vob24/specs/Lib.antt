@@ -1,19 +1,24 @@
+-- definitions
 pub mod Refusals
 pub mod Settings
 pub mod Utf8
 pub mod Leaves
 pub mod Questions
 pub mod Grammar
-pub mod SizeTable
 pub mod Cost
-pub mod PackCost
-pub mod PackLayout
-pub mod PackBound
 pub mod Calls
-pub mod Calling
-pub mod Theorems
-pub mod Lookup
+-- theorems
+pub mod SizeTable
+pub mod Ranges
+pub mod Rows
+pub mod Scalars
 pub mod Packed
 pub mod MarkedCases
 pub mod Examples
 pub mod Accessors
+pub mod PackCost
+pub mod PackLayout
+pub mod PackBound
+pub mod Calling
+pub mod Theorems
+pub mod Lookup
