@@ -1,19 +1,19 @@
 -- A bound on the charges of every reading, also of one that stops: so much a byte.
-use Prim.Native.Nat.{ℕ, suc, zero, _+_, _-_, _*_, _≤_, _<_}
-use mathlib.Core.Path.{_≡_, refl, ap, sym, _∙_}
+use Prim.Native.Nat.{ℕ, suc, zero, _+_, _-_, _*_, _≤_}
+use mathlib.Core.Path.{_≡_, refl, ap, _∙_}
 use mathlib.Core.List.{List, [], _∷_, map}
 use mathlib.Core.Bool.{Bool, true, false}
 use native.Mathlib.Omega.{arith}
 use native.Mathlib.Nat.{mul-add, add-mul, mul-comm, mul-le-mul-left, mul-le-mul-right}
-use lib.ListN.{length, getD, length-append}
+use lib.ListN.{length, length-append}
 use lib.Dec.{T, leb, leb→le}
-use Rattle.format.specs.Trace.{Wrong, wrong, unexpectedEof, invalidUtf8, Trace, stop, end, charge, asks, bind, guard, amounts, sum, total, Out, stopped, ended, out, Ends}
-use Rattle.format.specs.Format.{Value, none, num, text, pair, number, content, first, second, Rule, Width, Ask, pay, deny, Leaf, fixed, mark, packed, string, payload, count, ask, Format, empty, leaf, seq, chain, times, items, entries, counted}
-use Rattle.format.specs.Reading.{little, part, size, room, field, tracePacked, traceAsk, traceLeaf, trace}
+use Rattle.format.specs.Trace.{Wrong, wrong, unexpectedEof, Trace, stop, end, charge, asks, bind, guard, amounts, sum, total, Out, stopped, ended, out, Ends}
+use Rattle.format.specs.Format.{Value, num, pair, number, first, second, Rule, Width, Ask, pay, deny, fixed, mark, packed, string, payload, count, ask, Format, empty, leaf, seq, chain, times, items, entries, counted}
+use Rattle.format.specs.Reading.{little, part, room, field, traceAsk, traceLeaf, trace}
 use Rattle.format.specs.Layout.{Bytes, bytes, Valid}
-use Rattle.format.specs.Ending.{bind-out, Ends-guard, leaf-ends, Both, seq-ends, trace-place}
+use Rattle.format.specs.Ending.{bind-out, leaf-ends, seq-ends, trace-place}
 use Rattle.format.specs.Charging.{chargesAsk, free-guard, free-bind, packed-free}
-use Rattle.format.specs.Laying.{Placed, trace-placed}
+use Rattle.format.specs.Laying.{trace-placed}
 use Rattle.format.specs.Closing.{AtLeast, least-at, least-chain}
 
 -- The charges of f are at most c, and k for each byte: of those it takes where it ends, of those that are left where it stops.
@@ -88,7 +88,7 @@ rated-up {a} {k} {a′} {k′} h i r =
 
 -- questions on charges
 
-guard-under : {A : Type 0} (d : Bool) (w : Wrong) (p : ℕ) (t : Trace A) (x : ℕ) → (T d → total t ≤ x) → total (guard d w p t) ≤ x
+pub guard-under : {A : Type 0} (d : Bool) (w : Wrong) (p : ℕ) (t : Trace A) (x : ℕ) → (T d → total t ≤ x) → total (guard d w p t) ≤ x
 unfolding guard amounts sum
 guard-under true w p t x h = h tt
 guard-under false w p t x h = omega arith
@@ -125,7 +125,7 @@ pub rated-packed : {k : ℕ} → Rated 0 k (leaf packed)
 unfolding trace traceLeaf amounts sum
 rated-packed = free-rated (λ s p. free-bind _ _ (packed-free 4 0 s p) (λ n q. refl))
 
-end-free : {A : Type 0} (a : A) (p : ℕ) → total (end a p) ≡ 0
+pub end-free : {A : Type 0} (a : A) (p : ℕ) → total (end a p) ≡ 0
 unfolding amounts sum
 end-free a p = refl
 

@@ -1,15 +1,14 @@
 -- The sum of a reading's charges as a function of the value that was read.
-use Prim.Native.Nat.{ℕ, suc, zero, _+_, _-_, _*_, _≤_, _<_}
-use mathlib.Core.Path.{_≡_, refl, ap, sym, _∙_}
+use Prim.Native.Nat.{ℕ, suc, zero, _+_, _-_, _*_}
+use mathlib.Core.Path.{_≡_, refl, _∙_}
 use mathlib.Core.List.{List, [], _∷_}
 use mathlib.Core.Bool.{Bool, true, false}
 use native.Mathlib.Omega.{arith}
 use lib.ListN.{length}
-use lib.Dec.{T}
-use Rattle.format.specs.Trace.{Wrong, Trace, stop, end, charge, asks, bind, guard, amounts, sum, total, Out, stopped, ended, out, Ends}
-use Rattle.format.specs.Format.{Value, none, num, text, number, content, first, second, Rule, Width, Ask, pay, deny, Leaf, fixed, mark, packed, string, payload, count, ask, Format, empty, leaf, seq}
+use Rattle.format.specs.Trace.{Wrong, Trace, stop, end, charge, asks, bind, guard, amounts, sum, total, out, Ends}
+use Rattle.format.specs.Format.{Value, num, text, number, content, first, second, Ask, pay, deny, Leaf, fixed, mark, packed, string, payload, count, ask, Format, empty, leaf, seq}
 use Rattle.format.specs.Reading.{little, part, room, field, packedStep, tracePacked, traceAsk, traceLeaf, trace}
-use Rattle.format.specs.Ending.{Ends-guard, part-length, room-ends, field-ends, Both, seq-ends}
+use Rattle.format.specs.Ending.{Ends-guard, part-length, room-ends, field-ends, seq-ends}
 
 -- The charges that a format puts to a value.
 unfoldable pub chargesAsk : List Ask → ℕ

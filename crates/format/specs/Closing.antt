@@ -1,17 +1,17 @@
 -- Formats whose counts ask for nothing that their items do not hold: what they ask against the bytes left is implied by the layout.
-use Prim.Native.Nat.{ℕ, suc, zero, _+_, _-_, _*_, _/_, _%_, _≤_, _<_, max}
+use Prim.Native.Nat.{ℕ, suc, zero, _+_, _-_, _*_, _/_, _%_, _≤_}
 use mathlib.Core.Path.{_≡_, refl, ap, sym, _∙_}
 use mathlib.Core.Logic.{_↔_}
-use mathlib.Core.List.{List, [], _∷_, _++_}
+use mathlib.Core.List.{List, [], _∷_}
 use mathlib.Core.Bool.{Bool, true, false}
 use native.Mathlib.Omega.{arith}
 use lib.ListN.{length, getD, length-append, length-take, length-drop}
 use lib.Dec.{ltb}
 use Rattle.format.specs.Trace.{Wrong, pick, ended, Ends}
-use Rattle.format.specs.Format.{Value, number, content, first, second, Rule, Width, byte, half, word, long, option, Ask, Leaf, fixed, mark, packed, string, payload, count, ask, Format, empty, leaf, seq, chain}
+use Rattle.format.specs.Format.{Value, number, content, first, second, Rule, Width, byte, half, word, long, option, Ask, fixed, mark, packed, string, payload, count, ask, Format, empty, leaf, seq, chain}
 use Rattle.format.specs.Reading.{size, trace}
 use Rattle.format.specs.Layout.{groups, Bytes, bytesLeaf, bytes, Valid, aheadLeaf, ahead}
-use Rattle.format.specs.Laying.{length-digits, At, Placed, trace-placed, placed-trace}
+use Rattle.format.specs.Laying.{length-digits, At, trace-placed, placed-trace}
 
 -- Every value of f takes at least k bytes.
 unfoldable pub AtLeast : ℕ → Format → Type 0

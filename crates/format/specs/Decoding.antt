@@ -1,15 +1,15 @@
 -- The record determines the value: the words, with the bytes of the texts that they point to, decode to what was read.
-use Prim.Native.Nat.{ℕ, suc, zero, _+_, _-_, _*_, _/_, _%_, _≤_}
+use Prim.Native.Nat.{ℕ, suc, zero, _+_, _-_}
 use mathlib.Core.Path.{_≡_, refl, ap, sym, _∙_, subst}
-use mathlib.Core.List.{List, [], _∷_, _++_, append-assoc, append-nil}
+use mathlib.Core.List.{List, [], _++_, append-assoc, append-nil}
 use native.Mathlib.Omega.{arith}
-use lib.ListN.{length, getD, drop}
+use lib.ListN.{drop}
 use lib.Dec.{eqb·suc-zero}
-use Rattle.format.specs.Trace.{pick, Out, ended, out, Ends}
-use Rattle.format.specs.Format.{Value, none, num, text, pair, number, content, first, second, Width, byte, half, word, long, option, Leaf, fixed, mark, packed, string, payload, count, ask, Format, empty, leaf, seq}
+use Rattle.format.specs.Trace.{pick, out, Ends}
+use Rattle.format.specs.Format.{Value, none, first, second, Width, byte, half, word, long, option, Leaf, fixed, mark, packed, string, payload, count, ask, Format, empty, leaf, seq}
 use Rattle.format.specs.Reading.{little, part, size, trace}
 use Rattle.format.specs.Record.{shown, wordsLeaf, words, unshown, wordsOf, decodeLeaf, decode, Held}
-use Rattle.format.specs.Ending.{Passed, part-length, leaf-ends, Both, seq-ends}
+use Rattle.format.specs.Ending.{Passed, part-length, leaf-ends, seq-ends}
 
 unshown-shown : (w : Width) (n : ℕ) (ws : List ℕ) → (unshown w (shown w n ++ ws) ≡ n) × (drop (wordsOf w) (shown w n ++ ws) ≡ ws)
 unfolding pick

@@ -1,13 +1,13 @@
 -- What is known of a reading that ends: leaf by leaf, then over any format.
-use Prim.Native.Nat.{ℕ, suc, zero, _+_, _-_, _*_, _≤_, _<_}
-use mathlib.Core.Path.{_≡_, refl, ap, sym, _∙_, subst₂, fun-ext}
-use mathlib.Core.List.{List, [], _∷_, _++_}
+use Prim.Native.Nat.{ℕ, suc, zero, _+_, _-_, _*_, _≤_}
+use mathlib.Core.Path.{_≡_, refl, ap, _∙_, subst₂, fun-ext}
+use mathlib.Core.List.{List, [], _∷_}
 use mathlib.Core.Bool.{Bool, true, false, not}
 use native.Mathlib.Omega.{arith}
-use lib.ListN.{length, take, drop, length-append, length-take, length-drop}
+use lib.ListN.{length, length-append, length-take, length-drop}
 use lib.Dec.{T, leb, leb→le}
-use Rattle.format.specs.Trace.{Wrong, wrong, unexpectedEof, Trace, stop, end, charge, asks, bind, guard, amounts, sum, total, Out, stopped, ended, out, Ends, Settled, taken, settle}
-use Rattle.format.specs.Format.{Value, none, num, text, pair, number, start, content, first, second, Rule, Width, byte, half, word, long, option, Ask, pay, deny, Leaf, fixed, mark, packed, string, payload, count, ask, Format, empty, leaf, seq}
+use Rattle.format.specs.Trace.{Wrong, wrong, unexpectedEof, Trace, stop, end, charge, asks, bind, guard, amounts, sum, total, out, Ends, taken, settle}
+use Rattle.format.specs.Format.{Value, none, num, text, pair, number, first, second, Width, byte, half, word, long, option, Ask, pay, deny, Leaf, fixed, mark, packed, string, payload, count, ask, Format, empty, leaf, seq}
 use Rattle.format.specs.Reading.{little, part, same, size, room, field, packedStep, tracePacked, traceAsk, traceLeaf, trace}
 use Rattle.format.specs.Record.{shown, wordsLeaf, words}
 use Rattle.format.specs.Layout.{clear}

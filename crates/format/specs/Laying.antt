@@ -1,5 +1,5 @@
 -- A reading that ends, against the layout of its value: both directions.
-use Prim.Native.Nat.{ℕ, suc, zero, _+_, _-_, _*_, _^_, _/_, _%_, _≤_, _<_, max}
+use Prim.Native.Nat.{ℕ, suc, zero, _+_, _-_, _*_, _^_, _/_, _%_, _≤_, _<_}
 use mathlib.Core.Path.{_≡_, refl, ap, sym, _∙_, subst, subst₂}
 use mathlib.Core.List.{List, [], _∷_, _++_}
 use mathlib.Core.Bool.{Bool, true, false, not}
@@ -7,12 +7,12 @@ use native.Mathlib.Omega.{arith}
 use native.Mathlib.Nat.{one-le-pow}
 use lib.ListN.{length, take, drop, length-append}
 use lib.Seq.{take-add, take-take, drop-drop, take-append-seam, drop-append-seam}
-use lib.Dec.{T, leb, ltb, eqb, leb→le, le→leb, ltb→lt, lt→ltb, nltb→le, eqb→eq, eqb-refl, not-T}
-use Rattle.format.specs.Trace.{Wrong, Trace, end, asks, bind, guard, pick, Out, ended, out, Ends}
-use Rattle.format.specs.Format.{Value, none, num, text, pair, number, content, first, second, Ask, pay, deny, Leaf, fixed, mark, packed, string, payload, count, ask, Format, empty, leaf, seq}
+use lib.Dec.{T, ltb, eqb, leb→le, le→leb, ltb→lt, lt→ltb, nltb→le, eqb→eq, eqb-refl, not-T}
+use Rattle.format.specs.Trace.{Wrong, Trace, asks, guard, pick, out, Ends}
+use Rattle.format.specs.Format.{Value, none, number, content, first, second, Ask, pay, Leaf, fixed, mark, packed, string, payload, count, ask, Format, empty, leaf, seq}
 use Rattle.format.specs.Reading.{little, part, same, size, room, field, packedStep, tracePacked, traceAsk, traceLeaf, trace}
 use Rattle.format.specs.Layout.{digits, groups, Bytes, bytesLeaf, bytes, clear, ValidLeaf, Valid, aheadLeaf, ahead}
-use Rattle.format.specs.Ending.{Ends-guard, guard-true, bind-out, Passed, part-length, field-ends, leaf-ends, Stepped, last, more, stepped, Both, seq-read, seq-ends}
+use Rattle.format.specs.Ending.{Ends-guard, guard-true, bind-out, Passed, part-length, field-ends, leaf-ends, Stepped, last, more, stepped, seq-read, seq-ends}
 
 pub bytes-drop : (n : ℕ) (s : List ℕ) → Bytes s → Bytes (drop n s)
 bytes-drop zero s h = h

@@ -1,13 +1,12 @@
 -- Places: they never fall and stay within the file, in every reading.
 use Prim.Native.Nat.{ℕ, suc, zero, _+_, _-_, _*_, _≤_}
-use mathlib.Core.Path.{_≡_, refl}
 use mathlib.Core.List.{List, [], _∷_}
 use mathlib.Core.Bool.{Bool, true, false}
 use native.Mathlib.Omega.{arith}
 use lib.ListN.{length}
 use lib.Dec.{T, leb, leb→le}
 use Rattle.format.specs.Trace.{Wrong, wrong, unexpectedEof, invalidSourceInteger, Trace, stop, end, charge, asks, bind, guard, pick, Settled, refused, taken, spent, settle}
-use Rattle.format.specs.Format.{Value, num, pair, Ask, pay, deny, Leaf, fixed, mark, packed, string, payload, count, ask, Format, empty, leaf, seq}
+use Rattle.format.specs.Format.{Ask, pay, deny, Leaf, fixed, mark, packed, string, payload, count, ask, Format, empty, leaf, seq}
 use Rattle.format.specs.Reading.{little, part, size, room, field, packedStep, tracePacked, traceAsk, traceLeaf, trace}
 
 -- The places of a trace, from p on: none before its forerunner, none past e.

@@ -4,7 +4,7 @@ use mathlib.Core.List.{List, [], _∷_}
 use mathlib.Core.Bool.{Bool, true, false}
 use lib.ListN.{length, take, drop}
 use lib.Dec.{leb, ltb, eqb}
-use Rattle.format.specs.Trace.{Wrong, wrong, unexpectedEof, invalidUtf8, invalidSourceInteger, Trace, stop, end, charge, asks, bind, guard, pick}
+use Rattle.format.specs.Trace.{wrong, unexpectedEof, invalidUtf8, invalidSourceInteger, Trace, stop, end, charge, asks, bind, guard, pick}
 use Rattle.format.specs.Format.{Value, none, num, text, pair, Width, byte, half, word, long, option, Ask, pay, deny, Leaf, fixed, mark, packed, string, payload, count, ask, Format, empty, leaf, seq}
 
 -- The number that bytes stand for, the low byte first.

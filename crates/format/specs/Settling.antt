@@ -7,7 +7,7 @@ use mathlib.Core.Logic.{_↔_}
 use native.Mathlib.Omega.{arith}
 use lib.Dec.{T, leb, leb→le, nleb→lt, le→leb}
 use lib.ListN.{length, take}
-use Rattle.format.specs.Trace.{Charge, here, later, past, Wrong, Trace, stop, end, charge, asks, bind, amounts, sum, total, Out, stopped, ended, out, Ends, Settled, refused, taken, left, pick, spent, settle, covered, Longest, finish, broke}
+use Rattle.format.specs.Trace.{Charge, here, later, past, Wrong, Trace, stop, end, charge, asks, bind, amounts, sum, total, stopped, out, Ends, Settled, refused, taken, left, pick, spent, settle, covered, Longest, finish, broke}
 
 -- a budget that reaches the total: every charge goes through
 pub settle-reached : {A : Type 0} (b : ℕ) (t : Trace A) → total t ≤ b → settle b t ≡ finish (b - total t) t

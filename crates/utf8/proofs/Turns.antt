@@ -1,14 +1,14 @@
 -- The scan of a part of the bytes, byte by byte.
 use Prim.Native.Nat.{ℕ, suc, _+_, _-_, _≤_, _<_}
-use mathlib.Core.Path.{_≡_, refl, ap, _∙_}
-use mathlib.Core.List.{List, [], _∷_}
+use mathlib.Core.Path.{_≡_, ap, _∙_}
+use mathlib.Core.List.{List, _∷_}
 use native.Mathlib.Omega.{arith}
 use native.Mathlib.Numerals.{add-one}
 use lib.Dec.{eqb}
 use lib.ListN.{length, getD, take, drop}
 use lib.Seq.{drop-cons}
 use Rattle.format.specs.Trace.{pick}
-use Rattle.vob24.specs.Utf8.{bad, want, next, Scan, illFormed, scanFrom}
+use Rattle.vob24.specs.Utf8.{bad, want, next, illFormed, scanFrom}
 
 -- a part by its first byte
 part-cons : (s : List ℕ) (i to : ℕ) → i < to → to ≤ length s → take (to - i) (drop i s) ≡ getD s i 0 ∷ take (to - (i + 1)) (drop (i + 1) s)

@@ -1,17 +1,17 @@
 -- What a call answers, by how its charge list ends and by what budget and tape reach: every case, and only these.
 use Prim.Native.Nat.{ℕ, _+_, _-_, _≤_, _<_}
 use mathlib.Core.Path.{_≡_, refl, ap, sym, _∙_, subst}
-use mathlib.Core.List.{List, [], _∷_, _++_}
+use mathlib.Core.List.{List, [], _++_}
 use mathlib.Core.Bool.{Bool, true, false, not}
 use native.Mathlib.Omega.{arith}
 use lib.ListN.{length, take, drop}
 use lib.Seq.{take-append-seam}
-use lib.Dec.{T, leb, leb→le, nleb→lt, le→leb, not-T}
-use Rattle.format.specs.Trace.{Wrong, Trace, pick, amounts, sum, total, Out, stopped, ended, out, Ends, Settled, refused, taken, left, spent, settle, covered, Longest, Charge}
+use lib.Dec.{T, leb, leb→le, nleb→lt, le→leb}
+use Rattle.format.specs.Trace.{Wrong, Trace, pick, amounts, sum, total, stopped, out, Ends, Settled, refused, taken, left, spent, settle, covered, Longest, Charge}
 use Rattle.format.specs.Format.{Value, Format}
 use Rattle.format.specs.Reading.{trace}
 use Rattle.format.specs.Record.{words, decode, Held}
-use Rattle.format.specs.Settling.{covered-longest, settle-broke, settle-left, settle-taken, covered-lt, Broken, broke-at, settle-stopped}
+use Rattle.format.specs.Settling.{covered-longest, settle-broke, settle-left, settle-taken, covered-lt, broke-at, settle-stopped}
 use Rattle.format.specs.Ending.{trace-place}
 use Rattle.format.specs.Charging.{trace-charges}
 use Rattle.format.specs.Decoding.{trace-held, record-decode}

@@ -1,7 +1,6 @@
 -- The calls: what each answers, and what it leaves on the tape, for every pack, budget and tape.
 use Prim.Native.Nat.{ℕ, _-_}
 use mathlib.Core.List.{List, [], _∷_, _++_}
-use mathlib.Core.Bool.{Bool, true, false}
 use lib.ListN.{length, drop}
 use lib.Dec.{leb, eqb}
 use Rattle.format.specs.Trace.{Wrong, wrong, Trace, end, bind, guard, pick, Settled, refused, taken, settle}
@@ -44,7 +43,8 @@ sectionTrace set n x s p =
     (guard (leb p (length s)) (wrong Refusals.unexpectedEof 0) p (trace (section set n x) s p))
 
 -- "The tape is written only after the whole pack, or the section called, has passed": the record from the first word on, and the
--- rest of the tape as it was; or 26, and the tape as it was. Bytes are counted from the place a, the budget was b.
+-- rest of the tape as it was; or 26, and the tape as it was. Document 01's tape enough is `length ws ≤ length t`. Bytes are counted
+-- from the place a, the budget was b.
 abbrev pub written : ℕ → ℕ → List ℕ → List ℕ → ℕ → ℕ → Outcome
 written a b t ws p l =
     pick (leb (length ws) (length t))

@@ -1,17 +1,17 @@
 -- Document 01's worked examples, and for each question on what was read a file that answers it no, of the definitions.
-use Prim.Native.Nat.{ℕ, _*_}
+use Prim.Native.Nat.{ℕ}
 use mathlib.Core.Path.{_≡_, refl}
 use mathlib.Core.List.{List, [], _∷_, _++_}
-use lib.ListN.{length, replicate}
-use Rattle.format.specs.Trace.{Wrong, wrong, unexpectedEof, bind, guard, pick, Out, stopped, ended, out, amounts, settle}
-use Rattle.format.specs.Format.{Value, none, num, text, pair, Format, chain, items}
-use Rattle.format.specs.Reading.{little, same, room, field, packedStep, tracePacked, traceAsk, traceLeaf, trace}
+use lib.ListN.{replicate}
+use Rattle.format.specs.Trace.{wrong, unexpectedEof, bind, guard, pick, stopped, ended, out, amounts, settle}
+use Rattle.format.specs.Format.{none, num, text, pair, chain, items}
+use Rattle.format.specs.Reading.{little, same, room, field, traceAsk, traceLeaf, trace}
 use Rattle.format.specs.Record.{wordsLeaf, words}
 use Rattle.vob24.specs.Refusals
-use Rattle.vob24.specs.Settings.{Settings, settings, sizeOf, startingBudget}
+use Rattle.vob24.specs.Settings.{settings, sizeOf, startingBudget}
 use Rattle.vob24.specs.Questions
 use Rattle.vob24.specs.Grammar
-use Rattle.vob24.specs.Calls.{Answer, Taken, Refused, Outcome, wholeTrace, readOutcome}
+use Rattle.vob24.specs.Calls.{Taken, Refused, wholeTrace, readOutcome}
 
 -- "Bare pack: magic, 18 00 00 00, then 105 zero bytes, 112 in all."
 abbrev pub bare : List ℕ

@@ -1,11 +1,11 @@
 -- The VOB 24 rule pack: every record and variant that `serialize.rs` reads, in file order, and its seventeen sections.
 use Prim.Native.Nat.{ℕ, _+_, _-_, _*_, min}
 use mathlib.Core.List.{List, [], _∷_, map}
-use mathlib.Core.Bool.{Bool, true, false}
+use mathlib.Core.Bool.{true, false}
 use lib.ListN.{length}
 use lib.Dec.{leb, eqb}
 use Rattle.format.specs.Trace.{wrong, pick}
-use Rattle.format.specs.Format.{Value, number, content, first, second, Rule, byte, Ask, pay, Leaf, fixed, mark, string, payload, count, ask, Format, empty, leaf, seq, _▸_, chain, times, entries, counted}
+use Rattle.format.specs.Format.{Value, number, content, first, second, Rule, byte, Ask, pay, fixed, mark, string, payload, count, ask, Format, empty, leaf, seq, _▸_, chain, times, entries, counted}
 use Rattle.vob24.specs.Refusals
 use Rattle.vob24.specs.Settings as of
 use Rattle.vob24.specs.Settings.{Settings, sizeOf}

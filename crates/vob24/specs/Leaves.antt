@@ -4,8 +4,8 @@ use mathlib.Core.List.{List, [], _∷_}
 use mathlib.Core.Bool.{Bool, true, false}
 use lib.ListN.{getD}
 use lib.Dec.{leb, ltb}
-use Rattle.format.specs.Trace.{Wrong, wrong, pick}
-use Rattle.format.specs.Format.{number, Rule, byte, half, word, long, option, Leaf, fixed, packed, string, payload, count, Format, empty, leaf, seq, times}
+use Rattle.format.specs.Trace.{wrong, pick}
+use Rattle.format.specs.Format.{number, Rule, byte, half, word, long, option, fixed, packed, string, count, Format, empty, leaf, seq, times}
 use Rattle.vob24.specs.Refusals.{invalidBoolean, invalidSlotType, invalidValueKind, invalidPackedValueMeta, invalidPackedValueRttid, invalidChanDir, byteString, vector}
 use Rattle.vob24.specs.Utf8.{wellFormed}
 

@@ -1,21 +1,19 @@
 -- The lookup's promises: the payload of the first artifact with exactly these name bytes, and 27 exactly where no artifact has them.
-use Prim.Native.Nat.{ℕ, suc, zero, _+_, _≤_}
-use mathlib.Core.Path.{_≡_, refl, ap, sym, _∙_}
+use Prim.Native.Nat.{ℕ, suc, zero}
+use mathlib.Core.Path.{_≡_, refl, ap, _∙_}
 use mathlib.Core.List.{List, [], _∷_}
-use mathlib.Core.Bool.{Bool, true, false, not}
-use mathlib.Core.Logic.{_↔_}
+use mathlib.Core.Bool.{Bool, true, false}
 use native.Mathlib.Omega.{arith}
-use lib.ListN.{length, take, drop}
-use lib.Dec.{T, not-T}
-use Rattle.format.specs.Trace.{Wrong, wrong, Trace, pick, Ends, Settled, refused, taken, settle}
+use lib.ListN.{length}
+use lib.Dec.{T}
+use Rattle.format.specs.Trace.{Wrong, wrong, pick, refused, taken, settle}
 use Rattle.format.specs.Format.{Value, none, num, text, pair, content, start, first, second, number, items, entries}
 use Rattle.format.specs.Reading.{part, same}
 use Rattle.format.specs.Record.{Held}
-use Rattle.format.specs.Settling.{settle-taken}
 use Rattle.format.specs.Laying.{same-eq, same-refl}
 use Rattle.vob24.specs.Refusals
 use Rattle.vob24.specs.Settings.{Settings, startingBudget}
-use Rattle.vob24.specs.Grammar.{Section, artifacts}
+use Rattle.vob24.specs.Grammar.{artifacts}
 use Rattle.vob24.specs.Cost.{after, partOf}
 use Rattle.vob24.specs.Calls.{Found, At, Not, wholeTrace, lookIn, looking, findOutcome, foundPart}
 

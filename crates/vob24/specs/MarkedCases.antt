@@ -1,10 +1,10 @@
 -- Document 01's fourteen marked cases, proved in one table of the definitions.
 use Prim.Native.Nat.{ℕ}
 use mathlib.Core.Path.{_≡_, refl}
-use mathlib.Core.List.{List, [], _∷_, _++_}
-use mathlib.Core.Bool.{Bool, false}
+use mathlib.Core.List.{List, [], _∷_}
+use mathlib.Core.Bool.{false}
 use lib.ListN.{length}
-use Rattle.format.specs.Trace.{Wrong, wrong, invalidUtf8, unexpectedEof, invalidSourceInteger, bind, guard, pick, Out, stopped, ended, out}
+use Rattle.format.specs.Trace.{wrong, invalidUtf8, unexpectedEof, invalidSourceInteger, bind, guard, pick, Out, stopped, ended, out}
 use Rattle.format.specs.Format.{Value, num, text, Format}
 use Rattle.format.specs.Reading.{little, same, room, field, packedStep, tracePacked, traceLeaf, trace}
 use Rattle.vob24.specs.Refusals.{invalidValueKind, invalidPackedValueMeta}

@@ -1,14 +1,14 @@
 -- The charges of every file fit 64 bits, under every licensed settings, also those of a file that is refused.
-use Prim.Native.Nat.{ℕ, suc, zero, _+_, _-_, _*_, _^_, _≤_, _<_, min}
-use mathlib.Core.Path.{_≡_, refl, ap, sym, _∙_}
+use Prim.Native.Nat.{ℕ, suc, zero, _+_, _-_, _*_, _^_, _≤_, _<_}
+use mathlib.Core.Path.{_≡_, refl, ap}
 use mathlib.Core.List.{List, [], _∷_, _++_, map}
 use mathlib.Core.Bool.{Bool, true, false}
 use native.Mathlib.Omega.{arith}
-use native.Mathlib.Nat.{mul-le-mul-left, mul-le-mul-right, mul-add}
+use native.Mathlib.Nat.{mul-le-mul-left}
 use lib.ListN.{length, getD, length-append}
-use lib.Dec.{T, leb, eqb, leb→le, eqb→eq}
-use Rattle.format.specs.Trace.{Wrong, wrong, pick, sum, total}
-use Rattle.format.specs.Format.{Value, number, content, first, second, Rule, Width, byte, word, Ask, pay, deny, Leaf, fixed, mark, packed, string, payload, count, ask, Format, empty, leaf, seq, _▸_, chain, times, items, entries, counted}
+use lib.Dec.{T, leb, leb→le}
+use Rattle.format.specs.Trace.{Wrong, pick, sum, total}
+use Rattle.format.specs.Format.{Value, number, content, first, second, Rule, Width, Ask, fixed, mark, packed, string, payload, count, ask, Format, empty, leaf, seq, _▸_, chain, times, entries, counted}
 use Rattle.format.specs.Reading.{trace}
 use Rattle.format.specs.Layout.{digits, Bytes, bytesLeaf, bytes, Valid}
 use Rattle.format.specs.Laying.{length-digits}
@@ -19,7 +19,7 @@ use Rattle.vob24.specs.Refusals
 use Rattle.vob24.specs.Settings as of
 use Rattle.vob24.specs.Settings.{Settings, Licensed, sizeOf, maxPackBytes}
 use Rattle.vob24.specs.SizeTable.{size-most}
-use Rattle.vob24.specs.Leaves.{free, limit, choose, str}
+use Rattle.vob24.specs.Leaves.{free, choose, str}
 use Rattle.vob24.specs.Questions
 use Rattle.vob24.specs.Grammar as g
 use Rattle.vob24.specs.Grammar.{Section, name, structs, interfaces, namedTypes, itabs, runtimeTypes, wellKnown, constants, globals, functions, externs, entry, islandInit, artifacts, files, functionLocations, inlineSources}

@@ -1,6 +1,6 @@
 -- What a reading charges is document 01's cost of what it read.
 use Prim.Native.Nat.{ℕ, suc, zero, _+_, _-_, _*_, min}
-use mathlib.Core.Path.{_≡_, refl, ap, ap₂, sym, _∙_, fun-ext}
+use mathlib.Core.Path.{_≡_, refl, ap, ap₂, sym, _∙_}
 use mathlib.Core.List.{List, [], _∷_, _++_, map}
 use mathlib.Core.Bool.{Bool, true, false}
 use native.Mathlib.Omega.{arith}
@@ -8,7 +8,7 @@ use native.Mathlib.Nat.{mul-assoc}
 use lib.ListN.{length, getD}
 use lib.Dec.{eqb}
 use Rattle.format.specs.Trace.{Wrong, wrong, pick, sum}
-use Rattle.format.specs.Format.{Value, number, content, first, second, Rule, Width, Ask, pay, deny, Leaf, fixed, packed, string, count, Format, empty, leaf, seq, _▸_, chain, times, items, entries, counted}
+use Rattle.format.specs.Format.{Value, number, content, first, second, Rule, Width, Ask, fixed, packed, string, count, Format, empty, leaf, seq, _▸_, chain, times, items, entries, counted}
 use Rattle.format.specs.Charging.{chargesAsk, chargesLeaf, charges}
 use Rattle.vob24.specs.Refusals
 use Rattle.vob24.specs.Settings as of

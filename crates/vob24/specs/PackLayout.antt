@@ -1,18 +1,11 @@
 -- No count of the pack asks for bytes that its items do not take: a section, or a pack, is read to its end exactly where it is the
 -- layout of a valid value.
-use Prim.Native.Nat.{ℕ, _+_, _-_, _*_, _≤_}
-use mathlib.Core.Path.{_≡_, refl, ap, sym, _∙_}
-use mathlib.Core.List.{List, []}
-use mathlib.Core.Logic.{_↔_}
+use Prim.Native.Nat.{ℕ, _-_}
+use mathlib.Core.List.{List}
 use native.Mathlib.Omega.{arith}
-use lib.ListN.{length, getD}
-use lib.Seq.{take-all, take-length}
-use lib.Dec.{T, eqb, eqb→eq}
-use Rattle.format.specs.Trace.{Ends, out, ended}
-use Rattle.format.specs.Format.{Value, number, Rule, byte, word, Leaf, count, Format, empty, leaf, seq, _▸_}
-use Rattle.format.specs.Reading.{part, trace}
-use Rattle.format.specs.Layout.{Bytes, bytes, Valid, aheadLeaf, ahead}
-use Rattle.format.specs.Laying.{At, Placed, trace-placed, placed-trace}
+use lib.Dec.{eqb→eq}
+use Rattle.format.specs.Format.{number, Rule, byte, word, count, Format, leaf, _▸_}
+use Rattle.format.specs.Layout.{Valid, aheadLeaf, ahead}
 use Rattle.format.specs.Closing.{AtLeast, Closed, All, least-zero, least-fixed, least-string, least-seq, least-fore, closed-seq, closed-fixed, closed-get, closed}
 use Rattle.vob24.specs.Refusals
 use Rattle.vob24.specs.Settings.{Settings}

@@ -1,15 +1,15 @@
 -- Packed numbers: what is taken is the canonical encoding of a number below 2 ^ 32, and what a refusal shows.
 use Prim.Native.Nat.{ℕ, suc, zero, _+_, _-_, _*_, _^_, _≤_, _<_}
-use mathlib.Core.Path.{_≡_, refl, ap, sym, _∙_}
-use mathlib.Core.List.{List, [], _∷_}
+use mathlib.Core.Path.{_≡_, refl}
+use mathlib.Core.List.{List}
 use mathlib.Core.Bool.{Bool, true, false, not}
 use mathlib.Core.Logic.{_↔_}
 use native.Mathlib.Omega.{arith}
 use lib.ListN.{length}
-use lib.Dec.{T, leb, ltb, leb→le, nleb→lt}
-use Rattle.format.specs.Trace.{Wrong, wrong, unexpectedEof, invalidSourceInteger, Trace, stop, end, bind, guard, asks, Out, stopped, ended, out, Ends}
-use Rattle.format.specs.Format.{Value, num, number, Format, leaf, packed}
-use Rattle.format.specs.Reading.{little, part, room, field, packedStep, tracePacked, traceLeaf, trace}
+use lib.Dec.{T, leb, leb→le, nleb→lt}
+use Rattle.format.specs.Trace.{Wrong, wrong, unexpectedEof, invalidSourceInteger, Trace, stop, end, bind, guard, asks, stopped, out, Ends}
+use Rattle.format.specs.Format.{num, leaf, packed}
+use Rattle.format.specs.Reading.{part, room, field, packedStep, tracePacked, traceLeaf, trace}
 use Rattle.format.specs.Layout.{groups, Bytes, Valid, bytes, bytesLeaf}
 use Rattle.format.specs.Laying.{At}
 use Rattle.format.specs.Closing.{closed-packed, layout-iff}

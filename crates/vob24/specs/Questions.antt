@@ -1,13 +1,13 @@
 -- The questions that the pack puts to what was read: repeated names, transfer words, counts that must agree.
-use Prim.Native.Nat.{ℕ, _+_, _*_}
-use mathlib.Core.List.{List, [], _∷_, _++_, map}
+use Prim.Native.Nat.{ℕ, _+_}
+use mathlib.Core.List.{List, [], _∷_, _++_}
 use mathlib.Core.Bool.{Bool, true, false}
 use lib.ListN.{length}
 use lib.Dec.{eqb}
 use Rattle.format.specs.Trace.{Wrong, wrong, pick}
-use Rattle.format.specs.Format.{Value, number, start, content, first, second, Ask, pay, deny}
+use Rattle.format.specs.Format.{Value, number, start, content, Ask, pay, deny}
 use Rattle.format.specs.Reading.{same}
-use Rattle.vob24.specs.Refusals.{duplicateStructField, duplicateInterfaceMethod, duplicateNamedMethod, duplicateRuntimeStructField, invalidFunctionMetadata, invalidInstructionMetadata, structFieldKey, slotCount}
+use Rattle.vob24.specs.Refusals.{duplicateStructField, duplicateInterfaceMethod, duplicateRuntimeStructField, invalidFunctionMetadata, invalidInstructionMetadata, structFieldKey, slotCount}
 use Rattle.vob24.specs.Leaves.{packedOk}
 
 abbrev pub refuseIf : Bool → Wrong → List Ask

@@ -1,9 +1,9 @@
 -- Table 3-7 by its rows: what `lead` gives at a first byte, in each range of bytes. Assumes nothing.
-use Prim.Native.Nat.{ℕ, _≤_, _<_}
-use mathlib.Core.Path.{_≡_, refl}
+use Prim.Native.Nat.{ℕ, _≤_}
+use mathlib.Core.Path.{_≡_}
 use mathlib.Core.Logic.{_⊎_, ⊎-elim}
 use native.Mathlib.Omega.{arith}
-use borrow.Author.Tests.{ne-eqb, eq-eqb}
+use borrow.Author.Tests.{ne-eqb}
 use Rattle.vob24.specs.Utf8.{lead, bad, want}
 use Rattle.vob24.specs.Ranges.{inside, below, above, lt-or-ge}
 

@@ -1,33 +1,40 @@
 -- The promises: demands 1, 2 and 3 of the calls' outcomes, for every pack, starting budget and tape, under all settings.
-use Prim.Native.Nat.{ℕ, suc, zero, _+_, _-_, _*_, _^_, _≤_, _<_}
-use mathlib.Core.Path.{_≡_, refl, ap, sym, _∙_, subst}
-use mathlib.Core.List.{List, [], _∷_, _++_}
-use mathlib.Core.Bool.{Bool, true, false, not}
+use Prim.Native.Nat.{ℕ, _+_, _-_, _^_, _≤_, _<_}
+use mathlib.Core.Path.{_≡_, ap, sym, _∙_}
+use mathlib.Core.List.{List, [], _++_}
+use mathlib.Core.Bool.{Bool}
 use mathlib.Core.Logic.{_↔_}
 use native.Mathlib.Omega.{arith}
 use lib.ListN.{length, take, drop, replicate, length-replicate}
-use lib.Seq.{take-append-seam, take-all, take-length}
-use lib.Dec.{T, leb, eqb, leb→le, le→leb, eqb→eq, eqb-refl}
-use Rattle.format.specs.Trace.{Wrong, wrong, Trace, end, bind, guard, pick, amounts, sum, total, Out, stopped, ended, out, Ends, Settled, refused, taken, settle}
-use Rattle.format.specs.Format.{Value, Format, first, second, content, start, entries}
+use lib.Seq.{take-all, take-length}
+use lib.Dec.{leb, eqb, leb→le, le→leb, eqb→eq, eqb-refl}
+use Rattle.format.specs.Trace.{Wrong, wrong, Trace, end, bind, guard, amounts, sum, total, stopped, ended, out, Ends, settle}
+use Rattle.format.specs.Format.{Value}
 use Rattle.format.specs.Reading.{part, trace}
 use Rattle.format.specs.Record.{words, decode, Held}
 use Rattle.format.specs.Layout.{Bytes, Valid, bytes}
 use Rattle.format.specs.Ending.{Ends-bind, bind-out, Ends-guard, guard-true, trace-place}
-use Rattle.format.specs.Charging.{trace-charges}
-use Rattle.format.specs.Decoding.{trace-held, record-decode}
 use Rattle.format.specs.Laying.{At}
 use Rattle.format.specs.Closing.{layout-iff}
+use Rattle.format.specs.Bounding.{guard-under, end-free}
 use Rattle.format.specs.Placing.{Rising, rising-bind, rising-guard, rising-end, trace-rising, placeOf, settle-within}
 use Rattle.vob24.specs.Refusals
 use Rattle.vob24.specs.Settings.{Settings, Licensed, maxPackBytes}
 use Rattle.vob24.specs.Grammar.{Section, section, pack}
-use Rattle.vob24.specs.Cost.{sectionCost, packCost, recordCost, sectionRecordCost}
-use Rattle.vob24.specs.PackCost.{Costs, section-costs, pack-costs}
+use Rattle.vob24.specs.Cost.{recordCost, sectionRecordCost}
+use Rattle.vob24.specs.PackCost.{section-costs, pack-costs}
 use Rattle.vob24.specs.PackLayout.{closed-section, closed-pack}
 use Rattle.vob24.specs.PackBound.{section-bound, pack-bound}
-use Rattle.vob24.specs.Calls.{Answer, Taken, Refused, Outcome, tooLarge, noRoomFor, wholeTrace, sectionTrace, closing, readOutcome, sectionOutcome}
+use Rattle.vob24.specs.Calls.{Taken, Refused, tooLarge, noRoomFor, wholeTrace, sectionTrace, readOutcome, sectionOutcome}
 use Rattle.vob24.specs.Calling.{leftOf, Account, IsTaken, IsBroke, account, taken-when, short-tape, stopped-at, short-budget, only-when, Reads, call-record, call-cost, call-texts}
+
+-- a last question charges nothing
+judged : (t : Trace Value) (d : Value → ℕ → Bool) (w : Value → ℕ → Wrong) → total (bind t (λ v q. guard (d v q) (w v q) q (end v q))) ≤ total t
+unfolding bind amounts sum
+judged (Trace.stop w p) d w′ = omega arith
+judged (end v p) d w′ = guard-under (d v p) (w′ v p) p (end v p) 0 (λ _. omega (arith, end-free v p))
+judged (Trace.charge c n p t) d w′ = omega (arith, judged t d w′)
+judged (Trace.asks n p t) d w′ = judged t d w′
 
 module _ (set : Settings) where
   -- ---- the charge lists of the two calls, and that of the format between their questions
@@ -134,6 +141,18 @@ module _ (set : Settings) where
           let e = ap length (h .2) in
           let r = layout-iff (pack set) (closed-pack set) s 0 v (length s) b (omega arith) .1 (h .1, ap (λ u. part u 0 (length (bytes (pack set) v))) (h .2) ∙ take-length _, omega arith) in
           ends-whole s (h .0) r ∙ ap (ended v) (sym (h .3))
+
+  -- The charges of every file, taken or refused, sum up to less than 2 ^ 64.
+  pub whole-bound : Licensed set → (s : List ℕ) → Bytes s → total (wholeTrace set s) < 2 ^ 64
+  unfolding wholeTrace
+  whole-bound licensed s b =
+      le-lt (guard-under (leb (length s) maxPackBytes) (tooLarge (length s)) 0 _ (2 ^ 64 - 1) (λ d.
+      let h = leb→le (length s) maxPackBytes d in
+      let i = pack-bound set licensed s b h in
+      omega (arith, i, judged (trace (pack set) s 0) (λ v q. eqb q (length s)) (λ v q. wrong Refusals.trailingBytes (length s - q)))))
+    where
+      le-lt : {n : ℕ} → n ≤ 2 ^ 64 - 1 → n < 2 ^ 64
+      le-lt h = omega arith
 
   -- "Exactly the files whose charge list ends with the pack, not at a question, are taken under some starting budget with tape enough":
   -- one of 64 bits.

@@ -1,12 +1,10 @@
 use borrow.Author.Needs.{needs}
-use mathlib.Core.Path.{_≡_, refl, sym, _∙_}
+use mathlib.Core.Path.{sym}
 use native.Mathlib.Omega.{arith}
-use Rattle.vob24.specs.Settings.{settings, sizeOf}
+use Rattle.vob24.specs.Settings.{settings}
 use Rattle.vob24.specs.SizeTable.{settings-licensed, size-most, size-below, size-past, size-at}
 use Rattle.vob24.proofs.size.Statement.{statement}
 use Rattle.vob24.proofs.size.Tie as tie
-use Rattle.vob24.proofs.size.Reads as reads
-use Rattle.vob24.proofs.size.Lts as lts
 
 returns : tie.Need-returns
 returns c = (sym (size-below settings (c .before .args .i) (omega arith)), omega arith)
