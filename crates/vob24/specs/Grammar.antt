@@ -293,9 +293,13 @@ sections set =
     ▸ section set 0 wellKnown ▸ section set 0 constants ▸ section set 0 globals
     ▸ seq (section set 0 functions) (λ v. afterFunctions set (counted v))
 
--- "Magic "VOB"? 3. Version 24? 4 (d1 the version read)."
+-- "Magic "VOB"? 3."
+abbrev pub magic : Format
+magic = leaf (mark (86 ∷ 79 ∷ 66 ∷ []) (λ _. wrong Refusals.invalidMagic 0))
+
+-- "Version 24? 4 (d1 the version read)."
+abbrev pub version : Format
+version = leaf (mark (24 ∷ 0 ∷ 0 ∷ 0 ∷ []) (λ n. wrong Refusals.unsupportedVersion n))
+
 unfoldable pub pack : Settings → Format
-pack set =
-    leaf (mark (86 ∷ 79 ∷ 66 ∷ []) (λ _. wrong Refusals.invalidMagic 0))
-    ▸ leaf (mark (24 ∷ 0 ∷ 0 ∷ 0 ∷ []) (λ n. wrong Refusals.unsupportedVersion n))
-    ▸ sections set
+pack set = magic ▸ version ▸ sections set

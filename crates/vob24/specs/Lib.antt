@@ -22,3 +22,4 @@ pub mod PackBound
 pub mod Calling
 pub mod Theorems
 pub mod Lookup
+pub mod InTurn
