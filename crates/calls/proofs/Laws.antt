@@ -1,0 +1,240 @@
+-- The laws of the public calls: a first pass with no tape, the questions around it, a second pass.
+use Prim.Native.Nat.{ℕ, _+_, _-_, _≤_, _<_}
+use mathlib.Core.Path.{_≡_, refl, ap, sym, _∙_}
+use mathlib.Core.List.{List, [], _∷_, _++_}
+use mathlib.Core.Bool.{Bool, true, false, not}
+use native.Mathlib.Omega.{arith}
+use native.Mathlib.Nat.{zero-add}
+use lib.ListN.{length, drop}
+use lib.Seq.{sets-eq}
+use lib.Dec.{T, leb, eqb, leb→le, nleb→lt, le→leb}
+use borrow.Author.Tests.{le-leb, lt-leb, eq-eqb, ne-eqb}
+use Rattle.format.specs.Trace.{wrong, Trace, end, guard, refused, taken, settle, pick}
+use Rattle.format.specs.Format.{Value, Format}
+use Rattle.format.specs.Reading.{trace}
+use Rattle.format.specs.Record.{words}
+use Rattle.format.specs.Settling.{settle-taken, thenS, settle-bind}
+use Rattle.format.specs.Ending.{guard-true, trace-place}
+use Rattle.vob24.specs.Refusals
+use Rattle.vob24.specs.Settings.{settings, maxPackBytes}
+use Rattle.vob24.specs.Grammar.{Section, section, pack}
+use Rattle.vob24.specs.Calls as vob
+use Rattle.reader.specs.Contract.{refusal, wrongOf, ReadyAt, Takes, Reads, takes, refuses, skips, Reader}
+use Rattle.reader.specs.declared.Cursor.{Cursor}
+use Rattle.reader.specs.declared.Refusal.{Refusal}
+use Rattle.reader.specs.declared.Step.{Step}
+use Rattle.reader.specs.declared.Step.the-variants.{Taken, Refused}
+use Rattle.calls.specs.Call.{answerOf, from, opened, Opens, ended, closed, Ends, Closes, Since, Within, ReadCall, SectionCall}
+use Rattle.calls.specs.declared.Answer.{Answer}
+
+-- ---- the three questions
+
+module _ {s : List ℕ} {p b : ℕ} where
+  pub opens-long : maxPackBytes < length s → Opens s p b (Refused (refusal (vob.tooLarge (length s)) p b))
+  unfolding opened pick
+  opens-long h = record { is = rw (lt-leb _ _ h); ready = tt }
+
+  pub opens-past : length s ≤ maxPackBytes → length s < p → Opens s p b (Refused (refusal (wrong Refusals.unexpectedEof 0) p b))
+  unfolding opened pick
+  opens-past h i = record { is = rw (le-leb _ _ h, lt-leb _ _ i); ready = tt }
+
+  pub opens-at : length s ≤ maxPackBytes → p ≤ length s → Opens s p b (Taken (from p b))
+  unfolding opened pick
+  opens-at h i = record { is = rw (le-leb _ _ h, le-leb _ _ i); ready = record { small = h; within = i; behind = omega arith } }
+
+module _ {n : ℕ} {r : Step} where
+  pub ends-refused : {x : Refusal} → r ≡ Refused x → Ends n r r
+  ends-refused e = rw e record { is = refl }
+
+  pub ends-at : {c : Cursor} → r ≡ Taken c → c .place ≡ n → Ends n r (Taken c)
+  unfolding pick
+  ends-at {c} e h = record { is = rw (e, eq-eqb (c .place) n h) }
+
+  pub ends-past : {c : Cursor} → r ≡ Taken c → (c .place ≡ n → ⊥) → Ends n r (Refused (refusal (wrong Refusals.trailingBytes (n - c .place)) (c .place) (c .left)))
+  unfolding pick
+  ends-past {c} e h = record { is = rw (e, ne-eqb (c .place) n h) }
+
+module _ {p b room : ℕ} {r : Step} where
+  pub closes-refused : {x : Refusal} → r ≡ Refused x → Closes p b room r (Answer.Refused x)
+  closes-refused e = record { is = rw e }
+
+  pub closes-short : {c : Cursor} → r ≡ Taken c → room < c .at → Closes p b room r (Answer.Refused (refusal (vob.noRoomFor (c .at) room) (c .place) (c .left)))
+  unfolding pick
+  closes-short e h = record { is = rw (e, lt-leb _ _ h) }
+
+  pub closes-taken : {c : Cursor} → r ≡ Taken c → c .at ≤ room → Closes p b room r (Answer.Taken (c .at) (c .place - p) (b - c .left) (c .left))
+  unfolding pick
+  closes-taken e h = record { is = rw (e, le-leb _ _ h) }
+
+pub ruleset questions = (opens-long, opens-past, opens-at, ends-refused, ends-at, ends-past, closes-refused, closes-short, closes-taken)
+
+-- ---- the passes
+
+-- What a first pass has come to: the budget settles the call's charge list so.
+pub data Passed (f : Format) (t : Trace Value) (s : List ℕ) (p b : ℕ) (start : Step) : Step → Type 0 where
+  passed : {v : Value} {c : Cursor} → start ≡ Taken (from p b) → settle b t ≡ taken v (c .place) (c .left) → settle b (trace f s p) ≡ taken v (c .place) (c .left) → c .at ≡ length (words f v) → Passed f t s p b start (Taken c)
+  denied : {x : Refusal} → settle b t ≡ refused (wrongOf x) (x .place) (x .left) → Passed f t s p b start (Refused x)
+
+-- how a call opened
+data Opened (s : List ℕ) (p b : ℕ) : Step → Type 0 where
+  long : maxPackBytes < length s → Opened s p b (Refused (refusal (vob.tooLarge (length s)) p b))
+  past : length s ≤ maxPackBytes → length s < p → Opened s p b (Refused (refusal (wrong Refusals.unexpectedEof 0) p b))
+  at : length s ≤ maxPackBytes → p ≤ length s → Opened s p b (Taken (from p b))
+
+opened-as : (s : List ℕ) (p b : ℕ) → Opened s p b (opened s p b)
+unfolding opened pick
+opened-as s p b = go (leb (length s) maxPackBytes) (leb→le _ _) (nleb→lt _ _) (leb p (length s)) (leb→le _ _) (nleb→lt _ _)
+  where
+    go : (d : Bool) → (T d → length s ≤ maxPackBytes) → (T (not d) → maxPackBytes < length s) → (e : Bool) → (T e → p ≤ length s) → (T (not e) → length s < p)
+        → Opened s p b (pick d (pick e (Taken (from p b)) (Refused (refusal (wrong Refusals.unexpectedEof 0) p b))) (Refused (refusal (vob.tooLarge (length s)) p b)))
+    go true x y true z w = at (x tt) (z tt)
+    go true x y false z w = past (x tt) (w tt)
+    go false x y e z w = long (y tt)
+
+module _ (n : ℕ) (x : Section) (s : List ℕ) (p b : ℕ) where
+  section-long : maxPackBytes < length s → settle b (vob.sectionTrace settings n x s p) ≡ refused (vob.tooLarge (length s)) p b
+  unfolding vob.sectionTrace guard settle
+  section-long h = rw (lt-leb _ _ h)
+
+  section-past : length s ≤ maxPackBytes → length s < p → settle b (vob.sectionTrace settings n x s p) ≡ refused (wrong Refusals.unexpectedEof 0) p b
+  unfolding vob.sectionTrace guard settle
+  section-past h i = rw (le-leb _ _ h, lt-leb _ _ i)
+
+  section-at : length s ≤ maxPackBytes → p ≤ length s → settle b (vob.sectionTrace settings n x s p) ≡ settle b (trace (section settings n x) s p)
+  unfolding vob.sectionTrace
+  section-at h i = ap (settle b) (guard-true _ _ _ _ (le→leb _ _ h) ∙ guard-true _ _ _ _ (le→leb _ _ i))
+
+  section-cases : {r₀ r : Step} {t e : List ℕ} → Opened s p b r₀ → Reads (section settings n x) s r₀ t r e → Passed (section settings n x) (vob.sectionTrace settings n x s p) s p b r₀ r
+  section-cases (long h) skips = denied (section-long h)
+  section-cases (past h i) skips = denied (section-past h i)
+  section-cases (at h i) (takes k) = passed refl (section-at h i ∙ k .settles) (k .settles) (k .moves ∙ zero-add _)
+  section-cases (at h i) (refuses k) = denied (section-at h i ∙ k .settles)
+
+module _ (s : List ℕ) (b : ℕ) where
+  whole-long : maxPackBytes < length s → settle b (vob.wholeTrace settings s) ≡ refused (vob.tooLarge (length s)) 0 b
+  unfolding vob.wholeTrace guard settle
+  whole-long h = rw (lt-leb _ _ h)
+
+  whole-at : length s ≤ maxPackBytes → settle b (vob.wholeTrace settings s) ≡ thenS (settle b (trace (pack settings) s 0)) (λ v q l. settle l (guard (eqb q (length s)) (wrong Refusals.trailingBytes (length s - q)) q (end v q)))
+  unfolding vob.wholeTrace
+  whole-at h = ap (settle b) (guard-true _ _ _ _ (le→leb _ _ h)) ∙ settle-bind b (trace (pack settings) s 0) _
+
+  -- the whole pack, with the question after it
+  judged : {t : List ℕ} {v : Value} {c : Cursor} {e : List ℕ} → length s ≤ maxPackBytes → Takes (pack settings) s (from 0 b) t v c e → (d : Bool) → eqb (c .place) (length s) ≡ d
+      → Passed (pack settings) (vob.wholeTrace settings s) s 0 b (Taken (from 0 b)) (pick d (Taken c) (Refused (refusal (wrong Refusals.trailingBytes (length s - c .place)) (c .place) (c .left))))
+  unfolding pick thenS guard settle
+  judged {v = v} {c = c} h k true i = passed {v = v} {c = c} refl (whole-at h ∙ rw (k .settles, i)) (k .settles) (k .moves ∙ zero-add _)
+  judged {c = c} h k false i = denied {x = refusal (wrong Refusals.trailingBytes (length s - c .place)) (c .place) (c .left)} (whole-at h ∙ rw (k .settles, i))
+
+  whole-cases : {r₀ r : Step} {t e : List ℕ} → Opened s 0 b r₀ → Reads (pack settings) s r₀ t r e → Passed (pack settings) (vob.wholeTrace settings s) s 0 b r₀ (ended (length s) r)
+  unfolding thenS
+  whole-cases (long h) skips = denied (whole-long h)
+  whole-cases (past h i) skips = absurd (omega arith)
+  whole-cases (at h i) (refuses {x = x} k) = denied {x = x} (whole-at h ∙ rw (k .settles))
+  whole-cases (at h i) (takes {c′ = c} k) = judged h k (eqb (c .place) (length s)) refl
+
+-- ---- what a call makes of them
+
+module _ {f : Format} {t : Trace Value} {s : List ℕ} {p b : ℕ} {r₀ : Step} where
+  passed-since : {r : Step} → Passed f t s p b r₀ r → Since p b r
+  passed-since (passed {v = v} {c = c} _ _ i _) =
+      let k = settle-taken b (trace f s p) v (c .place) (c .left) .0 i in
+      record { place = λ c′ e. let x : c′ ≡ c = cc in rw x (omega (arith, trace-place f s p (k .0) .0)); left = λ c′ e. let x : c′ ≡ c = cc in rw x (omega (arith, k .2)) }
+  passed-since (denied i) = record { place = λ c e. let no : _≡_ {A = ℕ} 0 1 = cc in absurd (omega arith); left = λ c e. let no : _≡_ {A = ℕ} 0 1 = cc in absurd (omega arith) }
+
+-- the question of room, answered either way
+data Closed (p b room : ℕ) (c : Cursor) : Answer → Type 0 where
+  fits : c .at ≤ room → Closed p b room c (Answer.Taken (c .at) (c .place - p) (b - c .left) (c .left))
+  short : room < c .at → Closed p b room c (Answer.Refused (refusal (vob.noRoomFor (c .at) room) (c .place) (c .left)))
+
+closed-as : (p b room : ℕ) (c : Cursor) → Closed p b room c (closed p b room (Taken c))
+unfolding pick
+closed-as p b room c = go (leb (c .at) room) (leb→le _ _) (nleb→lt _ _)
+  where
+    go : (d : Bool) → (T d → c .at ≤ room) → (T (not d) → room < c .at) → Closed p b room c (pick d (Answer.Taken (c .at) (c .place - p) (b - c .left) (c .left)) (Answer.Refused (refusal (vob.noRoomFor (c .at) room) (c .place) (c .left))))
+    go true x y = fits (x tt)
+    go false x y = short (y tt)
+
+module _ (f : Format) (t : Trace Value) (p b : ℕ) (tape : List ℕ) where
+  closing-denied : {x : Refusal} → settle b t ≡ refused (wrongOf x) (x .place) (x .left) → vob.closing f p b tape (settle b t) ≡ record { answer = answerOf (Answer.Refused x); tape = tape }
+  closing-denied i = ap (vob.closing f p b tape) i
+
+  closing-short : {v : Value} {c : Cursor} → settle b t ≡ taken v (c .place) (c .left) → c .at ≡ length (words f v) → length tape < c .at
+      → vob.closing f p b tape (settle b t) ≡ record { answer = answerOf (Answer.Refused (refusal (vob.noRoomFor (c .at) (length tape)) (c .place) (c .left))); tape = tape }
+  unfolding pick
+  closing-short {v} {c} i m h = let h′ : length tape < length (words f v) = omega arith in ap (vob.closing f p b tape) i ∙ rw (lt-leb _ _ h′, m)
+
+  closing-fits : {v : Value} {c : Cursor} → settle b t ≡ taken v (c .place) (c .left) → c .at ≡ length (words f v) → c .at ≤ length tape
+      → vob.closing f p b tape (settle b t) ≡ record { answer = answerOf (Answer.Taken (c .at) (c .place - p) (b - c .left) (c .left)); tape = words f v ++ drop (length (words f v)) tape }
+  unfolding pick
+  closing-fits {v} {c} i m h = let h′ : length (words f v) ≤ length tape = omega arith in ap (vob.closing f p b tape) i ∙ rw (le-leb _ _ h′, m)
+
+  -- refused: the tape is as it was
+  short-so : {v : Value} {c : Cursor} {q : Answer} {x : Refusal} → settle b t ≡ taken v (c .place) (c .left) → c .at ≡ length (words f v) → Closed p b (length tape) c q → q ≡ Answer.Refused x → vob.closing f p b tape (settle b t) ≡ record { answer = answerOf q; tape = tape }
+  short-so i m (fits h) e = let z : _≡_ {A = ℕ} 0 1 = cc in absurd (omega arith)
+  short-so i m (short h) e = closing-short i m h
+
+  refused-so : {s : List ℕ} {r₀ r : Step} {q : Answer} {x : Refusal} → Passed f t s p b r₀ r → q ≡ closed p b (length tape) r → q ≡ Answer.Refused x → vob.closing f p b tape (settle b t) ≡ record { answer = answerOf q; tape = tape }
+  refused-so (denied {x = y} i) e j = closing-denied i ∙ rw e
+  refused-so (passed {c = c} o i k m) e j = rw e (short-so i m (closed-as p b (length tape) c) (sym e ∙ j))
+
+  -- taken: the second pass writes the record
+  written : {s : List ℕ} {v : Value} {q l : ℕ} {r : Step} {t₂ : List ℕ} → settle b (trace f s p) ≡ taken v q l → length (words f v) ≤ length tape → Reads f s (Taken (from p b)) tape r t₂ → t₂ ≡ words f v ++ drop (length (words f v)) tape
+  written {v = v} i h (takes {v = u} k) =
+      let e : v ≡ u = cc (i, k .settles) in
+      let m : 0 + length (words f v) ≤ length tape = omega arith in
+      k .writes ∙ rw (← e) (sets-eq (words f v) tape 0 m ∙ rw zero-add)
+  written i h (refuses k) = let z : _≡_ {A = ℕ} 0 1 = cc (i, k .settles) in absurd (omega arith)
+
+  fits-so : {s : List ℕ} {v : Value} {c : Cursor} {q : Answer} {r : Step} {t₂ : List ℕ} {w n m l : ℕ} → settle b t ≡ taken v (c .place) (c .left) → settle b (trace f s p) ≡ taken v (c .place) (c .left) → c .at ≡ length (words f v)
+      → Closed p b (length tape) c q → q ≡ Answer.Taken w n m l → Reads f s (Taken (from p b)) tape r t₂ → vob.closing f p b tape (settle b t) ≡ record { answer = answerOf q; tape = t₂ }
+  fits-so i k j (short h) e z = let no : _≡_ {A = ℕ} 0 1 = cc in absurd (omega arith)
+  fits-so {v = v} i k j (fits h) e z = closing-fits i j h ∙ rw (written k (omega arith) z)
+
+  taken-so : {s : List ℕ} {r₀ r r₂ : Step} {q : Answer} {t₂ : List ℕ} {w n m l : ℕ} → Passed f t s p b r₀ r → q ≡ closed p b (length tape) r → q ≡ Answer.Taken w n m l → Reads f s r₀ tape r₂ t₂ → vob.closing f p b tape (settle b t) ≡ record { answer = answerOf q; tape = t₂ }
+  taken-so (denied i) e j z = let no : _≡_ {A = ℕ} 0 1 = cc in absurd (omega arith)
+  taken-so {s} {r₀} {r} {r₂} {q} {t₂} (passed {c = c} o i k m) e j z = rw e (fits-so i k m (closed-as p b (length tape) c) (sym e ∙ j) (rw o at z))
+
+nil : (e : List ℕ) → length e ≡ 0 → e ≡ []
+nil [] h = refl
+nil (x ∷ e) h = absurd (omega arith)
+
+-- ---- a section call
+
+module _ (n : ℕ) (x : Section) {s : List ℕ} {p b : ℕ} {r₀ r : Step} {t₀ e : List ℕ} (o : Opens s p b r₀) (k : Reader (section settings n x) s r₀ t₀ r e) where
+  section-passed : Passed (section settings n x) (vob.sectionTrace settings n x s p) s p b r₀ r
+  section-passed = section-cases n x s p b (rw (o .is) (opened-as s p b)) (k .reads)
+
+  pub section-since : Since p b r
+  section-since = passed-since section-passed
+
+  module _ {t : List ℕ} {q : Answer} (z : length e ≡ 0) (m : Closes p b (length (e ++ t)) r q) where
+    pub section-refused : {y : Refusal} → q ≡ Answer.Refused y → SectionCall n x s p b t q (e ++ t)
+    unfolding vob.sectionOutcome
+    section-refused j = let i = nil e z in record { is = rw i (refused-so _ _ p b t section-passed (m .is ∙ rw i) j) }
+
+    pub section-taken : {w i c l : ℕ} {r₂ : Step} {t₂ : List ℕ} → q ≡ Answer.Taken w i c l → Reader (section settings n x) s r₀ (e ++ t) r₂ t₂ → SectionCall n x s p b t q t₂
+    unfolding vob.sectionOutcome
+    section-taken j k₂ = let i = nil e z in record { is = taken-so _ _ p b t section-passed (m .is ∙ rw i) j (rw i at (k₂ .reads)) }
+
+-- ---- the call on a whole pack
+
+module _ {s : List ℕ} {b : ℕ} {r₀ r : Step} {t₀ e : List ℕ} (o : Opens s 0 b r₀) (k : Reader (pack settings) s r₀ t₀ r e) where
+  pub read-within : Within (length s) r
+  read-within = record { place = λ c i. let y : ReadyAt s c = rw i at (k .ready) in y .within }
+
+  module _ {r′ : Step} (g : Ends (length s) r r′) where
+    read-passed : Passed (pack settings) (vob.wholeTrace settings s) s 0 b r₀ r′
+    read-passed = rw (g .is) (whole-cases s b (rw (o .is) (opened-as s 0 b)) (k .reads))
+
+    pub read-since : Since 0 b r′
+    read-since = passed-since read-passed
+
+    module _ {t : List ℕ} {q : Answer} (z : length e ≡ 0) (m : Closes 0 b (length (e ++ t)) r′ q) where
+      pub read-refused : {y : Refusal} → q ≡ Answer.Refused y → ReadCall s b t q (e ++ t)
+      unfolding vob.readOutcome
+      read-refused j = let i = nil e z in record { is = rw i (refused-so _ _ 0 b t read-passed (m .is ∙ rw i) j) }
+
+      pub read-taken : {w i c l : ℕ} {r₂ : Step} {t₂ : List ℕ} → q ≡ Answer.Taken w i c l → Reader (pack settings) s r₀ (e ++ t) r₂ t₂ → ReadCall s b t q t₂
+      unfolding vob.readOutcome
+      read-taken j k₂ = let i = nil e z in record { is = taken-so _ _ 0 b t read-passed (m .is ∙ rw i) j (rw i at (k₂ .reads)) }

@@ -1,0 +1,93 @@
+// What the public calls share: the questions before a first pass, the question of room after it, and their contracts.
+// A call reads twice by the same code: first with an empty tape, which counts the words, then, where there is room, with the tape.
+ghost use Rattle.calls.specs.Call.{Opens, Since, Within, Ends, Closes};
+use reader::Cursor;
+use reader::Refusal;
+use reader::Step;
+use reader::numbers;
+
+pub const MAX_PACK_BYTES: usize = 134_217_728;
+
+// Taken: words, bytes taken, charged, left.
+pub enum Answer {
+    Taken(usize, usize, u64, u64),
+    Refused(Refusal),
+}
+
+// Question 1, then a place past the end; both show place and budget as given.
+pub fn opening(pack: &[u8], place: usize, budget: u64) -> Step
+    ensures { λ q. ⌜ Opens (now (pack .entry)) place budget q ⌝ }
+{
+    let n = pack.len();
+    if MAX_PACK_BYTES < n {
+        return Step::Refused(Refusal {
+            number: numbers::INPUT_TOO_LARGE,
+            context: 0,
+            detail1: n as u64,
+            detail2: MAX_PACK_BYTES as u64,
+            place,
+            left: budget,
+        });
+    }
+    if n < place {
+        return Step::Refused(Refusal {
+            number: numbers::UNEXPECTED_EOF,
+            context: 0,
+            detail1: 0,
+            detail2: 0,
+            place,
+            left: budget,
+        });
+    }
+    Step::Taken(Cursor {
+        place,
+        left: budget,
+        at: 0,
+    })
+}
+
+// Nothing after the end?
+pub fn ended(first: Step, length: usize) -> Step
+    requires { ⌜ Within length first ⌝ }
+    ensures { λ q. ⌜ Ends length first q ⌝ }
+{
+    let Step::Taken(c) = first else {
+        return first;
+    };
+    let place = c.place;
+    if place == length {
+        return first;
+    }
+    Step::Refused(Refusal {
+        number: numbers::TRAILING_BYTES,
+        context: 0,
+        detail1: (length - place) as u64,
+        detail2: 0,
+        place,
+        left: c.left,
+    })
+}
+
+// The tape long enough? The answer of a call after its first pass.
+pub fn closed(first: Step, place: usize, budget: u64, room: usize) -> Answer
+    requires { ⌜ Since place budget first ⌝ }
+    ensures { λ q. ⌜ Closes place budget room first q ⌝ }
+{
+    match first {
+        Step::Refused(x) => Answer::Refused(x),
+        Step::Taken(c) => {
+            let words = c.at;
+            if room < words {
+                return Answer::Refused(Refusal {
+                    number: numbers::NO_ROOM,
+                    context: 0,
+                    detail1: words as u64,
+                    detail2: room as u64,
+                    place: c.place,
+                    left: c.left,
+                });
+            }
+            Answer::Taken(words, c.place - place, budget - c.left, c.left)
+        }
+    }
+}

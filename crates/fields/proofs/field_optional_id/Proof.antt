@@ -1,0 +1,70 @@
+use Rattle.reader.proofs.Laws.{reading}
+use Rattle.reader.proofs.Keeping.{keeping}
+use borrow.Author.Needs.{needs}
+use Rattle.fields.proofs.field_optional_id.Statement.{statement}
+use Rattle.fields.proofs.field_optional_id.Tie as tie
+
+enum-known-r : tie.Need-enum-known-r
+enum-known-r c = search needs
+
+enum-told : tie.Need-enum-told
+enum-told c = search needs
+
+returns : tie.Need-returns
+returns c = search (needs, reading, keeping)
+
+read-u32-requires : tie.Need-read-u32-requires
+read-u32-requires c κs = search (needs, reading, keeping)
+
+enum-known-q : tie.Need-enum-known-q
+enum-known-q c = search needs
+
+enum-told-2 : tie.Need-enum-told-2
+enum-told-2 c = search needs
+
+refused-requires : tie.Need-refused-requires
+refused-requires c κs = search needs
+
+returns-2 : tie.Need-returns-2
+returns-2 c = search (needs, reading, keeping)
+
+keep-pair-requires : tie.Need-keep-pair-requires
+keep-pair-requires c κs = search (needs, reading, keeping)
+
+same-length : tie.Need-same-length
+same-length c = search needs
+
+returns-3 : tie.Need-returns-3
+returns-3 c = search (needs, reading, keeping)
+
+sub-keep-pair : tie.Need-sub-keep-pair
+sub-keep-pair c = search needs
+
+keep-pair-requires-2 : tie.Need-keep-pair-requires-2
+keep-pair-requires-2 c κs = search (needs, reading, keeping)
+
+same-length-2 : tie.Need-same-length-2
+same-length-2 c = search needs
+
+returns-4 : tie.Need-returns-4
+returns-4 c = search (needs, reading, keeping)
+
+pub field-optional-id-spec : {M : Type 1} → statement M
+field-optional-id-spec =
+    tie.close
+    (tie.spec
+    enum-known-r
+    enum-told
+    returns
+    read-u32-requires
+    enum-known-q
+    enum-told-2
+    refused-requires
+    returns-2
+    keep-pair-requires
+    same-length
+    returns-3
+    sub-keep-pair
+    keep-pair-requires-2
+    same-length-2
+    returns-4)

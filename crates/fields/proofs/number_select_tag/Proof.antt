@@ -1,0 +1,38 @@
+use Rattle.reader.proofs.Laws.{reading}
+use Rattle.reader.proofs.Keeping.{keeping}
+use borrow.Author.Needs.{needs}
+use Rattle.fields.proofs.number_select_tag.Statement.{statement}
+use Rattle.fields.proofs.number_select_tag.Tie as tie
+
+read-bare-requires : tie.Need-read-bare-requires
+read-bare-requires c κs = search needs
+
+enum-known-q : tie.Need-enum-known-q
+enum-known-q c = search needs
+
+enum-told : tie.Need-enum-told
+enum-told c = search needs
+
+returns : tie.Need-returns
+returns c = search (needs, reading, keeping)
+
+keep-requires : tie.Need-keep-requires
+keep-requires c κs = search (needs, reading, keeping)
+
+same-length : tie.Need-same-length
+same-length c = search needs
+
+returns-2 : tie.Need-returns-2
+returns-2 c = search (needs, reading, keeping)
+
+pub number-select-tag-spec : {M : Type 1} → statement M
+number-select-tag-spec =
+    tie.close
+    (tie.spec
+    read-bare-requires
+    enum-known-q
+    enum-told
+    returns
+    keep-requires
+    same-length
+    returns-2)

@@ -1,0 +1,42 @@
+use Rattle.reader.proofs.Laws.{reading}
+use Rattle.reader.proofs.Keeping.{keeping}
+use borrow.Author.Needs.{needs}
+use Rattle.fields.proofs.span_artifact_name.Statement.{statement}
+use Rattle.fields.proofs.span_artifact_name.Tie as tie
+
+read-artifact-string-requires : tie.Need-read-artifact-string-requires
+read-artifact-string-requires c κs = search needs
+
+enum-known-q : tie.Need-enum-known-q
+enum-known-q c = search needs
+
+enum-told : tie.Need-enum-told
+enum-told c = search needs
+
+span-requires : tie.Need-span-requires
+span-requires c κs = search needs
+
+returns : tie.Need-returns
+returns c = search (needs, reading, keeping)
+
+keep-pair-requires : tie.Need-keep-pair-requires
+keep-pair-requires c κs = search (needs, reading, keeping)
+
+same-length : tie.Need-same-length
+same-length c = search needs
+
+returns-2 : tie.Need-returns-2
+returns-2 c = search (needs, reading, keeping)
+
+pub span-artifact-name-spec : {M : Type 1} → statement M
+span-artifact-name-spec =
+    tie.close
+    (tie.spec
+    read-artifact-string-requires
+    enum-known-q
+    enum-told
+    span-requires
+    returns
+    keep-pair-requires
+    same-length
+    returns-2)

@@ -1,0 +1,12 @@
+pub mod Gather
+pub mod Settles
+pub mod Paying
+pub mod Laws
+pub mod Asks
+pub mod Leaves
+pub mod Signs
+pub mod Marks
+pub mod Packing
+pub mod Texts
+pub mod Keeping
+pub mod Parts

@@ -1,0 +1,28 @@
+use borrow.Author.Needs.{needs}
+use lib.ListN.{getD}
+use Rattle.reader.proofs.Gather.{put}
+use mir.Syntax.{w8}
+use mir.Val.{Fits}
+use Rattle.reader.proofs.le2.Statement.{statement}
+use Rattle.reader.proofs.le2.Tie as tie
+
+array-read-result : tie.Need-array-read-result
+array-read-result c = search needs
+
+cast-result : tie.Need-cast-result
+cast-result c = search needs
+
+array-read-result-2 : tie.Need-array-read-result-2
+array-read-result-2 c = search needs
+
+cast-result-2 : tie.Need-cast-result-2
+cast-result-2 c = search needs
+
+returns : tie.Need-returns
+returns c =
+    let l = c .args .t1 in
+    put 16 1 l (search needs) (search needs) (λ i. let h : Fits w8 (getD l i 0) = search needs in h .fits)
+
+pub le2-spec : {M : Type 1} → statement M
+le2-spec =
+    tie.close (tie.spec array-read-result cast-result array-read-result-2 cast-result-2 returns)

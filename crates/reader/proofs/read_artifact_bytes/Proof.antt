@@ -1,0 +1,41 @@
+use Rattle.reader.proofs.Leaves.{leaves}
+use borrow.Author.Needs.{needs}
+use Rattle.reader.proofs.read_artifact_bytes.Statement.{statement}
+use Rattle.reader.proofs.read_artifact_bytes.Tie as tie
+
+read-u32-requires : tie.Need-read-u32-requires
+read-u32-requires c κs = search needs
+
+enum-known-n : tie.Need-enum-known-n
+enum-known-n c = search needs
+
+over-requires : tie.Need-over-requires
+over-requires c κs = search needs
+
+returns : tie.Need-returns
+returns c = search (needs, leaves)
+
+bytes-requires : tie.Need-bytes-requires
+bytes-requires c κs = search (needs, leaves)
+
+enum-known-x : tie.Need-enum-known-x
+enum-known-x c = search needs
+
+returns-2 : tie.Need-returns-2
+returns-2 c = search (needs, leaves)
+
+returns-3 : tie.Need-returns-3
+returns-3 c = search (needs, leaves)
+
+pub read-artifact-bytes-spec : {M : Type 1} → statement M
+read-artifact-bytes-spec =
+    tie.close
+    (tie.spec
+    read-u32-requires
+    enum-known-n
+    over-requires
+    returns
+    bytes-requires
+    enum-known-x
+    returns-2
+    returns-3)
