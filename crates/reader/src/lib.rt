@@ -177,7 +177,7 @@ fn le2(b: [u8; 2]) -> u16
     (b[0] as u16) | (b[1] as u16) << 8
 }
 
-fn le4(b: [u8; 4]) -> u32
+pub fn le4(b: [u8; 4]) -> u32
     ensures { λ n. ⌜ n ≡ little b ⌝ }
 {
     (b[0] as u32) | (b[1] as u32) << 8 | (b[2] as u32) << 16 | (b[3] as u32) << 24

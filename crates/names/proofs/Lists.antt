@@ -1,0 +1,132 @@
+-- The laws of the questions on a list that was read: its charge, then its items.
+use Prim.Native.Nat.{ℕ, suc, zero, _+_, _*_, _≤_}
+use mathlib.Core.Path.{_≡_, refl, ap, sym, _∙_}
+use mathlib.Core.List.{List, [], _∷_, map}
+use mathlib.Core.Bool.{Bool, true, false}
+use native.Mathlib.Omega.{arith}
+use lib.ListN.{length}
+use Rattle.format.specs.Trace.{pick}
+use Rattle.format.specs.Format.{Value, content, Format, Ask, pay}
+use Rattle.format.specs.Reading.{little, part, same}
+use Rattle.vob24.specs.Refusals as refusals
+use Rattle.vob24.specs.Settings as of
+use Rattle.vob24.specs.Settings.{settings, sizeOf}
+use Rattle.vob24.specs.Questions.{among}
+use Rattle.vob24.specs.Grammar.{structField, fieldName, fieldIndex, methodSet, method, methodName, runtimeField, identity, fieldSet}
+use Rattle.reader.specs.Contract.{ReadyAt, Paid, Asks}
+use Rattle.reader.specs.declared.Cursor.{Cursor}
+use Rattle.reader.specs.declared.Refusal.{Refusal}
+use Rattle.reader.specs.declared.Step.{Step}
+use Rattle.reader.specs.declared.Step.the-variants.{Taken, Refused}
+use Rattle.reader.proofs.Asks.{asks-poor, asks-paid}
+use Rattle.names.specs.declared.Item.{Item}
+use Rattle.names.specs.declared.Item.the-variants.{StructField, NamedMethod}
+use Rattle.names.specs.Walk.{valueAt, itemsAt, lastAt, items-snoc, items-length}
+use Rattle.names.specs.Items.{formatOf, nameOf, namesOf, contents}
+use Rattle.names.specs.Asking.{over, keyAsks, nameAsks, identityAsks, seenAt, methodAsks}
+use Rattle.names.specs.Contract.{WordIs, Items, Seen, After, Repeated, Named, ListBehind, ListAsked, MethodBehind, MethodAsked}
+use Rattle.names.proofs.Asking.{refuse-yes, refuse-no, among-is, repeat-told}
+use Rattle.names.proofs.Orders.{names-map, map-length, contents-snoc, names-over, keys-over, identities-over}
+
+apart : {X : Type 0} {r : Step} {c : Cursor} {x : Refusal} → r ≡ Taken c → r ≡ Refused x → X
+apart e i = let z : _≡_ {A = ℕ} 0 1 = cc in absurd (omega arith)
+
+-- ---- the answers of a question reader
+module _ {f : Format} {l : List Value → List Ask} {s : List ℕ} {r r₁ : Step} where
+  pub list-refused : {x : Refusal} → r₁ ≡ Refused x → ListAsked f l s r r₁ r₁
+  list-refused e = record { stays = λ y i. refl; asks = λ c d i j. apart j e }
+
+  pub list-skipped : {x : Refusal} {d : Cursor} → r ≡ Refused x → r₁ ≡ Taken d → ListAsked f l s r r₁ (Taken d)
+  list-skipped e k = record { stays = λ y i. sym k; asks = λ c d i j. apart i e }
+
+  module _ {c d : Cursor} (h : r ≡ Taken c) (k : r₁ ≡ Taken d) where
+    pub list-asked : {n : ℕ} {q : Step} → WordIs s (c .place) n → Asks (l (itemsAt f n s (c .place + 4))) d q → ListAsked f l s r r₁ q
+    list-asked {n} {q} e a = record { stays = λ y i. apart k i; asks = λ c′ d′ i j. go c′ d′ (cc) (cc) }
+      where
+        go : (c′ d′ : Cursor) → c′ ≡ c → d′ ≡ d → Asks (l (itemsAt f (little (part s (c′ .place) 4)) s (c′ .place + 4))) d′ q
+        go c′ d′ x y = rw (x, y, ← e .is) a
+
+module _ {f : Format} {s : List ℕ} {r r₁ : Step} {c d : Cursor} (h : r ≡ Taken c) (k : r₁ ≡ Taken d) (b : ListBehind f s r r₁) where
+  list-ready : ReadyAt s c
+  list-ready = rw h at (b .before)
+
+  pub list-room : c .place + 4 ≤ length s
+  list-room = b .comes c d h k .0
+
+  pub list-small : length s ≤ of.maxPackBytes
+  list-small = list-ready .small
+
+  pub list-items : {n : ℕ} → WordIs s (c .place) n → Items f n s (c .place + 4)
+  list-items e = rw (e .is) (record { small = list-small; all = b .comes c d h k .1 })
+
+-- ---- 16
+module _ {s : List ℕ} {from n m z : ℕ} {c : Cursor} {y : Step} (i : Named StructField s from n m) (j : z ≡ sizeOf settings of.StringUsize) (p : Paid refusals.structFieldIndex (m * z) c y) where
+  index-is : fieldIndex settings (map (fieldName settings) (itemsAt (structField settings) n s from)) ≡ pay refusals.structFieldIndex (m * z) ∷ over (keyAsks StructField) [] (itemsAt (structField settings) n s from)
+  index-is = rw (i .is, j, keys-over StructField (itemsAt (structField settings) n s from))
+
+  pub index-poor : {x : Refusal} → y ≡ Refused x → Asks (fieldIndex settings (map (fieldName settings) (itemsAt (structField settings) n s from))) c y
+  index-poor e = rw index-is (asks-poor p e)
+
+  pub index-then : {d : Cursor} {q : Step} → y ≡ Taken d → Asks (over (keyAsks StructField) [] (itemsAt (structField settings) n s from)) d q → Asks (fieldIndex settings (map (fieldName settings) (itemsAt (structField settings) n s from))) c q
+  index-then e a = rw index-is (asks-paid p e a)
+
+-- ---- 17
+module _ (i : Item) {s : List ℕ} {from n z : ℕ} {c : Cursor} {y : Step} (h : Items (formatOf i) n s from) (j : z ≡ sizeOf settings of.Str) (p : Paid refusals.interfaceMethodSet (n * (2 * z)) c y) where
+  method-set-is : methodSet settings (namesOf i (itemsAt (formatOf i) n s from)) ≡ pay refusals.interfaceMethodSet (n * (2 * z)) ∷ over (nameAsks i) [] (itemsAt (formatOf i) n s from)
+  method-set-is = rw (j, names-map i (itemsAt (formatOf i) n s from), map-length (nameOf i) (itemsAt (formatOf i) n s from), items-length (formatOf i) n s from, names-over i (itemsAt (formatOf i) n s from))
+
+  pub method-set-poor : {x : Refusal} → y ≡ Refused x → Asks (methodSet settings (namesOf i (itemsAt (formatOf i) n s from))) c y
+  method-set-poor e = rw method-set-is (asks-poor p e)
+
+  pub method-set-then : {d : Cursor} {q : Step} → y ≡ Taken d → Asks (over (nameAsks i) [] (itemsAt (formatOf i) n s from)) d q → Asks (methodSet settings (namesOf i (itemsAt (formatOf i) n s from))) c q
+  method-set-then e a = rw method-set-is (asks-paid p e a)
+
+-- ---- 19
+module _ {s : List ℕ} {from n z : ℕ} {c : Cursor} {y : Step} (h : Items (runtimeField settings) n s from) (j : z ≡ sizeOf settings of.StrStr) (p : Paid refusals.runtimeStructFieldSet (n * (2 * z)) c y) where
+  field-set-is : fieldSet settings (map (identity settings) (itemsAt (runtimeField settings) n s from)) ≡ pay refusals.runtimeStructFieldSet (n * (2 * z)) ∷ over identityAsks [] (itemsAt (runtimeField settings) n s from)
+  field-set-is = rw (j, map-length (identity settings) (itemsAt (runtimeField settings) n s from), items-length (runtimeField settings) n s from, identities-over (itemsAt (runtimeField settings) n s from))
+
+  pub field-set-poor : {x : Refusal} → y ≡ Refused x → Asks (fieldSet settings (map (identity settings) (itemsAt (runtimeField settings) n s from))) c y
+  field-set-poor e = rw field-set-is (asks-poor p e)
+
+  pub field-set-then : {d : Cursor} {q : Step} → y ≡ Taken d → Asks (over identityAsks [] (itemsAt (runtimeField settings) n s from)) d q → Asks (fieldSet settings (map (identity settings) (itemsAt (runtimeField settings) n s from))) c q
+  field-set-then e a = rw field-set-is (asks-paid p e a)
+
+-- ---- 18
+
+-- the names seen after n methods are theirs
+seen-methods : (x : List ℕ) (n : ℕ) (s : List ℕ) (from : ℕ) → among x (seenAt n s from) ≡ among x (contents NamedMethod (itemsAt (method settings) n s from))
+unfolding seenAt among itemsAt
+seen-methods x zero s from = refl
+seen-methods x (suc n) s from =
+    let v = valueAt (method settings) s (lastAt (method settings) n s from) in
+    ap (λ b. pick (same x (content (methodName settings v))) true b) (seen-methods x n s from)
+    ∙ sym (ap (λ vs. among x (contents NamedMethod vs)) (items-snoc (method settings) n s from) ∙ contents-snoc NamedMethod x (itemsAt (method settings) n s from) v)
+
+module _ {s : List ℕ} {from n : ℕ} {r r₁ : Step} where
+  pub method-refused : {x : Refusal} → r₁ ≡ Refused x → MethodAsked s from n r r₁ r₁
+  method-refused e = record { stays = λ y i. refl; asks = λ c d i j. apart j e }
+
+  pub method-skipped : {x : Refusal} {d : Cursor} → r ≡ Refused x → r₁ ≡ Taken d → MethodAsked s from n r r₁ (Taken d)
+  method-skipped e k = record { stays = λ y i. sym k; asks = λ c d i j. apart i e }
+
+  module _ {c d : Cursor} (h : r ≡ Taken c) (k : r₁ ≡ Taken d) where
+    method-asked : {q : Step} → Asks (methodAsks (seenAt n s from) (valueAt (method settings) s (c .place))) d q → MethodAsked s from n r r₁ q
+    method-asked {q} a = record { stays = λ y i. apart k i; asks = λ c′ d′ i j. go c′ d′ (cc) (cc) }
+      where
+        go : (c′ d′ : Cursor) → c′ ≡ c → d′ ≡ d → Asks (methodAsks (seenAt n s from) (valueAt (method settings) s (c′ .place))) d′ q
+        go c′ d′ x y = rw (x, y) a
+
+    module _ (b : MethodBehind s from n r r₁) where
+      pub method-at : After (method settings) s from n (c .place)
+      method-at = record { before = b .items; here = record { small = b .items .small; stands = b .comes c d h k } }
+
+      module _ {z : Bool} (w : Seen NamedMethod s from n (c .place) z) where
+        method-among : among (content (methodName settings (valueAt (method settings) s (c .place)))) (seenAt n s from) ≡ z
+        method-among = seen-methods _ n s from ∙ among-is method-at w
+
+        pub method-again : {q : Step} → z ≡ true → Repeated s (c .place) d refusals.duplicateNamedMethod 0 q → MethodAsked s from n r r₁ q
+        method-again e t = method-asked (refuse-yes _ (method-among ∙ e) (repeat-told NamedMethod method-at t))
+
+        pub method-new : z ≡ false → MethodAsked s from n r r₁ (Taken d)
+        method-new e = method-asked (refuse-no _ (method-among ∙ e))

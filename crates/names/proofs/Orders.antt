@@ -1,0 +1,150 @@
+-- The grammar's questions on a list are those on its items one by one, each by the items before it.
+use Prim.Native.Nat.{ℕ, suc, _+_}
+use mathlib.Core.Path.{_≡_, refl, ap, sym, _∙_}
+use mathlib.Core.List.{List, [], _∷_, _++_, map}
+use mathlib.Core.Bool.{Bool, true, false}
+use lib.ListN.{length}
+use Rattle.format.specs.Trace.{pick}
+use Rattle.format.specs.Format.{Value, content, pay}
+use Rattle.format.specs.Reading.{same}
+use Rattle.format.specs.Laying.{same-eq}
+use Rattle.vob24.specs.Refusals as refusals
+use Rattle.vob24.specs.Settings.{settings}
+use Rattle.vob24.specs.Questions.{refuseIf, among, blank, repeat, named, fieldKeys, newNames, Identity, amongIdentities, newIdentities}
+use Rattle.vob24.specs.Grammar.{identity}
+use Rattle.names.specs.declared.Item.{Item}
+use Rattle.names.specs.declared.Item.the-variants.{Name, StructField, InterfaceMethod, RuntimeMethod, NamedMethod, RuntimeField}
+use Rattle.names.specs.Items.{nameOf, namesOf, contents}
+use Rattle.names.specs.Asking.{over, keyAsks, nameAsks, identityAsks}
+
+pub names-map : (i : Item) (vs : List Value) → namesOf i vs ≡ map (nameOf i) vs
+names-map Name vs = all vs
+  where
+    all : (vs : List Value) → vs ≡ map (λ v. v) vs
+    all [] = refl
+    all (v ∷ vs) = ap (λ l. v ∷ l) (all vs)
+names-map StructField vs = refl
+names-map InterfaceMethod vs = refl
+names-map RuntimeMethod vs = refl
+names-map NamedMethod vs = refl
+names-map RuntimeField vs = refl
+
+map-snoc : {A B : Type 0} (f : A → B) (l : List A) (v : A) → map f (l ++ (v ∷ [])) ≡ map f l ++ (f v ∷ [])
+map-snoc f [] v = refl
+map-snoc f (x ∷ l) v = ap (λ m. f x ∷ m) (map-snoc f l v)
+
+pub map-length : {A B : Type 0} (f : A → B) (l : List A) → length (map f l) ≡ length l
+map-length f [] = refl
+map-length f (x ∷ l) = ap suc (map-length f l)
+
+pub among-snoc : (x y : List ℕ) (l : List (List ℕ)) → among x (l ++ (y ∷ [])) ≡ pick (same x y) true (among x l)
+unfolding among pick
+among-snoc x y [] = refl
+among-snoc x y (z ∷ l) = go (same x z) (same x y) (among-snoc x y l)
+  where
+    go : (a b : Bool) → among x (l ++ (y ∷ [])) ≡ pick b true (among x l) → pick a true (among x (l ++ (y ∷ []))) ≡ pick b true (pick a true (among x l))
+    go true true e = refl
+    go true false e = refl
+    go false true e = e
+    go false false e = e
+
+pub contents-snoc : (i : Item) (x : List ℕ) (before : List Value) (v : Value) → among x (contents i (before ++ (v ∷ []))) ≡ pick (same x (content (nameOf i v))) true (among x (contents i before))
+contents-snoc i x before v = ap (among x) (map-snoc (λ v. content (nameOf i v)) before v) ∙ among-snoc x (content (nameOf i v)) (contents i before)
+
+-- 17: every name is looked for among all before it
+abbrev Knows : Item → List (List ℕ) → List Value → Type 0
+Knows i seen before = (x : List ℕ) → among x seen ≡ among x (contents i before)
+
+names-from : (i : Item) (seen : List (List ℕ)) (before vs : List Value) → Knows i seen before → newNames seen (map (nameOf i) vs) ≡ over (nameAsks i) before vs
+unfolding over nameAsks newNames among
+names-from i seen before [] k = refl
+names-from i seen before (v ∷ vs) k = rw (k (content (nameOf i v)), names-from i (content (nameOf i v) ∷ seen) (before ++ (v ∷ [])) vs more)
+  where
+    more : Knows i (content (nameOf i v) ∷ seen) (before ++ (v ∷ []))
+    more x = ap (λ b. pick (same x (content (nameOf i v))) true b) (k x) ∙ sym (contents-snoc i x before v)
+
+pub names-over : (i : Item) (vs : List Value) → newNames [] (map (nameOf i) vs) ≡ over (nameAsks i) [] vs
+names-over i vs = names-from i [] [] vs (λ x. refl)
+
+-- 16: a name other than "_" is looked for among all before it, for "_" is none of them
+abbrev KnowsNamed : Item → List (List ℕ) → List Value → Type 0
+KnowsNamed i seen before = (x : List ℕ) → same x (95 ∷ []) ≡ false → among x seen ≡ among x (contents i before)
+
+keys-from : (i : Item) (seen : List (List ℕ)) (before vs : List Value) → KnowsNamed i seen before → fieldKeys seen (named (map (nameOf i) vs)) ≡ over (keyAsks i) before vs
+unfolding over keyAsks fieldKeys named among pick
+keys-from i seen before [] k = refl
+keys-from i seen before (v ∷ vs) k = go (blank (nameOf i v)) refl
+    (λ e. keys-from i seen (before ++ (v ∷ [])) vs (skip e))
+    (λ e. keys-from i (content (nameOf i v) ∷ seen) (before ++ (v ∷ [])) vs (keep e))
+  where
+    skip : blank (nameOf i v) ≡ true → KnowsNamed i seen (before ++ (v ∷ []))
+    skip e x j =
+        let c : content (nameOf i v) ≡ 95 ∷ [] = same-eq (content (nameOf i v)) (95 ∷ []) (rw e tt) in
+        let o : same x (content (nameOf i v)) ≡ false = rw c j in
+        k x j ∙ sym (contents-snoc i x before v ∙ rw o)
+
+    keep : blank (nameOf i v) ≡ false → KnowsNamed i (content (nameOf i v) ∷ seen) (before ++ (v ∷ []))
+    keep e x j = ap (λ b. pick (same x (content (nameOf i v))) true b) (k x j) ∙ sym (contents-snoc i x before v)
+
+    go : (b : Bool) → blank (nameOf i v) ≡ b
+        → (blank (nameOf i v) ≡ true → fieldKeys seen (named (map (nameOf i) vs)) ≡ over (keyAsks i) (before ++ (v ∷ [])) vs)
+        → (blank (nameOf i v) ≡ false → fieldKeys (content (nameOf i v) ∷ seen) (named (map (nameOf i) vs)) ≡ over (keyAsks i) (before ++ (v ∷ [])) vs)
+        → fieldKeys seen (pick b (named (map (nameOf i) vs)) (nameOf i v ∷ named (map (nameOf i) vs)))
+        ≡ pick b [] (pay refusals.structFieldKey (length (content (nameOf i v))) ∷ refuseIf (among (content (nameOf i v)) (contents i before)) (repeat refusals.duplicateStructField 0 (nameOf i v))) ++ over (keyAsks i) (before ++ (v ∷ [])) vs
+    go true e o u = o e
+    go false e o u = rw (k (content (nameOf i v)) e, u e)
+
+pub keys-over : (i : Item) (vs : List Value) → fieldKeys [] (named (map (nameOf i) vs)) ≡ over (keyAsks i) [] vs
+keys-over i vs = keys-from i [] [] vs (λ x e. refl)
+
+-- 19: the same of a package and a name
+abbrev KnowsIdentities : List Identity → List Value → Type 0
+KnowsIdentities seen before = (x : Identity) → blank (x .1) ≡ false → amongIdentities x seen ≡ amongIdentities x (map (identity settings) before)
+
+identities-snoc : (x y : Identity) (l : List Identity) → amongIdentities x (l ++ (y ∷ [])) ≡ amongIdentities x (y ∷ l)
+unfolding amongIdentities pick
+identities-snoc x y [] = refl
+identities-snoc x y (z ∷ l) = go (same (content (x .1)) (content (z .1))) (same (content (x .0)) (content (z .0))) (same (content (x .1)) (content (y .1))) (same (content (x .0)) (content (y .0))) (identities-snoc x y l)
+  where
+    go : (a b c d : Bool) → amongIdentities x (l ++ (y ∷ [])) ≡ pick c (pick d true (amongIdentities x l)) (amongIdentities x l)
+        → pick a (pick b true (amongIdentities x (l ++ (y ∷ [])))) (amongIdentities x (l ++ (y ∷ [])))
+        ≡ pick c (pick d true (pick a (pick b true (amongIdentities x l)) (amongIdentities x l))) (pick a (pick b true (amongIdentities x l)) (amongIdentities x l))
+    go true true true true e = refl
+    go true true true false e = refl
+    go true true false d e = refl
+    go true false true true e = e
+    go true false true false e = e
+    go true false false d e = e
+    go false b true true e = e
+    go false b true false e = e
+    go false b false d e = e
+
+identities-from : (seen : List Identity) (before vs : List Value) → KnowsIdentities seen before → newIdentities seen (map (identity settings) vs) ≡ over identityAsks before vs
+unfolding over identityAsks newIdentities amongIdentities pick
+identities-from seen before [] k = refl
+identities-from seen before (v ∷ vs) k = go (blank (identity settings v .1)) refl
+    (λ e. identities-from seen (before ++ (v ∷ [])) vs (skip e))
+    (λ e. identities-from (identity settings v ∷ seen) (before ++ (v ∷ [])) vs (keep e))
+  where
+    snoc : (x : Identity) → amongIdentities x (map (identity settings) (before ++ (v ∷ []))) ≡ amongIdentities x (identity settings v ∷ map (identity settings) before)
+    snoc x = ap (amongIdentities x) (map-snoc (identity settings) before v) ∙ identities-snoc x (identity settings v) (map (identity settings) before)
+
+    skip : blank (identity settings v .1) ≡ true → KnowsIdentities seen (before ++ (v ∷ []))
+    skip e x j =
+        let c : content (identity settings v .1) ≡ 95 ∷ [] = same-eq (content (identity settings v .1)) (95 ∷ []) (rw e tt) in
+        let o : same (content (x .1)) (content (identity settings v .1)) ≡ false = rw c j in
+        k x j ∙ sym (snoc x ∙ rw o)
+
+    keep : blank (identity settings v .1) ≡ false → KnowsIdentities (identity settings v ∷ seen) (before ++ (v ∷ []))
+    keep e x j = ap (λ b. pick (same (content (x .1)) (content (identity settings v .1))) (pick (same (content (x .0)) (content (identity settings v .0))) true b) b) (k x j) ∙ sym (snoc x)
+
+    go : (b : Bool) → blank (identity settings v .1) ≡ b
+        → (blank (identity settings v .1) ≡ true → newIdentities seen (map (identity settings) vs) ≡ over identityAsks (before ++ (v ∷ [])) vs)
+        → (blank (identity settings v .1) ≡ false → newIdentities (identity settings v ∷ seen) (map (identity settings) vs) ≡ over identityAsks (before ++ (v ∷ [])) vs)
+        → refuseIf (pick b false (amongIdentities (identity settings v) seen)) (repeat refusals.duplicateRuntimeStructField (Rattle.format.specs.Format.start (identity settings v .0)) (identity settings v .1)) ++ newIdentities (pick b seen (identity settings v ∷ seen)) (map (identity settings) vs)
+        ≡ pick b [] (refuseIf (amongIdentities (identity settings v) (map (identity settings) before)) (repeat refusals.duplicateRuntimeStructField (Rattle.format.specs.Format.start (identity settings v .0)) (identity settings v .1))) ++ over identityAsks (before ++ (v ∷ [])) vs
+    go true e o u = o e
+    go false e o u = rw (k (identity settings v) e, u e)
+
+pub identities-over : (vs : List Value) → newIdentities [] (map (identity settings) vs) ≡ over identityAsks [] vs
+identities-over vs = identities-from [] [] vs (λ x e. refl)

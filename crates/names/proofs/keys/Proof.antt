@@ -1,0 +1,63 @@
+use borrow.Author.Needs.{needs}
+use Rattle.names.proofs.Asking.{asking}
+use Rattle.names.proofs.Asking.{Asking}
+use Prim.Native.Nat.{_-_}
+use Rattle.vob24.specs.Settings.{settings}
+use Rattle.vob24.specs.Grammar.{structField}
+use Rattle.names.specs.declared.Item.the-variants.{StructField}
+use Rattle.names.specs.Asking.{keyAsks}
+use Rattle.names.proofs.keys.Statement.{statement}
+use Rattle.names.proofs.keys.Tie as tie
+
+abbrev Inv-loop : tie.InvT-loop
+Inv-loop s from n p₀ i₀ here₀ p i here = Asking (structField settings) (keyAsks StructField) s from n here₀ p i here
+
+abbrev μ-loop : tie.MeasureT-loop
+μ-loop s from n p₀ i₀ here₀ p i here = n - i
+
+loop-holds : tie.Need-loop-holds Inv-loop μ-loop
+loop-holds c = search (needs, asking)
+
+key-requires : tie.Need-key-requires Inv-loop μ-loop
+key-requires c κs = search (needs, asking)
+
+enum-known-step : tie.Need-enum-known-step Inv-loop μ-loop
+enum-known-step c = search (needs, asking)
+
+enum-told : tie.Need-enum-told Inv-loop μ-loop
+enum-told c = search (needs, asking)
+
+returns : tie.Need-returns Inv-loop μ-loop
+returns c = search (needs, asking)
+
+past-requires : tie.Need-past-requires Inv-loop μ-loop
+past-requires c κs = search (needs, asking)
+
+add-i : tie.Need-add-i Inv-loop μ-loop
+add-i c = search (needs, asking)
+
+loop-less : tie.Need-loop-less Inv-loop μ-loop
+loop-less c = search (needs, asking)
+
+loop-again : tie.Need-loop-again Inv-loop μ-loop
+loop-again c = search (needs, asking)
+
+returns-2 : tie.Need-returns-2 Inv-loop μ-loop
+returns-2 c = search (needs, asking)
+
+pub keys-spec : {M : Type 1} → statement M
+keys-spec =
+    tie.close
+    (tie.spec
+    Inv-loop
+    μ-loop
+    loop-holds
+    key-requires
+    enum-known-step
+    enum-told
+    returns
+    past-requires
+    add-i
+    loop-less
+    loop-again
+    returns-2)

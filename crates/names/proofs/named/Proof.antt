@@ -1,0 +1,55 @@
+use borrow.Author.Needs.{needs}
+use Rattle.names.proofs.Repeats.{repeats}
+use Rattle.names.proofs.Repeats.{Counting}
+use Rattle.names.specs.declared.Item.the-variants.{StructField}
+use Rattle.names.proofs.named.Statement.{statement}
+use Rattle.names.proofs.named.Tie as tie
+
+abbrev Inv-loop : tie.InvT-loop
+Inv-loop s from n at₀ k₀ m₀ at k m = Counting StructField s from n at k m
+
+abbrev μ-loop : tie.MeasureT-loop
+μ-loop s from n at₀ k₀ m₀ at k m = k
+
+loop-holds : tie.Need-loop-holds Inv-loop μ-loop
+loop-holds c = search (needs, repeats)
+
+blank-requires : tie.Need-blank-requires Inv-loop μ-loop
+blank-requires c κs = search (needs, repeats)
+
+one-unless-requires : tie.Need-one-unless-requires Inv-loop μ-loop
+one-unless-requires c κs = search (needs, repeats)
+
+add-m : tie.Need-add-m Inv-loop μ-loop
+add-m c = search (needs, repeats)
+
+past-requires : tie.Need-past-requires Inv-loop μ-loop
+past-requires c κs = search (needs, repeats)
+
+sub-k : tie.Need-sub-k Inv-loop μ-loop
+sub-k c = search (needs, repeats)
+
+loop-less : tie.Need-loop-less Inv-loop μ-loop
+loop-less c = search (needs, repeats)
+
+loop-again : tie.Need-loop-again Inv-loop μ-loop
+loop-again c = search (needs, repeats)
+
+returns : tie.Need-returns Inv-loop μ-loop
+returns c = search (needs, repeats)
+
+pub named-spec : {M : Type 1} → statement M
+named-spec =
+    tie.close
+    (tie.spec
+    Inv-loop
+    μ-loop
+    loop-holds
+    blank-requires
+    one-unless-requires
+    add-m
+    past-requires
+    sub-k
+    loop-less
+    loop-again
+    returns)

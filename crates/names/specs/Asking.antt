@@ -1,0 +1,53 @@
+-- The questions on the items of a list one by one, each by the items before it.
+use Prim.Native.Nat.{ℕ, zero, suc, _+_}
+use mathlib.Core.List.{List, [], _∷_, _++_, map}
+use lib.ListN.{length}
+use Rattle.format.specs.Trace.{pick}
+use Rattle.format.specs.Format.{Value, start, content, Ask, pay}
+use Rattle.vob24.specs.Refusals as refusals
+use Rattle.vob24.specs.Settings.{settings}
+use Rattle.vob24.specs.Leaves.{packedOk}
+use Rattle.vob24.specs.Questions.{refuseIf, refuseUnless, among, blank, repeat, amongIdentities, functionWrong}
+use Rattle.vob24.specs.Grammar.{method, methodName, identity, transferred}
+use Rattle.names.specs.declared.Item.{Item}
+use Rattle.names.specs.Items.{nameOf, contents}
+use Rattle.names.specs.Walk.{valueAt, lastAt}
+
+unfoldable pub over : (List Value → Value → List Ask) → List Value → List Value → List Ask
+over ask before [] = []
+over ask before (v ∷ vs) = ask before v ++ over ask (before ++ (v ∷ [])) vs
+
+-- 16: the key's charge, and that it is new; "_" is no key
+unfoldable pub keyAsks : Item → List Value → Value → List Ask
+keyAsks i before v =
+    pick (blank (nameOf i v)) []
+    (pay refusals.structFieldKey (length (content (nameOf i v)))
+    ∷ refuseIf (among (content (nameOf i v)) (contents i before)) (repeat refusals.duplicateStructField 0 (nameOf i v)))
+
+-- 17
+unfoldable pub nameAsks : Item → List Value → Value → List Ask
+nameAsks i before v = refuseIf (among (content (nameOf i v)) (contents i before)) (repeat refusals.duplicateInterfaceMethod 0 (nameOf i v))
+
+-- 19: "_" is exempt
+unfoldable pub identityAsks : List Value → Value → List Ask
+identityAsks before v =
+    pick (blank (identity settings v .1)) []
+    (refuseIf (amongIdentities (identity settings v) (map (identity settings) before)) (repeat refusals.duplicateRuntimeStructField (start (identity settings v .0)) (identity settings v .1)))
+
+-- 20: the words meta and rttid of the entry numbered i; c is the context of the meta word
+unfoldable pub transferAsks : ℕ → ℕ → Value → List Ask
+transferAsks c i v =
+    refuseUnless (packedOk (transferred settings v .0)) (functionWrong c i (transferred settings v .0))
+    ++ refuseUnless (packedOk (transferred settings v .1)) (functionWrong (c + 1) i (transferred settings v .1))
+
+abbrev pub transferOver : ℕ → List Value → Value → List Ask
+transferOver c before v = transferAsks c (length before) v
+
+-- the names of the first i methods from a place on, as the named type's list has them after i methods
+unfoldable pub seenAt : ℕ → List ℕ → ℕ → List (List ℕ)
+seenAt zero s p = []
+seenAt (suc i) s p = content (methodName settings (valueAt (method settings) s (lastAt (method settings) i s p))) ∷ seenAt i s p
+
+-- 18
+abbrev pub methodAsks : List (List ℕ) → Value → List Ask
+methodAsks seen v = refuseIf (among (content (methodName settings v)) seen) (repeat refusals.duplicateNamedMethod 0 (methodName settings v))
