@@ -8,9 +8,13 @@ use reader::numbers;
 
 pub const MAX_PACK_BYTES: usize = 134_217_728;
 
-// Taken: words, bytes taken, charged, left.
 pub enum Answer {
-    Taken(usize, usize, u64, u64),
+    Taken {
+        words: usize,
+        bytes: usize,
+        charged: u64,
+        left: u64,
+    },
     Refused(Refusal),
 }
 
@@ -87,7 +91,12 @@ pub fn closed(first: Step, place: usize, budget: u64, room: usize) -> Answer
                     left: c.left,
                 });
             }
-            Answer::Taken(words, c.place - place, budget - c.left, c.left)
+            Answer::Taken {
+                words,
+                bytes: c.place - place,
+                charged: budget - c.left,
+                left: c.left,
+            }
         }
     }
 }
