@@ -34,7 +34,7 @@ pub enum Item {
 // ---- texts
 
 // The four-byte number at p.
-fn word_at(s: &[u8], p: usize) -> usize
+pub fn word_at(s: &[u8], p: usize) -> usize
     requires { ⌜ p + 4 ≤ length (now s) ⌝ }
     ensures { λ q. ⌜ WordIs (now (s .entry)) p q ⌝ }
 {

@@ -1,0 +1,66 @@
+use Rattle.reader.proofs.Laws.{reading}
+use Rattle.reader.proofs.Parts.{parts}
+use borrow.Author.Needs.{needs}
+use Rattle.debug_info.proofs.optional_span.Statement.{statement}
+use Rattle.debug_info.proofs.optional_span.Tie as tie
+
+enum-known-r : tie.Need-enum-known-r
+enum-known-r c = search needs
+
+enum-told : tie.Need-enum-told
+enum-told c = search needs
+
+returns : tie.Need-returns
+returns c = search (needs, reading, parts)
+
+number-bool-requires : tie.Need-number-bool-requires
+number-bool-requires c κs = search (needs, reading, parts)
+
+enum-known-q : tie.Need-enum-known-q
+enum-known-q c = search needs
+
+enum-told-2 : tie.Need-enum-told-2
+enum-told-2 c = search needs
+
+refused-requires : tie.Need-refused-requires
+refused-requires c κs = search needs
+
+same-length : tie.Need-same-length
+same-length c = search needs
+
+returns-2 : tie.Need-returns-2
+returns-2 c = search (needs, reading, parts)
+
+same-length-2 : tie.Need-same-length-2
+same-length-2 c = search needs
+
+returns-3 : tie.Need-returns-3
+returns-3 c = search (needs, reading, parts)
+
+span-requires : tie.Need-span-requires
+span-requires c κs = search (needs, reading, parts)
+
+same-length-3 : tie.Need-same-length-3
+same-length-3 c = search needs
+
+returns-4 : tie.Need-returns-4
+returns-4 c = search (needs, reading, parts)
+
+pub optional-span-spec : {M : Type 1} → statement M
+optional-span-spec =
+    tie.close
+    (tie.spec
+    enum-known-r
+    enum-told
+    returns
+    number-bool-requires
+    enum-known-q
+    enum-told-2
+    refused-requires
+    same-length
+    returns-2
+    same-length-2
+    returns-3
+    span-requires
+    same-length-3
+    returns-4)

@@ -1,0 +1,232 @@
+// The functions section: each function's head, returns, traits, slot types, code, captures and parameters.
+// Ports FunctionDef of bytecode.rs and its reading in serialize.rs. Transfer words are judged after their whole list, the slot
+// count last of all; the list hands out how many functions there are, by which the inline sources are limited.
+ghost use Rattle.format.specs.Format.{counted};
+ghost use Rattle.reader.specs.Contract.{Ready, ReadyAt, Reader, NumberOf};
+ghost use Rattle.functions.specs.Formats.{heapSlots, codeFormat, transferFormat, transferList, captureTypes, paramTypes, functionHead, functionReturns, functionTraits, functionBody, functionSlots, functionFormat, functionList};
+use reader::Cursor;
+use reader::Number;
+use reader::Refusal;
+use reader::Step;
+use reader::numbers;
+use reader::sizes;
+
+// The contexts of 20: the meta word of a capture and of a parameter, whose rttid word is one more, and the slot count.
+const CAPTURE_META: u64 = 1;
+
+const PARAMETER_META: u64 = 3;
+
+const SLOT_COUNT: u64 = 5;
+
+// ---- code
+
+// code, instruction_metadata; then 15 unless they are as many
+fn code(s: &[u8], r: Step, tape: &mut [u32]) -> Step
+    requires { ⌜ Ready (now s) r ⌝ }
+    ensures { λ q. ⌜ Reader codeFormat (now (s .entry)) r (now (tape .entry)) q (now (tape .exit)) ⌝ }
+{
+    let Step::Taken(c) = r else {
+        return r;
+    };
+    let p = instruction::number_instructions(s, c, tape);
+    let Number::Got(instructions, d) = p else {
+        return reader::refused(p);
+    };
+    let q = instruction::number_instruction_metadata(s, d, tape);
+    let Number::Got(metadata, e) = q else {
+        return reader::refused(q);
+    };
+    if metadata != instructions {
+        return Step::Refused(reader::refuse(e, numbers::INVALID_INSTRUCTION_METADATA, 0));
+    }
+    Step::Taken(e)
+}
+
+// ---- transfer types
+
+// meta_raw, rttid_raw, slots
+fn transfer_type(s: &[u8], r: Step, tape: &mut [u32]) -> Step
+    requires { ⌜ Ready (now s) r ⌝ }
+    ensures { λ q. ⌜ Reader transferFormat (now (s .entry)) r (now (tape .entry)) q (now (tape .exit)) ⌝ }
+{
+    let meta = fields::field_u32(s, r, tape);
+    let rttid = fields::field_u32(s, meta, tape);
+    fields::field_u16(s, rttid, tape)
+}
+
+fn transfer_types(s: &[u8], r: Step, tape: &mut [u32]) -> Step
+    requires { ⌜ Ready (now s) r ⌝ }
+    ensures { λ q. ⌜ Reader transferList (now (s .entry)) r (now (tape .entry)) q (now (tape .exit)) ⌝ }
+{
+    let Step::Taken(c) = r else {
+        return r;
+    };
+    let q = fields::number_count(s, c, sizes::TRANSFER_TYPE, tape);
+    let Number::Got(n, d) = q else {
+        return reader::refused(q);
+    };
+    let mut k = n;
+    let mut here = Step::Taken(d);
+    while 0 < k {
+        here = transfer_type(s, here, tape);
+        let Step::Taken(_) = here else {
+            return here;
+        };
+        k -= 1;
+    }
+    here
+}
+
+fn capture_types(s: &[u8], r: Step, tape: &mut [u32]) -> Step
+    requires { ⌜ Ready (now s) r ⌝ }
+    ensures { λ q. ⌜ Reader captureTypes (now (s .entry)) r (now (tape .entry)) q (now (tape .exit)) ⌝ }
+{
+    let list = transfer_types(s, r, tape);
+    names::transfer_words(s, CAPTURE_META, r, list)
+}
+
+fn param_types(s: &[u8], r: Step, tape: &mut [u32]) -> Step
+    requires { ⌜ Ready (now s) r ⌝ }
+    ensures { λ q. ⌜ Reader paramTypes (now (s .entry)) r (now (tape .entry)) q (now (tape .exit)) ⌝ }
+{
+    let list = transfer_types(s, r, tape);
+    names::transfer_words(s, PARAMETER_META, r, list)
+}
+
+// ---- functions
+
+// name, param_count, param_slots
+fn function_head(s: &[u8], r: Step, tape: &mut [u32]) -> Step
+    requires { ⌜ Ready (now s) r ⌝ }
+    ensures { λ q. ⌜ Reader functionHead (now (s .entry)) r (now (tape .entry)) q (now (tape .exit)) ⌝ }
+{
+    let name = fields::field_str(s, r, tape);
+    let param_count = fields::field_u16(s, name, tape);
+    fields::field_u16(s, param_count, tape)
+}
+
+fn heap_ret_slots(s: &[u8], r: Step, tape: &mut [u32]) -> Step
+    requires { ⌜ Ready (now s) r ⌝ }
+    ensures { λ q. ⌜ Reader heapSlots (now (s .entry)) r (now (tape .entry)) q (now (tape .exit)) ⌝ }
+{
+    let Step::Taken(c) = r else {
+        return r;
+    };
+    let q = fields::number_count(s, c, sizes::U16, tape);
+    let Number::Got(n, d) = q else {
+        return reader::refused(q);
+    };
+    let mut k = n;
+    let mut here = Step::Taken(d);
+    while 0 < k {
+        here = fields::field_u16(s, here, tape);
+        let Step::Taken(_) = here else {
+            return here;
+        };
+        k -= 1;
+    }
+    here
+}
+
+// ret_slots, ret_slot_types, recv_slots, heap_ret_gcref_count, heap_ret_gcref_start, heap_ret_slots
+fn function_returns(s: &[u8], r: Step, tape: &mut [u32]) -> Step
+    requires { ⌜ Ready (now s) r ⌝ }
+    ensures { λ q. ⌜ Reader functionReturns (now (s .entry)) r (now (tape .entry)) q (now (tape .exit)) ⌝ }
+{
+    let ret_slots = fields::field_u16(s, r, tape);
+    let ret_slot_types = slots::slot_types(s, ret_slots, tape);
+    let recv_slots = fields::field_u16(s, ret_slot_types, tape);
+    let gcref_count = fields::field_u16(s, recv_slots, tape);
+    let gcref_start = fields::field_u16(s, gcref_count, tape);
+    heap_ret_slots(s, gcref_start, tape)
+}
+
+// is_closure, error_ret_slot, has_defer
+fn function_traits(s: &[u8], r: Step, tape: &mut [u32]) -> Step
+    requires { ⌜ Ready (now s) r ⌝ }
+    ensures { λ q. ⌜ Reader functionTraits (now (s .entry)) r (now (tape .entry)) q (now (tape .exit)) ⌝ }
+{
+    let is_closure = fields::field_bool(s, r, tape);
+    let error_ret_slot = fields::field_u32(s, is_closure, tape);
+    fields::field_bool(s, error_ret_slot, tape)
+}
+
+// code, instruction_metadata, capture_types, capture_slot_types, param_types; then 20 unless there are as many slot types as
+// local slots
+fn function_body(s: &[u8], r: Step, types: u64, locals: u64, tape: &mut [u32]) -> Step
+    requires { ⌜ Ready (now s) r ⌝ }
+    ensures { λ q. ⌜ Reader (functionBody types locals) (now (s .entry)) r (now (tape .entry)) q (now (tape .exit)) ⌝ }
+{
+    let code = code(s, r, tape);
+    let captures = capture_types(s, code, tape);
+    let capture_slot_types = slots::slot_types(s, captures, tape);
+    let params = param_types(s, capture_slot_types, tape);
+    let Step::Taken(c) = params else {
+        return params;
+    };
+    if types != locals {
+        return Step::Refused(Refusal {
+            number: numbers::INVALID_FUNCTION_METADATA,
+            context: SLOT_COUNT,
+            detail1: types,
+            detail2: locals,
+            place: c.place,
+            left: c.left,
+        });
+    }
+    Step::Taken(c)
+}
+
+// slot_types, and the body
+fn function_slots(s: &[u8], r: Step, locals: u64, tape: &mut [u32]) -> Step
+    requires { ⌜ Ready (now s) r ⌝ }
+    ensures { λ q. ⌜ Reader (functionSlots locals) (now (s .entry)) r (now (tape .entry)) q (now (tape .exit)) ⌝ }
+{
+    let Step::Taken(c) = r else {
+        return r;
+    };
+    let q = instruction::number_slot_types(s, c, tape);
+    let Number::Got(types, d) = q else {
+        return reader::refused(q);
+    };
+    function_body(s, Step::Taken(d), types, locals, tape)
+}
+
+// local_slots stands after the head
+pub fn function(s: &[u8], r: Step, tape: &mut [u32]) -> Step
+    requires { ⌜ Ready (now s) r ⌝ }
+    ensures { λ q. ⌜ Reader functionFormat (now (s .entry)) r (now (tape .entry)) q (now (tape .exit)) ⌝ }
+{
+    let head = function_head(s, r, tape);
+    let Step::Taken(c) = head else {
+        return head;
+    };
+    let q = fields::number_u16(s, c, tape);
+    let Number::Got(locals, d) = q else {
+        return reader::refused(q);
+    };
+    let returns = function_returns(s, Step::Taken(d), tape);
+    let traits = function_traits(s, returns, tape);
+    function_slots(s, traits, locals, tape)
+}
+
+// Hands out how many they are.
+pub fn number_functions(s: &[u8], c: Cursor, tape: &mut [u32]) -> Number
+    requires { ⌜ ReadyAt (now s) c ⌝ }
+    ensures { λ q. ⌜ NumberOf functionList counted (now (s .entry)) c (now (tape .entry)) q (now (tape .exit)) ⌝ }
+{
+    let q = fields::number_count(s, c, sizes::FUNCTION_DEF, tape);
+    let Number::Got(n, d) = q else {
+        return q;
+    };
+    let mut k = n;
+    let mut here = Step::Taken(d);
+    while 0 < k {
+        here = function(s, here, tape);
+        let Step::Taken(_) = here else {
+            return reader::with(n, here);
+        };
+        k -= 1;
+    }
+    reader::with(n, here)
+}

@@ -1,0 +1,559 @@
+// Instructions, and the metadata beside each: the code of a function.
+// Ports instruction.rs, and InstructionMetadata and SelectCaseLayout of bytecode.rs with their reading in serialize.rs. A
+// metadata is answered as an enum without lists, held in a record beside its lists' starts and counts.
+ghost use mathlib.Core.Path.{_≡_};
+ghost use Prim.Native.Nat.{_+_};
+ghost use Rattle.format.specs.Format.{counted};
+ghost use Rattle.vob24.specs.Settings.{settings};
+ghost use Rattle.vob24.specs.Leaves.{u16, u32};
+ghost use Rattle.vob24.specs.Grammar.{slotTypes};
+ghost use Rattle.reader.specs.Contract.{stepOf, Ready, ReadyAt, Reader, NumberOf};
+ghost use Rattle.instruction.specs.Records.{instructionFormat, instructionList, metadataFormat, metadataList, selectFormat, selectList, twoLayouts, elemLayout, mapGet, slotLayout, ifaceAssert, callIface, sendFormat, recvFormat, bareOf, oneOf, twoOf, elemOf, mapGetOf, loopEndOf, slotOf, assertOf, callIfaceOf, metadataOf, sendOf, recvOf, selectOf};
+ghost use Rattle.instruction.specs.Contract.{Fitting, metadataStep, MetadataReader, selectStep, SelectReader};
+use reader::Cursor;
+use reader::Number;
+use reader::Refusal;
+use reader::Step;
+use reader::sizes;
+use records::Items;
+
+// What stands beside an instruction, without its lists.
+pub enum Metadata {
+    None,
+    ElemLayout {
+        elem_bytes: u32,
+        needs_sign_extend: bool,
+    },
+    MapGet {
+        has_ok: bool,
+    },
+    MapSet,
+    MapDelete,
+    LoopEnd {
+        end_pc: u32,
+    },
+    PtrLayout,
+    SlotLayout {
+        array_len: u16,
+    },
+    CallLayout,
+    CallExternLayout,
+    QueueLayout,
+    MapIterNext,
+    IfaceAssertLayout {
+        assert_kind: u8,
+        target_id: u32,
+    },
+    MapNew,
+    CallIfaceLayout {
+        iface_meta_id: u32,
+        method_idx: u32,
+    },
+    SelectExecLayout,
+}
+
+// A metadata and its lists in file order; a list that it has not is empty.
+pub struct MetadataRecord {
+    pub kind: Metadata,
+    pub first: Items,
+    pub second: Items,
+}
+
+pub enum MetadataRead {
+    Got(MetadataRecord, Cursor),
+    Not(Refusal),
+}
+
+pub enum SelectCase {
+    Send {
+        queue: u16,
+        value: u16,
+        elem_slots: u16,
+    },
+    Recv {
+        destination: u16,
+        queue: u16,
+        elem_slots: u16,
+        has_ok: bool,
+    },
+}
+
+pub enum SelectCaseRead {
+    Got(SelectCase, Cursor),
+    Not(Refusal),
+}
+
+// ---- instructions
+
+// op, flags, a, b, c
+pub fn instruction(s: &[u8], r: Step, tape: &mut [u32]) -> Step
+    requires { ⌜ Ready (now s) r ⌝ }
+    ensures { λ q. ⌜ Reader instructionFormat (now (s .entry)) r (now (tape .entry)) q (now (tape .exit)) ⌝ }
+{
+    let op = fields::field_u8(s, r, tape);
+    let flags = fields::field_u8(s, op, tape);
+    let a = fields::field_u16(s, flags, tape);
+    let b = fields::field_u16(s, a, tape);
+    fields::field_u16(s, b, tape)
+}
+
+// Hands out how many they are.
+pub fn number_instructions(s: &[u8], c: Cursor, tape: &mut [u32]) -> Number
+    requires { ⌜ ReadyAt (now s) c ⌝ }
+    ensures { λ q. ⌜ NumberOf instructionList counted (now (s .entry)) c (now (tape .entry)) q (now (tape .exit)) ⌝ }
+{
+    let q = fields::number_count(s, c, sizes::INSTRUCTION, tape);
+    let Number::Got(n, d) = q else {
+        return q;
+    };
+    let mut k = n;
+    let mut here = Step::Taken(d);
+    while 0 < k {
+        here = instruction(s, here, tape);
+        let Step::Taken(_) = here else {
+            return reader::with(n, here);
+        };
+        k -= 1;
+    }
+    reader::with(n, here)
+}
+
+// ---- the parts of a metadata
+
+// A u32 or u16, known to fit its type.
+fn number_word(s: &[u8], c: Cursor, tape: &mut [u32]) -> Number
+    requires { ⌜ ReadyAt (now s) c ⌝ }
+    ensures { λ q. ⌜ Fitting 4294967296 u32 (now (s .entry)) c (now (tape .entry)) q (now (tape .exit)) ⌝ }
+{
+    let q = reader::read_u32(s, c);
+    let Number::Got(n, d) = q else {
+        return q;
+    };
+    Number::Got(n, reader::keep(d, n, tape))
+}
+
+fn number_half(s: &[u8], c: Cursor, tape: &mut [u32]) -> Number
+    requires { ⌜ ReadyAt (now s) c ⌝ }
+    ensures { λ q. ⌜ Fitting 65536 u16 (now (s .entry)) c (now (tape .entry)) q (now (tape .exit)) ⌝ }
+{
+    let q = reader::read_u16(s, c);
+    let Number::Got(n, d) = q else {
+        return q;
+    };
+    Number::Got(n, reader::keep(d, n, tape))
+}
+
+// A list of slot types; hands out how many they are.
+pub fn number_slot_types(s: &[u8], c: Cursor, tape: &mut [u32]) -> Number
+    requires { ⌜ ReadyAt (now s) c ⌝ }
+    ensures { λ q. ⌜ NumberOf (slotTypes settings) counted (now (s .entry)) c (now (tape .entry)) q (now (tape .exit)) ⌝ }
+{
+    let q = fields::number_count(s, c, sizes::SLOT_TYPE, tape);
+    let Number::Got(n, d) = q else {
+        return q;
+    };
+    let mut k = n;
+    let mut here = Step::Taken(d);
+    while 0 < k {
+        here = fields::field_slot_type(s, here, tape);
+        let Step::Taken(_) = here else {
+            return reader::with(n, here);
+        };
+        k -= 1;
+    }
+    reader::with(n, here)
+}
+
+// The n entries of the list whose count stands at the cursor.
+fn items_at(s: &[u8], c: Cursor, n: u64) -> Items
+    requires { ⌜ ReadyAt (now s) c ⌝ }
+    ensures { λ q. ⌜ q ≡ record { start = c .place + 4; count = n } ⌝ }
+{
+    let place = c.place;
+    Items {
+        start: place + 4,
+        count: n as usize,
+    }
+}
+
+// A metadata that has no list.
+fn bare(kind: Metadata) -> MetadataRecord
+    ensures { λ q. ⌜ q ≡ bareOf kind ⌝ }
+{
+    MetadataRecord {
+        kind,
+        first: Items { start: 0, count: 0 },
+        second: Items { start: 0, count: 0 },
+    }
+}
+
+// A part that was not got: its refusal.
+fn not_metadata(q: Number) -> MetadataRead
+    ensures { λ r. ⌜ metadataStep r ≡ stepOf q ⌝ }
+{
+    match q {
+        Number::Got(_, c) => MetadataRead::Got(bare(Metadata::None), c),
+        Number::Not(x) => MetadataRead::Not(x),
+    }
+}
+
+// ---- metadata by their shapes
+
+// One slot layout.
+fn layout(s: &[u8], c: Cursor, kind: Metadata, tape: &mut [u32]) -> MetadataRead
+    requires { ⌜ ReadyAt (now s) c ⌝ }
+    ensures { λ q. ⌜ MetadataReader (slotTypes settings) (oneOf kind) (now (s .entry)) c (now (tape .entry)) q (now (tape .exit)) ⌝ }
+{
+    let q = number_slot_types(s, c, tape);
+    let Number::Got(n, d) = q else {
+        return not_metadata(q);
+    };
+    MetadataRead::Got(
+        MetadataRecord {
+            kind,
+            first: items_at(s, c, n),
+            second: Items { start: 0, count: 0 },
+        },
+        d,
+    )
+}
+
+// Two slot layouts.
+fn layouts(s: &[u8], c: Cursor, kind: Metadata, tape: &mut [u32]) -> MetadataRead
+    requires { ⌜ ReadyAt (now s) c ⌝ }
+    ensures { λ q. ⌜ MetadataReader twoLayouts (twoOf kind) (now (s .entry)) c (now (tape .entry)) q (now (tape .exit)) ⌝ }
+{
+    let q1 = number_slot_types(s, c, tape);
+    let Number::Got(m, d) = q1 else {
+        return not_metadata(q1);
+    };
+    let q2 = number_slot_types(s, d, tape);
+    let Number::Got(n, e) = q2 else {
+        return not_metadata(q2);
+    };
+    MetadataRead::Got(
+        MetadataRecord {
+            kind,
+            first: items_at(s, c, m),
+            second: items_at(s, d, n),
+        },
+        e,
+    )
+}
+
+// elem_bytes, needs_sign_extend, slot_layout
+fn elem_layout(s: &[u8], c: Cursor, tape: &mut [u32]) -> MetadataRead
+    requires { ⌜ ReadyAt (now s) c ⌝ }
+    ensures { λ q. ⌜ MetadataReader elemLayout elemOf (now (s .entry)) c (now (tape .entry)) q (now (tape .exit)) ⌝ }
+{
+    let q1 = number_word(s, c, tape);
+    let Number::Got(bytes, d) = q1 else {
+        return not_metadata(q1);
+    };
+    let q2 = fields::number_bool(s, d, tape);
+    let Number::Got(extend, e) = q2 else {
+        return not_metadata(q2);
+    };
+    let kind = Metadata::ElemLayout {
+        elem_bytes: bytes as u32,
+        needs_sign_extend: extend == 1,
+    };
+    layout(s, e, kind, tape)
+}
+
+// key_layout, val_layout, has_ok
+fn map_get(s: &[u8], c: Cursor, tape: &mut [u32]) -> MetadataRead
+    requires { ⌜ ReadyAt (now s) c ⌝ }
+    ensures { λ q. ⌜ MetadataReader mapGet mapGetOf (now (s .entry)) c (now (tape .entry)) q (now (tape .exit)) ⌝ }
+{
+    let q1 = number_slot_types(s, c, tape);
+    let Number::Got(m, d) = q1 else {
+        return not_metadata(q1);
+    };
+    let q2 = number_slot_types(s, d, tape);
+    let Number::Got(n, e) = q2 else {
+        return not_metadata(q2);
+    };
+    let q3 = fields::number_bool(s, e, tape);
+    let Number::Got(ok, f) = q3 else {
+        return not_metadata(q3);
+    };
+    MetadataRead::Got(
+        MetadataRecord {
+            kind: Metadata::MapGet { has_ok: ok == 1 },
+            first: items_at(s, c, m),
+            second: items_at(s, d, n),
+        },
+        f,
+    )
+}
+
+// end_pc
+fn loop_end(s: &[u8], c: Cursor, tape: &mut [u32]) -> MetadataRead
+    requires { ⌜ ReadyAt (now s) c ⌝ }
+    ensures { λ q. ⌜ MetadataReader u32 loopEndOf (now (s .entry)) c (now (tape .entry)) q (now (tape .exit)) ⌝ }
+{
+    let q = number_word(s, c, tape);
+    let Number::Got(pc, d) = q else {
+        return not_metadata(q);
+    };
+    MetadataRead::Got(bare(Metadata::LoopEnd { end_pc: pc as u32 }), d)
+}
+
+// array_len, elem_layout
+fn slot_layout(s: &[u8], c: Cursor, tape: &mut [u32]) -> MetadataRead
+    requires { ⌜ ReadyAt (now s) c ⌝ }
+    ensures { λ q. ⌜ MetadataReader slotLayout slotOf (now (s .entry)) c (now (tape .entry)) q (now (tape .exit)) ⌝ }
+{
+    let q = number_half(s, c, tape);
+    let Number::Got(length, d) = q else {
+        return not_metadata(q);
+    };
+    let kind = Metadata::SlotLayout {
+        array_len: length as u16,
+    };
+    layout(s, d, kind, tape)
+}
+
+// assert_kind, target_id, result_layout
+fn iface_assert_layout(s: &[u8], c: Cursor, tape: &mut [u32]) -> MetadataRead
+    requires { ⌜ ReadyAt (now s) c ⌝ }
+    ensures { λ q. ⌜ MetadataReader ifaceAssert assertOf (now (s .entry)) c (now (tape .entry)) q (now (tape .exit)) ⌝ }
+{
+    let q1 = fields::number_assert_kind(s, c, tape);
+    let Number::Got(assert, d) = q1 else {
+        return not_metadata(q1);
+    };
+    let q2 = number_word(s, d, tape);
+    let Number::Got(target, e) = q2 else {
+        return not_metadata(q2);
+    };
+    let kind = Metadata::IfaceAssertLayout {
+        assert_kind: assert as u8,
+        target_id: target as u32,
+    };
+    layout(s, e, kind, tape)
+}
+
+// iface_meta_id, method_idx, arg_layout, ret_layout
+fn call_iface_layout(s: &[u8], c: Cursor, tape: &mut [u32]) -> MetadataRead
+    requires { ⌜ ReadyAt (now s) c ⌝ }
+    ensures { λ q. ⌜ MetadataReader callIface callIfaceOf (now (s .entry)) c (now (tape .entry)) q (now (tape .exit)) ⌝ }
+{
+    let q1 = number_word(s, c, tape);
+    let Number::Got(id, d) = q1 else {
+        return not_metadata(q1);
+    };
+    let q2 = number_word(s, d, tape);
+    let Number::Got(method, e) = q2 else {
+        return not_metadata(q2);
+    };
+    let kind = Metadata::CallIfaceLayout {
+        iface_meta_id: id as u32,
+        method_idx: method as u32,
+    };
+    layouts(s, e, kind, tape)
+}
+
+// cases
+fn select_exec_layout(s: &[u8], c: Cursor, tape: &mut [u32]) -> MetadataRead
+    requires { ⌜ ReadyAt (now s) c ⌝ }
+    ensures { λ q. ⌜ MetadataReader selectList (oneOf Metadata.SelectExecLayout) (now (s .entry)) c (now (tape .entry)) q (now (tape .exit)) ⌝ }
+{
+    let q = number_select_cases(s, c, tape);
+    let Number::Got(n, d) = q else {
+        return not_metadata(q);
+    };
+    MetadataRead::Got(
+        MetadataRecord {
+            kind: Metadata::SelectExecLayout,
+            first: items_at(s, c, n),
+            second: Items { start: 0, count: 0 },
+        },
+        d,
+    )
+}
+
+// The tag, and what it stands for; the last arm is 18, as number_metadata_tag refuses all others.
+pub fn instruction_metadata(s: &[u8], c: Cursor, tape: &mut [u32]) -> MetadataRead
+    requires { ⌜ ReadyAt (now s) c ⌝ }
+    ensures { λ q. ⌜ MetadataReader metadataFormat metadataOf (now (s .entry)) c (now (tape .entry)) q (now (tape .exit)) ⌝ }
+{
+    let q = fields::number_metadata_tag(s, c, tape);
+    let Number::Got(tag, d) = q else {
+        return not_metadata(q);
+    };
+    match tag {
+        0 => MetadataRead::Got(bare(Metadata::None), d),
+        1 => elem_layout(s, d, tape),
+        2 => map_get(s, d, tape),
+        3 => layouts(s, d, Metadata::MapSet, tape),
+        4 => layout(s, d, Metadata::MapDelete, tape),
+        5 => loop_end(s, d, tape),
+        9 => layout(s, d, Metadata::PtrLayout, tape),
+        10 => slot_layout(s, d, tape),
+        11 => layouts(s, d, Metadata::CallLayout, tape),
+        12 => layouts(s, d, Metadata::CallExternLayout, tape),
+        13 => layout(s, d, Metadata::QueueLayout, tape),
+        14 => layouts(s, d, Metadata::MapIterNext, tape),
+        15 => iface_assert_layout(s, d, tape),
+        16 => layouts(s, d, Metadata::MapNew, tape),
+        17 => call_iface_layout(s, d, tape),
+        _ => select_exec_layout(s, d, tape),
+    }
+}
+
+// Hands out how many they are.
+pub fn number_instruction_metadata(s: &[u8], c: Cursor, tape: &mut [u32]) -> Number
+    requires { ⌜ ReadyAt (now s) c ⌝ }
+    ensures { λ q. ⌜ NumberOf metadataList counted (now (s .entry)) c (now (tape .entry)) q (now (tape .exit)) ⌝ }
+{
+    let q = fields::number_count(s, c, sizes::INSTRUCTION_METADATA, tape);
+    let Number::Got(n, d) = q else {
+        return q;
+    };
+    let mut k = n;
+    let mut here = d;
+    while 0 < k {
+        let item = instruction_metadata(s, here, tape);
+        let MetadataRead::Got(_, next) = item else {
+            return metadata_refused(item);
+        };
+        here = next;
+        k -= 1;
+    }
+    Number::Got(n, here)
+}
+
+// ---- select cases
+
+// A part that was not got: its refusal.
+fn not_select(q: Number) -> SelectCaseRead
+    ensures { λ r. ⌜ selectStep r ≡ stepOf q ⌝ }
+{
+    match q {
+        Number::Got(_, c) => SelectCaseRead::Got(
+            SelectCase::Send {
+                queue: 0,
+                value: 0,
+                elem_slots: 0,
+            },
+            c,
+        ),
+        Number::Not(x) => SelectCaseRead::Not(x),
+    }
+}
+
+// queue, value, elem_slots
+fn send(s: &[u8], c: Cursor, tape: &mut [u32]) -> SelectCaseRead
+    requires { ⌜ ReadyAt (now s) c ⌝ }
+    ensures { λ q. ⌜ SelectReader sendFormat sendOf (now (s .entry)) c (now (tape .entry)) q (now (tape .exit)) ⌝ }
+{
+    let q1 = number_half(s, c, tape);
+    let Number::Got(queue, d) = q1 else {
+        return not_select(q1);
+    };
+    let q2 = number_half(s, d, tape);
+    let Number::Got(value, e) = q2 else {
+        return not_select(q2);
+    };
+    let q3 = number_half(s, e, tape);
+    let Number::Got(slots, f) = q3 else {
+        return not_select(q3);
+    };
+    SelectCaseRead::Got(
+        SelectCase::Send {
+            queue: queue as u16,
+            value: value as u16,
+            elem_slots: slots as u16,
+        },
+        f,
+    )
+}
+
+// destination, queue, elem_slots, has_ok
+fn recv(s: &[u8], c: Cursor, tape: &mut [u32]) -> SelectCaseRead
+    requires { ⌜ ReadyAt (now s) c ⌝ }
+    ensures { λ q. ⌜ SelectReader recvFormat recvOf (now (s .entry)) c (now (tape .entry)) q (now (tape .exit)) ⌝ }
+{
+    let q1 = number_half(s, c, tape);
+    let Number::Got(destination, d) = q1 else {
+        return not_select(q1);
+    };
+    let q2 = number_half(s, d, tape);
+    let Number::Got(queue, e) = q2 else {
+        return not_select(q2);
+    };
+    let q3 = number_half(s, e, tape);
+    let Number::Got(slots, f) = q3 else {
+        return not_select(q3);
+    };
+    let q4 = fields::number_bool(s, f, tape);
+    let Number::Got(ok, g) = q4 else {
+        return not_select(q4);
+    };
+    SelectCaseRead::Got(
+        SelectCase::Recv {
+            destination: destination as u16,
+            queue: queue as u16,
+            elem_slots: slots as u16,
+            has_ok: ok == 1,
+        },
+        g,
+    )
+}
+
+pub fn select_case(s: &[u8], c: Cursor, tape: &mut [u32]) -> SelectCaseRead
+    requires { ⌜ ReadyAt (now s) c ⌝ }
+    ensures { λ q. ⌜ SelectReader selectFormat selectOf (now (s .entry)) c (now (tape .entry)) q (now (tape .exit)) ⌝ }
+{
+    let q = fields::number_select_tag(s, c, tape);
+    let Number::Got(tag, d) = q else {
+        return not_select(q);
+    };
+    if tag == 0 {
+        return send(s, d, tape);
+    }
+    recv(s, d, tape)
+}
+
+// Hands out how many they are.
+pub fn number_select_cases(s: &[u8], c: Cursor, tape: &mut [u32]) -> Number
+    requires { ⌜ ReadyAt (now s) c ⌝ }
+    ensures { λ q. ⌜ NumberOf selectList counted (now (s .entry)) c (now (tape .entry)) q (now (tape .exit)) ⌝ }
+{
+    let q = fields::number_count(s, c, sizes::SELECT_CASE_LAYOUT, tape);
+    let Number::Got(n, d) = q else {
+        return q;
+    };
+    let mut k = n;
+    let mut here = d;
+    while 0 < k {
+        let item = select_case(s, here, tape);
+        let SelectCaseRead::Got(_, next) = item else {
+            return select_refused(item);
+        };
+        here = next;
+        k -= 1;
+    }
+    Number::Got(n, here)
+}
+
+// An item's refusal, passed up.
+fn metadata_refused(q: MetadataRead) -> Number
+    ensures { λ r. ⌜ stepOf r ≡ metadataStep q ⌝ }
+{
+    match q {
+        MetadataRead::Got(_, c) => Number::Got(0, c),
+        MetadataRead::Not(x) => Number::Not(x),
+    }
+}
+
+fn select_refused(q: SelectCaseRead) -> Number
+    ensures { λ r. ⌜ stepOf r ≡ selectStep q ⌝ }
+{
+    match q {
+        SelectCaseRead::Got(_, c) => Number::Got(0, c),
+        SelectCaseRead::Not(x) => Number::Not(x),
+    }
+}

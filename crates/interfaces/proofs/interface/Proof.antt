@@ -1,0 +1,40 @@
+use borrow.Author.Needs.{needs}
+use Rattle.vob24.specs.Grammar.{interface as interfaceRecord}
+use Rattle.reader.proofs.Laws.{fieldThen}
+use Rattle.names.proofs.Following.{first-behind, second-behind, listsAsk}
+use Rattle.interfaces.proofs.interface.Statement.{statement}
+use Rattle.interfaces.proofs.interface.Tie as tie
+
+field-str-requires : tie.Need-field-str-requires
+field-str-requires c κs = search needs
+
+method-names-requires : tie.Need-method-names-requires
+method-names-requires c κs = search needs
+
+interface-methods-requires : tie.Need-interface-methods-requires
+interface-methods-requires c κs = search needs
+
+method-set-requires : tie.Need-method-set-requires
+method-set-requires c κs = first-behind ((c .before .before .before .before .before .before .method-names) .ensures) ((c .before .before .interface-methods) .ensures) ((c .before .before .before .before .before .before .before .before .before .before .field-str) .ensures .ready)
+
+method-set-requires-2 : tie.Need-method-set-requires-2
+method-set-requires-2 c κs = second-behind ((c .before .before .before .before .before .before .before .method-names) .ensures) ((c .before .before .before .interface-methods) .ensures) ((c .method-set) .ensures)
+
+same-length : tie.Need-same-length
+same-length c = search needs
+
+returns : tie.Need-returns
+unfolding interfaceRecord
+returns c = fieldThen ((c .before .before .before .before .before .before .before .before .before .before .before .before .field-str) .ensures) (λ _. listsAsk ((c .before .before .before .before .before .before .before .before .method-names) .ensures) ((c .before .before .before .before .interface-methods) .ensures) ((c .before .method-set) .ensures) ((c .method-set2) .ensures))
+
+pub interface-spec : {M : Type 1} → statement M
+interface-spec =
+    tie.close
+    (tie.spec
+    field-str-requires
+    method-names-requires
+    interface-methods-requires
+    method-set-requires
+    method-set-requires-2
+    same-length
+    returns)

@@ -1,0 +1,35 @@
+use borrow.Author.Needs.{needs}
+use Rattle.vob24.specs.Grammar.{namedType}
+use Rattle.reader.proofs.Laws.{reading}
+use Rattle.interfaces.proofs.named_type.Statement.{statement}
+use Rattle.interfaces.proofs.named_type.Tie as tie
+
+field-str-requires : tie.Need-field-str-requires
+field-str-requires c κs = search needs
+
+field-value-meta-requires : tie.Need-field-value-meta-requires
+field-value-meta-requires c κs = search needs
+
+field-value-rttid-requires : tie.Need-field-value-rttid-requires
+field-value-rttid-requires c κs = search needs
+
+methods-requires : tie.Need-methods-requires
+methods-requires c κs = search needs
+
+same-length : tie.Need-same-length
+same-length c = search needs
+
+returns : tie.Need-returns
+unfolding namedType
+returns c = search (needs, reading)
+
+pub named-type-spec : {M : Type 1} → statement M
+named-type-spec =
+    tie.close
+    (tie.spec
+    field-str-requires
+    field-value-meta-requires
+    field-value-rttid-requires
+    methods-requires
+    same-length
+    returns)

@@ -1,0 +1,25 @@
+-- The contracts of the lookup's walk over the artifacts.
+use Prim.Native.Nat.{ℕ}
+use mathlib.Core.Path.{_≡_}
+use mathlib.Core.List.{List}
+use mathlib.Core.Bool.{Bool}
+use Rattle.format.specs.Reading.{part, same}
+use Rattle.vob24.specs.Settings.{settings}
+use Rattle.vob24.specs.Grammar.{artifact}
+use Rattle.vob24.specs.Calls as vob
+use Rattle.reader.specs.Contract.{wrongOf}
+use Rattle.reader.specs.declared.Cursor.{Cursor}
+use Rattle.names.specs.Walk.{itemsAt}
+use Rattle.lookup.specs.declared.Found.{Found}
+
+-- Document 01's values for each case of the companion's answer.
+abbrev pub foundOf : Found → vob.Found
+foundOf (Found.At p n) = vob.At p n
+foundOf (Found.Not x) = vob.Not (wrongOf x) (x .place) (x .left)
+
+pub record IsName (s : List ℕ) (p n : ℕ) (name : List ℕ) (q : Bool) : Type 0 where
+  pub is : q ≡ same (part s p n) name
+
+-- The first of n artifacts from p on that has the name.
+pub record Looks (s : List ℕ) (p n : ℕ) (name : List ℕ) (c : Cursor) (q : Found) : Type 0 where
+  pub is : foundOf q ≡ vob.lookIn name (itemsAt (artifact settings) n s p) (c .place) (c .left)

@@ -1,0 +1,64 @@
+// The artifact of a name: the first in the file whose name has exactly these bytes, found where it stands in the pack.
+// The Rust's Module::artifact is a binary search; document 01 asks for the first.
+ghost use Prim.Native.Nat.{_+_, _≤_};
+ghost use lib.ListN.{length};
+ghost use Rattle.vob24.specs.Settings.{settings};
+ghost use Rattle.vob24.specs.Grammar.{artifact};
+ghost use Rattle.names.specs.Contract.{Items};
+ghost use Rattle.lookup.specs.Look.{IsName, Looks};
+
+use reader::numbers;
+use reader::Cursor;
+use reader::Refusal;
+
+// start, length
+pub enum Found {
+    At(usize, usize),
+    Not(Refusal),
+}
+
+// Are the n bytes at p this name?
+fn is_name(s: &[u8], p: usize, n: usize, name: &[u8]) -> bool
+    requires { ⌜ p + n ≤ length (now s) ⌝ }
+    ensures { λ q. ⌜ IsName (now (s .entry)) p n (now (name .entry)) q ⌝ }
+{
+    if n != name.len() {
+        return false;
+    }
+    let mut i = 0;
+    while i < n {
+        if s[p + i] != name[i] {
+            return false;
+        }
+        i += 1;
+    }
+    true
+}
+
+// The payload of the first of n artifacts from `from` on that has this name; 27 shows where the reading ended.
+pub fn look(s: &[u8], from: usize, n: usize, name: &[u8], end: Cursor) -> Found
+    requires { ⌜ Items (artifact settings) n (now s) from ⌝ }
+    ensures { λ q. ⌜ Looks (now (s .entry)) from n (now (name .entry)) end q ⌝ }
+{
+    let mut at = from;
+    let mut k = n;
+    while 0 < k {
+        let named = names::word_at(s, at);
+        // The version stands between the name and the payload's length.
+        let payload = at + 4 + named + 4;
+        let len = names::word_at(s, payload);
+        if is_name(s, at + 4, named, name) {
+            return Found::At(payload + 4, len);
+        }
+        at = payload + 4 + len;
+        k -= 1;
+    }
+    Found::Not(Refusal {
+        number: numbers::NO_SUCH_ARTIFACT,
+        context: 0,
+        detail1: 0,
+        detail2: 0,
+        place: end.place,
+        left: end.left,
+    })
+}

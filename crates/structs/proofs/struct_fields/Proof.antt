@@ -1,0 +1,99 @@
+use borrow.Author.Needs.{needs}
+use Rattle.reader.proofs.Laws.{reading, Turns}
+use Rattle.reader.proofs.Parts.{parts, list-done, list-refused}
+use Rattle.structs.specs.Structs.{fieldFormat}
+use Rattle.structs.proofs.struct_fields.Statement.{statement}
+use Rattle.structs.proofs.struct_fields.Tie as tie
+
+abbrev Inv-loop : tie.InvT-loop
+Inv-loop s tape₀ n k₀ here₀ tape k here = Turns fieldFormat s tape₀ here₀ k₀ tape here k
+
+abbrev μ-loop : tie.MeasureT-loop
+μ-loop s tape₀ n k₀ here₀ tape k here = k
+
+enum-known-r : tie.Need-enum-known-r Inv-loop μ-loop
+enum-known-r c = search (needs, reading, parts)
+
+enum-told : tie.Need-enum-told Inv-loop μ-loop
+enum-told c = search (needs, reading, parts)
+
+returns : tie.Need-returns Inv-loop μ-loop
+returns c = search (needs, reading, parts)
+
+number-count-requires : tie.Need-number-count-requires Inv-loop μ-loop
+number-count-requires c κs = search (needs, reading, parts)
+
+enum-known-q : tie.Need-enum-known-q Inv-loop μ-loop
+enum-known-q c = search (needs, reading, parts)
+
+enum-told-2 : tie.Need-enum-told-2 Inv-loop μ-loop
+enum-told-2 c = search (needs, reading, parts)
+
+refused-requires : tie.Need-refused-requires Inv-loop μ-loop
+refused-requires c κs = search (needs, reading, parts)
+
+same-length : tie.Need-same-length Inv-loop μ-loop
+same-length c = search (needs, reading, parts)
+
+returns-2 : tie.Need-returns-2 Inv-loop μ-loop
+returns-2 c = search (needs, reading, parts)
+
+loop-holds : tie.Need-loop-holds Inv-loop μ-loop
+loop-holds c = search (needs, reading, parts)
+
+struct-field-requires : tie.Need-struct-field-requires Inv-loop μ-loop
+struct-field-requires c κs = search (needs, reading, parts)
+
+enum-told-3 : tie.Need-enum-told-3 Inv-loop μ-loop
+enum-told-3 c = search (needs, reading, parts)
+
+enum-told-4 : tie.Need-enum-told-4 Inv-loop μ-loop
+enum-told-4 c = search (needs, reading, parts)
+
+same-length-2 : tie.Need-same-length-2 Inv-loop μ-loop
+same-length-2 c = search (needs, reading, parts)
+
+returns-3 : tie.Need-returns-3 Inv-loop μ-loop
+returns-3 c = list-refused ((c .before .before .before .before .before .before .before .before .before .before .before .before .before .before .before .before .r) .given .1) ((c .before .before .before .before .before .before .before .before .before .q) .given .1) ((c .before .before .before .before .before .before .before .before .before .before .before .before .before .number-count) .ensures) ((c .before .before .before .before .before .before .loop-test) .taken) ((c .before .before .before .before .before .before .before .loop) .inv) ((c .before .before .before .before .struct-field) .ensures) ((c .enum-told4) .given .1)
+
+sub-k : tie.Need-sub-k Inv-loop μ-loop
+sub-k c = search (needs, reading, parts)
+
+loop-less : tie.Need-loop-less Inv-loop μ-loop
+loop-less c = search (needs, reading, parts)
+
+loop-again : tie.Need-loop-again Inv-loop μ-loop
+loop-again c = search (needs, reading, parts)
+
+same-length-3 : tie.Need-same-length-3 Inv-loop μ-loop
+same-length-3 c = search (needs, reading, parts)
+
+returns-4 : tie.Need-returns-4 Inv-loop μ-loop
+returns-4 c = list-done ((c .before .before .before .before .before .before .before .before .before .before .r) .given .1) ((c .before .before .before .q) .given .1) ((c .before .before .before .before .before .before .before .number-count) .ensures) ((c .loop-test) .left) ((c .before .loop) .inv)
+
+pub struct-fields-spec : {M : Type 1} → statement M
+struct-fields-spec =
+    tie.close
+    (tie.spec
+    Inv-loop
+    μ-loop
+    enum-known-r
+    enum-told
+    returns
+    number-count-requires
+    enum-known-q
+    enum-told-2
+    refused-requires
+    same-length
+    returns-2
+    loop-holds
+    struct-field-requires
+    enum-told-3
+    enum-told-4
+    same-length-2
+    returns-3
+    sub-k
+    loop-less
+    loop-again
+    same-length-3
+    returns-4)

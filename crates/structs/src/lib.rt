@@ -1,0 +1,75 @@
+// The struct section: each struct's slot types and fields, then the index of its fields.
+// Ports what Module::deserialize of serialize.rs reads into StructMeta and FieldMeta of bytecode.rs.
+ghost use Rattle.reader.specs.Contract.{Ready, Reader};
+ghost use Rattle.structs.specs.Structs.{fieldFormat, fieldList, structFormat, structList};
+use reader::Number;
+use reader::Step;
+use reader::sizes;
+
+pub fn struct_field(s: &[u8], r: Step, tape: &mut [u32]) -> Step
+    requires { ⌜ Ready (now s) r ⌝ }
+    ensures { λ q. ⌜ Reader fieldFormat (now (s .entry)) r (now (tape .entry)) q (now (tape .exit)) ⌝ }
+{
+    let name = fields::field_member_name(s, r, tape);
+    let offset = fields::field_u16(s, name, tape);
+    let slot_count = fields::field_u16(s, offset, tape);
+    let type_info = fields::field_value_rttid(s, slot_count, tape);
+    let embedded = fields::field_bool(s, type_info, tape);
+    fields::field_optional_str(s, embedded, tape)
+}
+
+pub fn struct_fields(s: &[u8], r: Step, tape: &mut [u32]) -> Step
+    requires { ⌜ Ready (now s) r ⌝ }
+    ensures { λ q. ⌜ Reader fieldList (now (s .entry)) r (now (tape .entry)) q (now (tape .exit)) ⌝ }
+{
+    let Step::Taken(c) = r else {
+        return r;
+    };
+    let q = fields::number_count(s, c, sizes::FIELD_META, tape);
+    let Number::Got(n, d) = q else {
+        return reader::refused(q);
+    };
+    let mut k = n;
+    let mut here = Step::Taken(d);
+    while 0 < k {
+        here = struct_field(s, here, tape);
+        let Step::Taken(_) = here else {
+            return here;
+        };
+        k -= 1;
+    }
+    here
+}
+
+// The field index is built after the whole list, from where the list stands.
+pub fn structure(s: &[u8], r: Step, tape: &mut [u32]) -> Step
+    requires { ⌜ Ready (now s) r ⌝ }
+    ensures { λ q. ⌜ Reader structFormat (now (s .entry)) r (now (tape .entry)) q (now (tape .exit)) ⌝ }
+{
+    let slot_types = slots::slot_types(s, r, tape);
+    let fields = struct_fields(s, slot_types, tape);
+    names::field_index(s, slot_types, fields)
+}
+
+pub fn structs(s: &[u8], r: Step, tape: &mut [u32]) -> Step
+    requires { ⌜ Ready (now s) r ⌝ }
+    ensures { λ q. ⌜ Reader structList (now (s .entry)) r (now (tape .entry)) q (now (tape .exit)) ⌝ }
+{
+    let Step::Taken(c) = r else {
+        return r;
+    };
+    let q = fields::number_count(s, c, sizes::STRUCT_META, tape);
+    let Number::Got(n, d) = q else {
+        return reader::refused(q);
+    };
+    let mut k = n;
+    let mut here = Step::Taken(d);
+    while 0 < k {
+        here = structure(s, here, tape);
+        let Step::Taken(_) = here else {
+            return here;
+        };
+        k -= 1;
+    }
+    here
+}

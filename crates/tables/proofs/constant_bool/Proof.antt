@@ -1,0 +1,46 @@
+use Rattle.reader.proofs.Laws.{reading}
+use Rattle.tables.proofs.Laws.{constants}
+use borrow.Author.Needs.{needs}
+use Rattle.tables.proofs.constant_bool.Statement.{statement}
+use Rattle.tables.proofs.constant_bool.Tie as tie
+
+number-bool-requires : tie.Need-number-bool-requires
+number-bool-requires c κs = search needs
+
+enum-known-q : tie.Need-enum-known-q
+enum-known-q c = search needs
+
+enum-told : tie.Need-enum-told
+enum-told c = search needs
+
+refused-requires : tie.Need-refused-requires
+refused-requires c κs = search needs
+
+refused-constant-requires : tie.Need-refused-constant-requires
+refused-constant-requires c κs = search needs
+
+same-length : tie.Need-same-length
+same-length c = search needs
+
+returns : tie.Need-returns
+returns c = search (needs, reading, constants)
+
+same-length-2 : tie.Need-same-length-2
+same-length-2 c = search needs
+
+returns-2 : tie.Need-returns-2
+returns-2 c = search (needs, reading, constants)
+
+pub constant-bool-spec : {M : Type 1} → statement M
+constant-bool-spec =
+    tie.close
+    (tie.spec
+    number-bool-requires
+    enum-known-q
+    enum-told
+    refused-requires
+    refused-constant-requires
+    same-length
+    returns
+    same-length-2
+    returns-2)

@@ -1,0 +1,63 @@
+-- The answer for a constant, as a function of the value that was read.
+use Prim.Native.Nat.{ℕ, zero, suc}
+use lib.Dec.{eqb}
+use lib.Ieee.{binary64, ofBits}
+use lib.ListN.{length}
+use mir.Syntax.{w64}
+use mir.Val.{toZ}
+use Rattle.format.specs.Format.{Value, number, start, content, first, second, Format}
+use Rattle.vob24.specs.Settings as of
+use Rattle.vob24.specs.Settings.{settings}
+use Rattle.vob24.specs.Grammar as vob
+use Rattle.reader.specs.declared.Step.{Step}
+use Rattle.reader.specs.declared.Step.the-variants.{Taken, Refused}
+use Rattle.reader.specs.declared.Signed.{Signed}
+use Rattle.reader.specs.declared.Float.{Float as FloatAnswer}
+use Rattle.tables.specs.declared.answers.Constant.{Constant}
+use Rattle.tables.specs.declared.answers.ConstantRead.{ConstantRead}
+
+abbrev pub constantFormat : Format
+constantFormat = vob.constant settings
+
+abbrev pub constantList : Format
+constantList = vob.list settings of.Constant (vob.constant settings)
+
+abbrev pub stepOfConstant : ConstantRead → Step
+stepOfConstant (ConstantRead.Got x c) = Taken c
+stepOfConstant (ConstantRead.Not x) = Refused x
+
+-- where it is refused, nothing is said of this
+abbrev pub recordOfConstant : ConstantRead → Constant
+recordOfConstant (ConstantRead.Got x c) = x
+recordOfConstant (ConstantRead.Not x) = Constant.Nil
+
+abbrev pub signedStep : Signed → Step
+signedStep (Signed.Got i n c) = Taken c
+signedStep (Signed.Not x) = Refused x
+
+abbrev pub floatStep : FloatAnswer → Step
+floatStep (FloatAnswer.Got y n c) = Taken c
+floatStep (FloatAnswer.Not x) = Refused x
+
+-- what stands behind the tag
+abbrev pub boolOf : Value → Constant
+boolOf v = Constant.Bool (eqb (number v) 1)
+
+abbrev pub intOf : Value → Constant
+intOf v = Constant.Int (toZ w64 (number v))
+
+abbrev pub floatOf : Value → Constant
+floatOf v = Constant.Float (ofBits binary64 (number v))
+
+abbrev pub textOf : Value → Constant
+textOf v = Constant.Text (start v) (length (content v))
+
+unfoldable pub constantBy : ℕ → Value → Constant
+constantBy zero v = Constant.Nil
+constantBy (suc zero) v = boolOf v
+constantBy (suc (suc zero)) v = intOf v
+constantBy (suc (suc (suc zero))) v = floatOf v
+constantBy (suc (suc (suc (suc n)))) v = textOf v
+
+abbrev pub constantOf : ℕ → Value → Constant
+constantOf p v = constantBy (number (first v)) (second v)
