@@ -47,7 +47,7 @@ artifact-stands {s} {p} h =
       name = ap (λ v. content (first v)) (a .value) ∙ ap content (x .3);
       payload = ap (λ v. second (second v)) (a .value) ∙ ap second (b .value) ∙ z .2 ∙ ap (λ q. text (q + 4) (part s (q + 4) (little (part s q 4)))) e;
       next = a .next ∙ b .next ∙ z .3 ∙ ap (λ q. q + 4 + little (part s q 4)) e;
-      room = subst (λ q. q + 4 + little (part s q 4) ≤ length s) e (z .0)
+      room = subst (λ q. q + 4 + little (part s q 4) ≤ length s) e (z .0);
     }
 
 -- ---- a name against the pack's bytes

@@ -6,10 +6,9 @@ ghost use Rattle.vob24.specs.Settings.{settings};
 ghost use Rattle.vob24.specs.Grammar.{artifact};
 ghost use Rattle.names.specs.Contract.{Items};
 ghost use Rattle.lookup.specs.Look.{IsName, Looks};
-
-use reader::numbers;
 use reader::Cursor;
 use reader::Refusal;
+use reader::numbers;
 
 // start, length
 pub enum Found {
