@@ -1,0 +1,81 @@
+use native.Mathlib.Omega.{arith}
+use borrow.Author.Needs.{needs}
+use Rattle.reader.proofs.Laws.{reading}
+use Rattle.runtime_type.proofs.Laws.{recording, fixed-fits, recordedTwo}
+use Rattle.runtime_type.specs.declared.RuntimeType.the-variants as kind
+use Rattle.runtime_type.specs.Records.{bareOf}
+use Rattle.runtime_type.proofs.chan.Statement.{statement}
+use Rattle.runtime_type.proofs.chan.Tie as tie
+
+number-direction-requires : tie.Need-number-direction-requires
+number-direction-requires c κs = search needs
+
+enum-known-q1 : tie.Need-enum-known-q1
+enum-known-q1 c = search needs
+
+enum-told : tie.Need-enum-told
+enum-told c = search needs
+
+not-type-requires : tie.Need-not-type-requires
+not-type-requires c κs = search needs
+
+same-length : tie.Need-same-length
+same-length c = search needs
+
+returns : tie.Need-returns
+returns c = search (needs, reading, recording)
+
+number-value-rttid-requires : tie.Need-number-value-rttid-requires
+number-value-rttid-requires c κs = search (needs, reading, recording)
+
+enum-known-q2 : tie.Need-enum-known-q2
+enum-known-q2 c = search needs
+
+enum-told-2 : tie.Need-enum-told-2
+enum-told-2 c = search needs
+
+not-type-requires-2 : tie.Need-not-type-requires-2
+not-type-requires-2 c κs = search needs
+
+same-length-2 : tie.Need-same-length-2
+same-length-2 c = search needs
+
+returns-2 : tie.Need-returns-2
+returns-2 c = search (needs, reading, recording)
+
+cast-t15 : tie.Need-cast-t15
+cast-t15 c = record { fits = fixed-fits ((c .before .before .before .before .before .before .before .before .q1) .given .1) ((c .before .before .before .before .before .before .before .before .before .before .before .before .number-direction) .ensures) (λ i. omega (arith, (c .before .before .before .before .before .before .before .before .before .before .before .before .before .before .before .shared-slice-known) .given i)) }
+
+cast-t16 : tie.Need-cast-t16
+cast-t16 c = record { fits = fixed-fits ((c .before .q2) .given .1) ((c .before .before .before .before .before .number-value-rttid) .ensures) (λ i. omega (arith, (c .before .before .before .before .before .before .before .before .before .before .before .before .before .before .before .shared-slice-known) .given i)) }
+
+bare-requires : tie.Need-bare-requires
+bare-requires c κs = search needs
+
+same-length-3 : tie.Need-same-length-3
+same-length-3 c = search needs
+
+returns-3 : tie.Need-returns-3
+returns-3 c = recordedTwo ((c .before .before .before .before .before .before .before .before .before .q1) .given .1) ((c .before .before .before .before .before .before .before .before .before .before .before .before .before .number-direction) .ensures) ((c .before .before .q2) .given .1) ((c .before .before .before .before .before .before .number-value-rttid) .ensures) (λ m n _. bareOf (kind.Chan m n)) ((c .bare) .ensures)
+
+pub chan-spec : {M : Type 1} → statement M
+chan-spec =
+    tie.close
+    (tie.spec
+    number-direction-requires
+    enum-known-q1
+    enum-told
+    not-type-requires
+    same-length
+    returns
+    number-value-rttid-requires
+    enum-known-q2
+    enum-told-2
+    not-type-requires-2
+    same-length-2
+    returns-2
+    cast-t15
+    cast-t16
+    bare-requires
+    same-length-3
+    returns-3)

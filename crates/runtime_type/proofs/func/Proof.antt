@@ -1,0 +1,103 @@
+use Prim.Native.Nat.{_+_}
+use native.Mathlib.Omega.{arith}
+use lib.Dec.{eqb}
+use borrow.Author.Needs.{needs}
+use Rattle.reader.proofs.Laws.{reading, got-ready}
+use Rattle.runtime_type.proofs.Laws.{recording, recordedThree, listedTwo, fixed-place, rttids-place}
+use Rattle.runtime_type.specs.declared.RuntimeType.the-variants as kind
+use Rattle.runtime_type.specs.Records.{twoOf}
+use Rattle.runtime_type.proofs.func.Statement.{statement}
+use Rattle.runtime_type.proofs.func.Tie as tie
+
+number-bool-requires : tie.Need-number-bool-requires
+number-bool-requires c κs = search (needs, reading, recording)
+
+enum-known-q1 : tie.Need-enum-known-q1
+enum-known-q1 c = search (needs, reading, recording)
+
+enum-told : tie.Need-enum-told
+enum-told c = search (needs, reading, recording)
+
+not-type-requires : tie.Need-not-type-requires
+not-type-requires c κs = search (needs, reading, recording)
+
+same-length : tie.Need-same-length
+same-length c = search (needs, reading, recording)
+
+returns : tie.Need-returns
+returns c = search (needs, reading, recording)
+
+number-rttids-requires : tie.Need-number-rttids-requires
+number-rttids-requires c κs = search (needs, reading, recording)
+
+enum-known-q2 : tie.Need-enum-known-q2
+enum-known-q2 c = search (needs, reading, recording)
+
+enum-told-2 : tie.Need-enum-told-2
+enum-told-2 c = search (needs, reading, recording)
+
+not-type-requires-2 : tie.Need-not-type-requires-2
+not-type-requires-2 c κs = search (needs, reading, recording)
+
+same-length-2 : tie.Need-same-length-2
+same-length-2 c = search (needs, reading, recording)
+
+returns-2 : tie.Need-returns-2
+returns-2 c = search (needs, reading, recording)
+
+number-rttids-requires-2 : tie.Need-number-rttids-requires-2
+number-rttids-requires-2 c κs = got-ready ((c .before .before .q2) .given .1) ((c .before .before .before .before .before .before .number-rttids) .ensures)
+
+enum-known-q3 : tie.Need-enum-known-q3
+enum-known-q3 c = search (needs, reading, recording)
+
+enum-told-3 : tie.Need-enum-told-3
+enum-told-3 c = search (needs, reading, recording)
+
+not-type-requires-3 : tie.Need-not-type-requires-3
+not-type-requires-3 c κs = search (needs, reading, recording)
+
+same-length-3 : tie.Need-same-length-3
+same-length-3 c = search (needs, reading, recording)
+
+returns-3 : tie.Need-returns-3
+returns-3 c = search (needs, reading, recording)
+
+items-at-requires : tie.Need-items-at-requires
+items-at-requires c κs = got-ready ((c .before .before .before .before .before .before .before .before .before .before .before .before .before .before .before .q1) .given .1) ((c .before .before .before .before .before .before .before .before .before .before .before .before .before .before .before .before .before .before .before .number-bool) .ensures)
+
+items-at-requires-2 : tie.Need-items-at-requires-2
+items-at-requires-2 c κs = got-ready ((c .before .before .before .before .before .before .before .before .before .q2) .given .1) ((c .before .before .before .before .before .before .before .before .before .before .before .before .before .number-rttids) .ensures)
+
+same-length-4 : tie.Need-same-length-4
+same-length-4 c = omega (arith, (c .before .before .before .before .before .before .before .before .before .before .before .before .before .before .before .before .before .before .before .before .before .number-bool) .kept .1 .1 .0, (c .before .before .before .before .before .before .before .before .before .before .before .before .before .before .number-rttids) .kept .1 .1 .0, (c .before .before .before .before .before .before .before .number-rttids2) .kept .1 .1 .0)
+
+returns-4 : tie.Need-returns-4
+returns-4 c = recordedThree ((c .before .before .before .before .before .before .before .before .before .before .before .before .before .before .before .before .before .q1) .given .1) ((c .before .before .before .before .before .before .before .before .before .before .before .before .before .before .before .before .before .before .before .before .before .number-bool) .ensures) ((c .before .before .before .before .before .before .before .before .before .before .q2) .given .1) ((c .before .before .before .before .before .before .before .before .before .before .before .before .before .before .number-rttids) .ensures) ((c .before .before .before .q3) .given .1) ((c .before .before .before .before .before .before .before .number-rttids2) .ensures) (λ a m n p. twoOf (kind.Func (eqb a 1)) (p + 1) m n) (listedTwo ((c .before .items-at) .ensures) ((c .items-at2) .ensures) (fixed-place ((c .before .before .before .before .before .before .before .before .before .before .before .before .before .before .before .before .before .q1) .given .1) ((c .before .before .before .before .before .before .before .before .before .before .before .before .before .before .before .before .before .before .before .before .before .number-bool) .ensures)) (rttids-place ((c .before .before .before .before .before .before .before .before .before .before .q2) .given .1) ((c .before .before .before .before .before .before .before .before .before .before .before .before .before .before .number-rttids) .ensures)))
+
+pub func-spec : {M : Type 1} → statement M
+func-spec =
+    tie.close
+    (tie.spec
+    number-bool-requires
+    enum-known-q1
+    enum-told
+    not-type-requires
+    same-length
+    returns
+    number-rttids-requires
+    enum-known-q2
+    enum-told-2
+    not-type-requires-2
+    same-length-2
+    returns-2
+    number-rttids-requires-2
+    enum-known-q3
+    enum-told-3
+    not-type-requires-3
+    same-length-3
+    returns-3
+    items-at-requires
+    items-at-requires-2
+    same-length-4
+    returns-4)

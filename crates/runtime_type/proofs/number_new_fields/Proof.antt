@@ -1,0 +1,46 @@
+use borrow.Author.Needs.{needs}
+use Rattle.reader.proofs.Laws.{reading}
+use Rattle.runtime_type.proofs.Laws.{numbering, listAsked, listBehind}
+use Rattle.runtime_type.proofs.number_new_fields.Statement.{statement}
+use Rattle.runtime_type.proofs.number_new_fields.Tie as tie
+
+number-fields-requires : tie.Need-number-fields-requires
+number-fields-requires c κs = search (needs, reading, numbering)
+
+enum-known-q : tie.Need-enum-known-q
+enum-known-q c = search (needs, reading, numbering)
+
+enum-told : tie.Need-enum-told
+enum-told c = search (needs, reading, numbering)
+
+same-length : tie.Need-same-length
+same-length c = search (needs, reading, numbering)
+
+returns : tie.Need-returns
+returns c = search (needs, reading, numbering)
+
+field-set-requires : tie.Need-field-set-requires
+field-set-requires c κs = listBehind ((c .before .q) .given .1) (c .before .before .before .before .before .before .before .before .before .pre) ((c .before .before .before .before .before .number-fields) .ensures)
+
+with-requires : tie.Need-with-requires
+with-requires c κs = search (needs, reading, numbering)
+
+same-length-2 : tie.Need-same-length-2
+same-length-2 c = search (needs, reading, numbering)
+
+returns-2 : tie.Need-returns-2
+returns-2 c = listAsked ((c .before .before .before .q) .given .1) ((c .before .before .before .before .before .before .before .number-fields) .ensures) ((c .before .field-set) .ensures) ((c .with) .ensures)
+
+pub number-new-fields-spec : {M : Type 1} → statement M
+number-new-fields-spec =
+    tie.close
+    (tie.spec
+    number-fields-requires
+    enum-known-q
+    enum-told
+    same-length
+    returns
+    field-set-requires
+    with-requires
+    same-length-2
+    returns-2)

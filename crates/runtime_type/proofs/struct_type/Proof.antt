@@ -1,0 +1,82 @@
+use Prim.Native.Nat.{_+_}
+use native.Mathlib.Omega.{arith}
+use borrow.Author.Needs.{needs}
+use Rattle.reader.proofs.Laws.{reading}
+use Rattle.vob24.specs.Grammar.{runtimeStruct}
+use Rattle.runtime_type.proofs.Laws.{recording, fixed-fits, fixed-place, listed, recordedTwo}
+use Rattle.runtime_type.specs.declared.RuntimeType.the-variants as kind
+use Rattle.runtime_type.specs.Records.{listedAt}
+use Rattle.runtime_type.proofs.struct_type.Statement.{statement}
+use Rattle.runtime_type.proofs.struct_type.Tie as tie
+
+number-u32-requires : tie.Need-number-u32-requires
+number-u32-requires c κs = search (needs, reading, recording)
+
+enum-known-q1 : tie.Need-enum-known-q1
+enum-known-q1 c = search (needs, reading, recording)
+
+enum-told : tie.Need-enum-told
+enum-told c = search (needs, reading, recording)
+
+not-type-requires : tie.Need-not-type-requires
+not-type-requires c κs = search (needs, reading, recording)
+
+same-length : tie.Need-same-length
+same-length c = search (needs, reading, recording)
+
+returns : tie.Need-returns
+unfolding runtimeStruct
+returns c = search (needs, reading, recording)
+
+number-new-fields-requires : tie.Need-number-new-fields-requires
+number-new-fields-requires c κs = search (needs, reading, recording)
+
+enum-known-q2 : tie.Need-enum-known-q2
+enum-known-q2 c = search (needs, reading, recording)
+
+enum-told-2 : tie.Need-enum-told-2
+enum-told-2 c = search (needs, reading, recording)
+
+not-type-requires-2 : tie.Need-not-type-requires-2
+not-type-requires-2 c κs = search (needs, reading, recording)
+
+same-length-2 : tie.Need-same-length-2
+same-length-2 c = search (needs, reading, recording)
+
+returns-2 : tie.Need-returns-2
+unfolding runtimeStruct
+returns-2 c = search (needs, reading, recording)
+
+cast-t14 : tie.Need-cast-t14
+cast-t14 c = record { fits = fixed-fits ((c .before .before .before .before .before .before .before .before .q1) .given .1) ((c .before .before .before .before .before .before .before .before .before .before .before .before .number-u32) .ensures) (λ i. omega (arith, (c .before .before .before .before .before .before .before .before .before .before .before .before .before .before .before .shared-slice-known) .given i)) }
+
+items-at-requires : tie.Need-items-at-requires
+items-at-requires c κs = search (needs, reading, recording)
+
+same-length-3 : tie.Need-same-length-3
+same-length-3 c = search (needs, reading, recording)
+
+returns-3 : tie.Need-returns-3
+unfolding runtimeStruct
+returns-3 c = recordedTwo ((c .before .before .before .before .before .before .before .before .before .q1) .given .1) ((c .before .before .before .before .before .before .before .before .before .before .before .before .before .number-u32) .ensures) ((c .before .before .q2) .given .1) ((c .before .before .before .before .before .before .number-new-fields) .ensures) (λ m n p. listedAt (kind.Struct m) (p + 4) n) (listed ((c .items-at) .ensures) (fixed-place ((c .before .before .before .before .before .before .before .before .before .q1) .given .1) ((c .before .before .before .before .before .before .before .before .before .before .before .before .before .number-u32) .ensures)))
+
+pub struct-type-spec : {M : Type 1} → statement M
+struct-type-spec =
+    tie.close
+    (tie.spec
+    number-u32-requires
+    enum-known-q1
+    enum-told
+    not-type-requires
+    same-length
+    returns
+    number-new-fields-requires
+    enum-known-q2
+    enum-told-2
+    not-type-requires-2
+    same-length-2
+    returns-2
+    cast-t14
+    items-at-requires
+    same-length-3
+    returns-3)
