@@ -1,0 +1,62 @@
+use Rattle.reader.proofs.Laws.{reading, at-step, numberThen}
+use Rattle.vob24.specs.Settings.{settings}
+use Rattle.reader.proofs.Parts.{parts}
+use Rattle.vob24.specs.Grammar.{section, afterFunctions}
+use borrow.Author.Needs.{needs}
+use Rattle.serialize.proofs.functions_on.Statement.{statement}
+use Rattle.serialize.proofs.functions_on.Tie as tie
+
+enum-known-r : tie.Need-enum-known-r
+enum-known-r c = search needs
+
+enum-told : tie.Need-enum-told
+enum-told c = search needs
+
+returns : tie.Need-returns
+returns c = search (needs, reading, parts)
+
+number-functions-requires : tie.Need-number-functions-requires
+number-functions-requires c κs = search (needs, reading, parts)
+
+enum-known-q : tie.Need-enum-known-q
+enum-known-q c = search needs
+
+enum-told-2 : tie.Need-enum-told-2
+enum-told-2 c = search needs
+
+refused-requires : tie.Need-refused-requires
+refused-requires c κs = search needs
+
+same-length : tie.Need-same-length
+same-length c = search needs
+
+returns-2 : tie.Need-returns-2
+unfolding section
+returns-2 c = search (needs, reading, parts)
+
+after-functions-requires : tie.Need-after-functions-requires
+after-functions-requires c κs = search (needs, reading, parts)
+
+same-length-2 : tie.Need-same-length-2
+same-length-2 c = search needs
+
+returns-3 : tie.Need-returns-3
+unfolding section
+returns-3 c = at-step ((c .before .before .before .before .before .before .before .before .before .before .before .before .r) .given .1) (numberThen (afterFunctions settings) ((c .before .before .before .before .before .q) .given .1) ((c .before .before .before .before .before .before .before .before .before .number-functions) .ensures) ((c .before .before .after-functions) .ensures))
+
+pub functions-on-spec : {M : Type 1} → statement M
+functions-on-spec =
+    tie.close
+    (tie.spec
+    enum-known-r
+    enum-told
+    returns
+    number-functions-requires
+    enum-known-q
+    enum-told-2
+    refused-requires
+    same-length
+    returns-2
+    after-functions-requires
+    same-length-2
+    returns-3)
