@@ -224,7 +224,7 @@ module _ {s : List ℕ} {b : ℕ} {r₀ r : Step} {t₀ e : List ℕ} (o : Opens
   read-within = record { place = λ c i. let y : ReadyAt s c = rw i at (k .ready) in y .within }
 
   module _ {r′ : Step} (g : Ends (length s) r r′) where
-    read-passed : Passed (pack settings) (vob.wholeTrace settings s) s 0 b r₀ r′
+    pub read-passed : Passed (pack settings) (vob.wholeTrace settings s) s 0 b r₀ r′
     read-passed = rw (g .is) (whole-cases s b (rw (o .is) (opened-as s 0 b)) (k .reads))
 
     pub read-since : Since 0 b r′

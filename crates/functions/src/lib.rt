@@ -230,3 +230,13 @@ pub fn number_functions(s: &[u8], c: Cursor, tape: &mut [u32]) -> Number
     }
     reader::with(n, here)
 }
+
+pub fn functions(s: &[u8], r: Step, tape: &mut [u32]) -> Step
+    requires { ⌜ Ready (now s) r ⌝ }
+    ensures { λ q. ⌜ Reader functionList (now (s .entry)) r (now (tape .entry)) q (now (tape .exit)) ⌝ }
+{
+    let Step::Taken(c) = r else {
+        return r;
+    };
+    reader::refused(number_functions(s, c, tape))
+}

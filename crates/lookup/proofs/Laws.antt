@@ -142,7 +142,7 @@ module _ {s : List ℕ} {from n : ℕ} {name : List ℕ} {c : Cursor} where
       unfolding pick
       looking-found m e =
           let f : same (part s (at + 4) (little (part s at 4))) name ≡ true = rw (← (x .is)) (sym (m .is) ∙ e) in
-          record { is = rw (y .is, x .is) (sym (step′ ∙ rw f)) }
+          record { is = rw (y .is, x .is) (sym (step′ ∙ rw f)); room = record { fits = λ p′ n′ i. let u : p′ ≡ at + 4 + a + 4 + 4 = cc in let w : n′ ≡ b = cc in omega (arith, looking-room .0) } }
 
       pub looking-on : {d : Bool} → IsName s (at + 4) a name d → d ≡ false → Looking s from n name c (at + 4 + a + 4 + 4 + b) (k - 1)
       unfolding pick
@@ -152,4 +152,4 @@ module _ {s : List ℕ} {from n : ℕ} {name : List ℕ} {c : Cursor} where
 
   pub looking-done : {at k : ℕ} → Looking s from n name c at k → k ≤ 0 → Looks s from n name c (Found.Not (record { number = Refusals.noSuchArtifact; context = 0; detail1 = 0; detail2 = 0; place = c .place; left = c .left }))
   unfolding vob.lookIn
-  looking-done {at} {k} h l = record { is = sym (h .rest ∙ rw (items-none (artifact settings) k s at l)) }
+  looking-done {at} {k} h l = record { is = sym (h .rest ∙ rw (items-none (artifact settings) k s at l)); room = record { fits = λ p n i. let no : _≡_ {A = ℕ} 0 1 = cc in absurd (omega arith) } }

@@ -1,8 +1,9 @@
 -- The contracts of the lookup's walk over the artifacts.
-use Prim.Native.Nat.{ℕ}
+use Prim.Native.Nat.{ℕ, _+_, _≤_}
 use mathlib.Core.Path.{_≡_}
 use mathlib.Core.List.{List}
 use mathlib.Core.Bool.{Bool}
+use lib.ListN.{length}
 use Rattle.format.specs.Reading.{part, same}
 use Rattle.vob24.specs.Settings.{settings}
 use Rattle.vob24.specs.Grammar.{artifact}
@@ -20,6 +21,11 @@ foundOf (Found.Not x) = vob.Not (wrongOf x) (x .place) (x .left)
 pub record IsName (s : List ℕ) (p n : ℕ) (name : List ℕ) (q : Bool) : Type 0 where
   pub is : q ≡ same (part s p n) name
 
+-- What was found stands in the pack.
+pub record Room (s : List ℕ) (q : Found) : Type 0 where
+  pub fits : (p n : ℕ) → q ≡ Found.At p n → p + n ≤ length s
+
 -- The first of n artifacts from p on that has the name.
 pub record Looks (s : List ℕ) (p n : ℕ) (name : List ℕ) (c : Cursor) (q : Found) : Type 0 where
   pub is : foundOf q ≡ vob.lookIn name (itemsAt (artifact settings) n s p) (c .place) (c .left)
+  pub room : Room s q

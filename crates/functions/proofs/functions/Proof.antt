@@ -1,0 +1,37 @@
+use Rattle.reader.proofs.Laws.{reading}
+use borrow.Author.Needs.{needs}
+use Rattle.functions.proofs.functions.Statement.{statement}
+use Rattle.functions.proofs.functions.Tie as tie
+
+enum-known-r : tie.Need-enum-known-r
+enum-known-r c = search needs
+
+enum-told : tie.Need-enum-told
+enum-told c = search needs
+
+returns : tie.Need-returns
+returns c = search (needs, reading)
+
+number-functions-requires : tie.Need-number-functions-requires
+number-functions-requires c κs = search (needs, reading)
+
+refused-requires : tie.Need-refused-requires
+refused-requires c κs = search needs
+
+same-length : tie.Need-same-length
+same-length c = search needs
+
+returns-2 : tie.Need-returns-2
+returns-2 c = search (needs, reading)
+
+pub functions-spec : {M : Type 1} → statement M
+functions-spec =
+    tie.close
+    (tie.spec
+    enum-known-r
+    enum-told
+    returns
+    number-functions-requires
+    refused-requires
+    same-length
+    returns-2)
