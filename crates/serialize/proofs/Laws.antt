@@ -1,7 +1,7 @@
 -- Reading on to a part of what a whole reading has taken.
-use Prim.Native.Nat.{ℕ, _+_, _≤_}
+use Prim.Native.Nat.{ℕ, _+_, _-_, _≤_}
 use mathlib.Core.Path.{_≡_, refl, sym, _∙_}
-use mathlib.Core.List.{List}
+use mathlib.Core.List.{List, []}
 use native.Mathlib.Omega.{arith}
 use lib.ListN.{length}
 use Rattle.format.specs.Trace.{Settled, refused, taken, settle}
@@ -24,7 +24,7 @@ use Rattle.reader.specs.declared.Cursor.{Cursor}
 use Rattle.reader.specs.declared.Refusal.{Refusal}
 use Rattle.reader.specs.declared.Step.{Step}
 use Rattle.reader.specs.declared.Step.the-variants.{Taken, Refused}
-use Rattle.serialize.specs.Find.{On, Reaches, Whole, Located, LocateCall}
+use Rattle.serialize.specs.Find.{On, Reaches, Whole, Located, LocateCall, FindCall}
 
 rest : {v₁ : Value} (t : Settled Value) {v : Value} {q l : ℕ} → thenS t (λ w r m. taken (pair v₁ w) r m) ≡ taken v q l → (v₁ ≡ first v) × (t ≡ taken (second v) q l)
 unfolding thenS
@@ -117,3 +117,10 @@ module _ {s : List ℕ} {r₀ r r′ : Step} {t e : List ℕ} (o : Opens s 0 sta
   pub locate-refused : {name : List ℕ} {x : Refusal} → r′ ≡ Refused x → LocateCall s name (Found.Not x)
   unfolding findOutcome
   locate-refused i = record { is = rw (denied-of (read-passed o k g) i); room = record { fits = λ p n j. let no : _≡_ {A = ℕ} 0 1 = cc in absurd (omega arith) } }
+
+module _ {s name : List ℕ} {q : Found} (l : LocateCall s name q) where
+  pub find-part : {p n : ℕ} → q ≡ Found.At p n → FindCall s name (part s p (p + n - p))
+  find-part {p} {n} e = let x : p + n - p ≡ n = omega arith in record { is = rw (x, ← (l .is), e) }
+
+  pub find-none : {x : Refusal} → q ≡ Found.Not x → FindCall s name []
+  find-none e = record { is = rw (← (l .is), e) }

@@ -138,3 +138,17 @@ pub fn locate_artifact(pack: &[u8], name: &[u8]) -> Found
         Step::Taken(c) => located(pack, start, name, c),
     }
 }
+
+// That payload as a part of the pack; refused, an empty part.
+pub fn find_artifact<'a>(pack: &'a [u8], name: &[u8]) -> &'a [u8]
+    ensures { λ q. ⌜ FindCall (now (pack .entry)) (now (name .entry)) (now q) ⌝ }
+{
+    let found = locate_artifact(pack, name);
+    match found {
+        Found::At(start, length) => {
+            let end = start + length;
+            &pack[start..end]
+        }
+        Found::Not(_) => &pack[..0],
+    }
+}
