@@ -1,0 +1,115 @@
+// Replays the lists of the oracle's answers that its arguments name: whole packs and lookups.
+// Prints each difference, and a line for each list.
+use lookup::Found;
+use stored::LOOKUP;
+use stored::Tally;
+use stored::WHOLE;
+
+fn whole(t: Tally, h: &[u8], pack: &[u8], words: &[u8], tape: &mut [u32]) -> Tally {
+    stored::mark(tape);
+    let answer = serialize::read(pack, stored::long(h, stored::BUDGET), tape);
+    let t = stored::hold_answer(t, h, answer);
+    stored::hold_tape(t, h, words, tape)
+}
+
+fn lookup(t: Tally, h: &[u8], pack: &[u8], name: &[u8]) -> Tally {
+    let found = serialize::locate_artifact(pack, name);
+    let t = match found {
+        Found::At(start, length) => stored::hold_found(t, h, start, length),
+        Found::Not(r) => stored::hold_refusal(t, h, r),
+    };
+    stored::hold_payload(t, h, pack, serialize::find_artifact(pack, name))
+}
+
+fn replay_kind(
+    t: Tally,
+    h: &[u8],
+    pack: &[u8],
+    name: &[u8],
+    words: &[u8],
+    tape: &mut [u32],
+) -> Tally {
+    let kind = stored::number(h, stored::KIND);
+    if kind == LOOKUP {
+        return lookup(t, h, pack, name);
+    }
+    let t = stored::hold(t, b"kind", kind, WHOLE);
+    whole(t, h, pack, words, tape)
+}
+
+fn replay_record(
+    t: Tally,
+    h: &mut [u8],
+    pack: &mut [u8],
+    name: &[u8],
+    words: &[u8],
+    tape: &mut [u32],
+) -> Tally {
+    stored::swap_edit(h, pack);
+    let n = stored::room(h, tape);
+    let t = replay_kind(
+        t,
+        h,
+        stored::pack_of(h, pack),
+        stored::name_of(h, name),
+        words,
+        &mut tape[0..n],
+    );
+    stored::swap_edit(h, pack);
+    stored::one_more(t)
+}
+
+fn replay_list(
+    fd: i32,
+    list: &[u8],
+    h: &mut [u8],
+    pack: &mut [u8],
+    name: &mut [u8],
+    words: &mut [u8],
+    tape: &mut [u32],
+) {
+    let mut t = stored::first_tally();
+    // A proved loop has to end, and nothing says that a list does.
+    let mut turns = u64::MAX;
+    while turns > 0 {
+        if !stored::next_record(fd, list, t, h, pack, name, words, tape) {
+            return;
+        }
+        t = replay_record(t, h, pack, name, words, tape);
+        turns -= 1;
+    }
+}
+
+fn replay_argument(i: usize) {
+    let mut path = io::buffer();
+    let n = os::arg(i, &mut path);
+    let fd = os::open_read(&path[..n]);
+    if fd < 0 {
+        os::fail(&path[..n]);
+        return;
+    }
+    let mut header = [0u8; 128];
+    let mut pack = [0u8; 65536];
+    let mut name = [0u8; 129];
+    let mut words = [0u8; 262144];
+    let mut tape = [0u32; 65536];
+    replay_list(
+        fd,
+        &path[..n],
+        &mut header,
+        &mut pack,
+        &mut name,
+        &mut words,
+        &mut tape,
+    );
+    libc::close(fd);
+}
+
+fn main() {
+    let n = os::arg_count();
+    let mut i = 1;
+    while i < n {
+        replay_argument(i);
+        i += 1;
+    }
+}
