@@ -1,8 +1,8 @@
 // The oracle's stored answers: reads a list's records one by one, and holds what a call answered against what a record
 // says. oracle/README.md has the format.
+use calls::Answer;
 use libc::STDOUT_FILENO;
 use reader::Refusal;
-use calls::Answer;
 use std::num::wrapping_add_u32;
 use std::num::wrapping_add_u64;
 use std::num::wrapping_sub_u32;
