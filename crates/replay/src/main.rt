@@ -1,13 +1,55 @@
-// Replays the lists of the oracle's answers that its arguments name: whole packs and lookups.
+// Replays the lists of the oracle's answers that its arguments name: whole packs, section calls and lookups.
 // Prints each difference, and a line for each list.
+use calls::Answer;
 use lookup::Found;
 use stored::LOOKUP;
+use stored::SECTION_CALL;
 use stored::Tally;
 use stored::WHOLE;
 
 fn whole(t: Tally, h: &[u8], pack: &[u8], words: &[u8], tape: &mut [u32]) -> Tally {
     stored::mark(tape);
     let answer = serialize::read(pack, stored::long(h, stored::BUDGET), tape);
+    let t = stored::hold_answer(t, h, answer);
+    stored::hold_tape(t, h, words, tape)
+}
+
+fn called(
+    number: u64,
+    pack: &[u8],
+    place: usize,
+    budget: u64,
+    functions: u64,
+    tape: &mut [u32],
+) -> Answer {
+    match number {
+        1 => sections::read_name(pack, place, budget, tape),
+        2 => sections::read_structs(pack, place, budget, tape),
+        3 => sections::read_interfaces(pack, place, budget, tape),
+        4 => sections::read_named_types(pack, place, budget, tape),
+        5 => sections::read_itabs(pack, place, budget, tape),
+        6 => sections::read_runtime_types(pack, place, budget, tape),
+        7 => sections::read_well_known(pack, place, budget, tape),
+        8 => sections::read_constants(pack, place, budget, tape),
+        9 => sections::read_globals(pack, place, budget, tape),
+        10 => sections::read_functions(pack, place, budget, tape),
+        11 => sections::read_externs(pack, place, budget, tape),
+        12 => sections::read_entry(pack, place, budget, tape),
+        13 => sections::read_island_init(pack, place, budget, tape),
+        14 => sections::read_artifacts(pack, place, budget, tape),
+        15 => sections::read_files(pack, place, budget, tape),
+        16 => sections::read_function_locations(pack, place, budget, tape),
+        _ => sections::read_inline_sources(pack, place, budget, functions, tape),
+    }
+}
+
+fn section(t: Tally, h: &[u8], pack: &[u8], words: &[u8], tape: &mut [u32]) -> Tally {
+    let number = stored::number(h, stored::SECTION);
+    let place = stored::long(h, stored::PLACE) as usize;
+    let budget = stored::long(h, stored::BUDGET);
+    let functions = stored::long(h, stored::FUNCTIONS);
+    stored::mark(tape);
+    let answer = called(number, pack, place, budget, functions, tape);
     let t = stored::hold_answer(t, h, answer);
     stored::hold_tape(t, h, words, tape)
 }
@@ -32,6 +74,9 @@ fn replay_kind(
     let kind = stored::number(h, stored::KIND);
     if kind == LOOKUP {
         return lookup(t, h, pack, name);
+    }
+    if kind == SECTION_CALL {
+        return section(t, h, pack, words, tape);
     }
     let t = stored::hold(t, b"kind", kind, WHOLE);
     whole(t, h, pack, words, tape)

@@ -1,0 +1,61 @@
+use borrow.Author.Needs.{needs}
+use Rattle.vob24.specs.Grammar.{section, functions}
+use Rattle.calls.proofs.Laws.{section-since, section-refused, section-taken}
+use Rattle.sections.proofs.read_functions.Statement.{statement}
+use Rattle.sections.proofs.read_functions.Tie as tie
+
+opening-requires : tie.Need-opening-requires
+opening-requires c κs = search needs
+
+slice-relend-prefix-functions : tie.Need-slice-relend-prefix-functions
+slice-relend-prefix-functions c = search needs
+
+slice-aggregate-functions : tie.Need-slice-aggregate-functions
+slice-aggregate-functions c = search needs
+
+functions-requires : tie.Need-functions-requires
+functions-requires c κs = search needs
+
+closed-requires : tie.Need-closed-requires
+unfolding section
+closed-requires c κs = section-since 0 functions ((c .before .before .before .before .opening) .ensures) ((c .before .before .functions) .ensures)
+
+enum-told : tie.Need-enum-told
+enum-told c = search needs
+
+enum-told-2 : tie.Need-enum-told-2
+enum-told-2 c = search needs
+
+same-length : tie.Need-same-length
+same-length c = search needs
+
+returns : tie.Need-returns
+unfolding section
+returns c = section-refused 0 functions ((c .before .before .before .before .before .before .before .opening) .ensures) ((c .before .before .before .before .before .functions) .ensures) (search needs) ((c .before .before .closed) .ensures) ((c .enum-told2) .given .1)
+
+functions-requires-2 : tie.Need-functions-requires-2
+functions-requires-2 c κs = search needs
+
+same-length-2 : tie.Need-same-length-2
+same-length-2 c = search needs
+
+returns-2 : tie.Need-returns-2
+unfolding section
+returns-2 c = section-taken 0 functions ((c .before .before .before .before .before .before .before .before .before .before .before .opening) .ensures) ((c .before .before .before .before .before .before .before .before .before .functions) .ensures) (search needs) ((c .before .before .before .before .before .before .closed) .ensures) ((c .before .before .before .before .enum-told) .given .1) ((c .before .before .functions2) .ensures)
+
+pub read-functions-spec : {M : Type 1} → statement M
+read-functions-spec =
+    tie.close
+    (tie.spec
+    opening-requires
+    slice-relend-prefix-functions
+    slice-aggregate-functions
+    functions-requires
+    closed-requires
+    enum-told
+    enum-told-2
+    same-length
+    returns
+    functions-requires-2
+    same-length-2
+    returns-2)

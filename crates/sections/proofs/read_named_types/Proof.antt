@@ -1,0 +1,61 @@
+use borrow.Author.Needs.{needs}
+use Rattle.vob24.specs.Grammar.{section, namedTypes}
+use Rattle.calls.proofs.Laws.{section-since, section-refused, section-taken}
+use Rattle.sections.proofs.read_named_types.Statement.{statement}
+use Rattle.sections.proofs.read_named_types.Tie as tie
+
+opening-requires : tie.Need-opening-requires
+opening-requires c κs = search needs
+
+slice-relend-prefix-named-types : tie.Need-slice-relend-prefix-named-types
+slice-relend-prefix-named-types c = search needs
+
+slice-aggregate-named-types : tie.Need-slice-aggregate-named-types
+slice-aggregate-named-types c = search needs
+
+named-types-requires : tie.Need-named-types-requires
+named-types-requires c κs = search needs
+
+closed-requires : tie.Need-closed-requires
+unfolding section
+closed-requires c κs = section-since 0 namedTypes ((c .before .before .before .before .opening) .ensures) ((c .before .before .named-types) .ensures)
+
+enum-told : tie.Need-enum-told
+enum-told c = search needs
+
+enum-told-2 : tie.Need-enum-told-2
+enum-told-2 c = search needs
+
+same-length : tie.Need-same-length
+same-length c = search needs
+
+returns : tie.Need-returns
+unfolding section
+returns c = section-refused 0 namedTypes ((c .before .before .before .before .before .before .before .opening) .ensures) ((c .before .before .before .before .before .named-types) .ensures) (search needs) ((c .before .before .closed) .ensures) ((c .enum-told2) .given .1)
+
+named-types-requires-2 : tie.Need-named-types-requires-2
+named-types-requires-2 c κs = search needs
+
+same-length-2 : tie.Need-same-length-2
+same-length-2 c = search needs
+
+returns-2 : tie.Need-returns-2
+unfolding section
+returns-2 c = section-taken 0 namedTypes ((c .before .before .before .before .before .before .before .before .before .before .before .opening) .ensures) ((c .before .before .before .before .before .before .before .before .before .named-types) .ensures) (search needs) ((c .before .before .before .before .before .before .closed) .ensures) ((c .before .before .before .before .enum-told) .given .1) ((c .before .before .named-types2) .ensures)
+
+pub read-named-types-spec : {M : Type 1} → statement M
+read-named-types-spec =
+    tie.close
+    (tie.spec
+    opening-requires
+    slice-relend-prefix-named-types
+    slice-aggregate-named-types
+    named-types-requires
+    closed-requires
+    enum-told
+    enum-told-2
+    same-length
+    returns
+    named-types-requires-2
+    same-length-2
+    returns-2)

@@ -1,0 +1,61 @@
+use borrow.Author.Needs.{needs}
+use Rattle.vob24.specs.Grammar.{section, structs}
+use Rattle.calls.proofs.Laws.{section-since, section-refused, section-taken}
+use Rattle.sections.proofs.read_structs.Statement.{statement}
+use Rattle.sections.proofs.read_structs.Tie as tie
+
+opening-requires : tie.Need-opening-requires
+opening-requires c κs = search needs
+
+slice-relend-prefix-structs : tie.Need-slice-relend-prefix-structs
+slice-relend-prefix-structs c = search needs
+
+slice-aggregate-structs : tie.Need-slice-aggregate-structs
+slice-aggregate-structs c = search needs
+
+structs-requires : tie.Need-structs-requires
+structs-requires c κs = search needs
+
+closed-requires : tie.Need-closed-requires
+unfolding section
+closed-requires c κs = section-since 0 structs ((c .before .before .before .before .opening) .ensures) ((c .before .before .structs) .ensures)
+
+enum-told : tie.Need-enum-told
+enum-told c = search needs
+
+enum-told-2 : tie.Need-enum-told-2
+enum-told-2 c = search needs
+
+same-length : tie.Need-same-length
+same-length c = search needs
+
+returns : tie.Need-returns
+unfolding section
+returns c = section-refused 0 structs ((c .before .before .before .before .before .before .before .opening) .ensures) ((c .before .before .before .before .before .structs) .ensures) (search needs) ((c .before .before .closed) .ensures) ((c .enum-told2) .given .1)
+
+structs-requires-2 : tie.Need-structs-requires-2
+structs-requires-2 c κs = search needs
+
+same-length-2 : tie.Need-same-length-2
+same-length-2 c = search needs
+
+returns-2 : tie.Need-returns-2
+unfolding section
+returns-2 c = section-taken 0 structs ((c .before .before .before .before .before .before .before .before .before .before .before .opening) .ensures) ((c .before .before .before .before .before .before .before .before .before .structs) .ensures) (search needs) ((c .before .before .before .before .before .before .closed) .ensures) ((c .before .before .before .before .enum-told) .given .1) ((c .before .before .structs2) .ensures)
+
+pub read-structs-spec : {M : Type 1} → statement M
+read-structs-spec =
+    tie.close
+    (tie.spec
+    opening-requires
+    slice-relend-prefix-structs
+    slice-aggregate-structs
+    structs-requires
+    closed-requires
+    enum-told
+    enum-told-2
+    same-length
+    returns
+    structs-requires-2
+    same-length-2
+    returns-2)

@@ -1,0 +1,233 @@
+// The section calls by value: each section of a pack alone, from a place and a budget, into a tape of its own.
+// The Rust has no such calls; each reads what Module::deserialize reads of its section.
+ghost use Rattle.vob24.specs.Grammar as vob;
+ghost use Rattle.calls.specs.Call.{SectionCall};
+use calls::Answer;
+
+pub fn read_name(pack: &[u8], place: usize, budget: u64, tape: &mut [u32]) -> Answer
+    ensures { λ q. ⌜ SectionCall 0 vob.name (now (pack .entry)) place budget (now (tape .entry)) q (now (tape .exit)) ⌝ }
+{
+    let start = calls::opening(pack, place, budget);
+    let first = fields::field_str(pack, start, &mut tape[..0]);
+    let answer = calls::closed(first, place, budget, tape.len());
+    let Answer::Taken { .. } = answer else {
+        return answer;
+    };
+    fields::field_str(pack, start, tape);
+    answer
+}
+
+pub fn read_structs(pack: &[u8], place: usize, budget: u64, tape: &mut [u32]) -> Answer
+    ensures { λ q. ⌜ SectionCall 0 vob.structs (now (pack .entry)) place budget (now (tape .entry)) q (now (tape .exit)) ⌝ }
+{
+    let start = calls::opening(pack, place, budget);
+    let first = structs::structs(pack, start, &mut tape[..0]);
+    let answer = calls::closed(first, place, budget, tape.len());
+    let Answer::Taken { .. } = answer else {
+        return answer;
+    };
+    structs::structs(pack, start, tape);
+    answer
+}
+
+pub fn read_interfaces(pack: &[u8], place: usize, budget: u64, tape: &mut [u32]) -> Answer
+    ensures { λ q. ⌜ SectionCall 0 vob.interfaces (now (pack .entry)) place budget (now (tape .entry)) q (now (tape .exit)) ⌝ }
+{
+    let start = calls::opening(pack, place, budget);
+    let first = interfaces::interfaces(pack, start, &mut tape[..0]);
+    let answer = calls::closed(first, place, budget, tape.len());
+    let Answer::Taken { .. } = answer else {
+        return answer;
+    };
+    interfaces::interfaces(pack, start, tape);
+    answer
+}
+
+pub fn read_named_types(pack: &[u8], place: usize, budget: u64, tape: &mut [u32]) -> Answer
+    ensures { λ q. ⌜ SectionCall 0 vob.namedTypes (now (pack .entry)) place budget (now (tape .entry)) q (now (tape .exit)) ⌝ }
+{
+    let start = calls::opening(pack, place, budget);
+    let first = interfaces::named_types(pack, start, &mut tape[..0]);
+    let answer = calls::closed(first, place, budget, tape.len());
+    let Answer::Taken { .. } = answer else {
+        return answer;
+    };
+    interfaces::named_types(pack, start, tape);
+    answer
+}
+
+pub fn read_itabs(pack: &[u8], place: usize, budget: u64, tape: &mut [u32]) -> Answer
+    ensures { λ q. ⌜ SectionCall 0 vob.itabs (now (pack .entry)) place budget (now (tape .entry)) q (now (tape .exit)) ⌝ }
+{
+    let start = calls::opening(pack, place, budget);
+    let first = tables::itabs(pack, start, &mut tape[..0]);
+    let answer = calls::closed(first, place, budget, tape.len());
+    let Answer::Taken { .. } = answer else {
+        return answer;
+    };
+    tables::itabs(pack, start, tape);
+    answer
+}
+
+pub fn read_runtime_types(pack: &[u8], place: usize, budget: u64, tape: &mut [u32]) -> Answer
+    ensures { λ q. ⌜ SectionCall 0 vob.runtimeTypes (now (pack .entry)) place budget (now (tape .entry)) q (now (tape .exit)) ⌝ }
+{
+    let start = calls::opening(pack, place, budget);
+    let first = runtime_type::runtime_types(pack, start, &mut tape[..0]);
+    let answer = calls::closed(first, place, budget, tape.len());
+    let Answer::Taken { .. } = answer else {
+        return answer;
+    };
+    runtime_type::runtime_types(pack, start, tape);
+    answer
+}
+
+pub fn read_well_known(pack: &[u8], place: usize, budget: u64, tape: &mut [u32]) -> Answer
+    ensures { λ q. ⌜ SectionCall 0 vob.wellKnown (now (pack .entry)) place budget (now (tape .entry)) q (now (tape .exit)) ⌝ }
+{
+    let start = calls::opening(pack, place, budget);
+    let first = tables::well_known(pack, start, &mut tape[..0]);
+    let answer = calls::closed(first, place, budget, tape.len());
+    let Answer::Taken { .. } = answer else {
+        return answer;
+    };
+    tables::well_known(pack, start, tape);
+    answer
+}
+
+pub fn read_constants(pack: &[u8], place: usize, budget: u64, tape: &mut [u32]) -> Answer
+    ensures { λ q. ⌜ SectionCall 0 vob.constants (now (pack .entry)) place budget (now (tape .entry)) q (now (tape .exit)) ⌝ }
+{
+    let start = calls::opening(pack, place, budget);
+    let first = tables::constants(pack, start, &mut tape[..0]);
+    let answer = calls::closed(first, place, budget, tape.len());
+    let Answer::Taken { .. } = answer else {
+        return answer;
+    };
+    tables::constants(pack, start, tape);
+    answer
+}
+
+pub fn read_globals(pack: &[u8], place: usize, budget: u64, tape: &mut [u32]) -> Answer
+    ensures { λ q. ⌜ SectionCall 0 vob.globals (now (pack .entry)) place budget (now (tape .entry)) q (now (tape .exit)) ⌝ }
+{
+    let start = calls::opening(pack, place, budget);
+    let first = tables::globals(pack, start, &mut tape[..0]);
+    let answer = calls::closed(first, place, budget, tape.len());
+    let Answer::Taken { .. } = answer else {
+        return answer;
+    };
+    tables::globals(pack, start, tape);
+    answer
+}
+
+pub fn read_functions(pack: &[u8], place: usize, budget: u64, tape: &mut [u32]) -> Answer
+    ensures { λ q. ⌜ SectionCall 0 vob.functions (now (pack .entry)) place budget (now (tape .entry)) q (now (tape .exit)) ⌝ }
+{
+    let start = calls::opening(pack, place, budget);
+    let first = functions::functions(pack, start, &mut tape[..0]);
+    let answer = calls::closed(first, place, budget, tape.len());
+    let Answer::Taken { .. } = answer else {
+        return answer;
+    };
+    functions::functions(pack, start, tape);
+    answer
+}
+
+pub fn read_externs(pack: &[u8], place: usize, budget: u64, tape: &mut [u32]) -> Answer
+    ensures { λ q. ⌜ SectionCall 0 vob.externs (now (pack .entry)) place budget (now (tape .entry)) q (now (tape .exit)) ⌝ }
+{
+    let start = calls::opening(pack, place, budget);
+    let first = tables::externs(pack, start, &mut tape[..0]);
+    let answer = calls::closed(first, place, budget, tape.len());
+    let Answer::Taken { .. } = answer else {
+        return answer;
+    };
+    tables::externs(pack, start, tape);
+    answer
+}
+
+pub fn read_entry(pack: &[u8], place: usize, budget: u64, tape: &mut [u32]) -> Answer
+    ensures { λ q. ⌜ SectionCall 0 vob.entry (now (pack .entry)) place budget (now (tape .entry)) q (now (tape .exit)) ⌝ }
+{
+    let start = calls::opening(pack, place, budget);
+    let first = tables::entry(pack, start, &mut tape[..0]);
+    let answer = calls::closed(first, place, budget, tape.len());
+    let Answer::Taken { .. } = answer else {
+        return answer;
+    };
+    tables::entry(pack, start, tape);
+    answer
+}
+
+pub fn read_island_init(pack: &[u8], place: usize, budget: u64, tape: &mut [u32]) -> Answer
+    ensures { λ q. ⌜ SectionCall 0 vob.islandInit (now (pack .entry)) place budget (now (tape .entry)) q (now (tape .exit)) ⌝ }
+{
+    let start = calls::opening(pack, place, budget);
+    let first = tables::island_init(pack, start, &mut tape[..0]);
+    let answer = calls::closed(first, place, budget, tape.len());
+    let Answer::Taken { .. } = answer else {
+        return answer;
+    };
+    tables::island_init(pack, start, tape);
+    answer
+}
+
+pub fn read_artifacts(pack: &[u8], place: usize, budget: u64, tape: &mut [u32]) -> Answer
+    ensures { λ q. ⌜ SectionCall 0 vob.artifacts (now (pack .entry)) place budget (now (tape .entry)) q (now (tape .exit)) ⌝ }
+{
+    let start = calls::opening(pack, place, budget);
+    let first = tables::artifacts(pack, start, &mut tape[..0]);
+    let answer = calls::closed(first, place, budget, tape.len());
+    let Answer::Taken { .. } = answer else {
+        return answer;
+    };
+    tables::artifacts(pack, start, tape);
+    answer
+}
+
+pub fn read_files(pack: &[u8], place: usize, budget: u64, tape: &mut [u32]) -> Answer
+    ensures { λ q. ⌜ SectionCall 0 vob.files (now (pack .entry)) place budget (now (tape .entry)) q (now (tape .exit)) ⌝ }
+{
+    let start = calls::opening(pack, place, budget);
+    let first = debug_info::files(pack, start, &mut tape[..0]);
+    let answer = calls::closed(first, place, budget, tape.len());
+    let Answer::Taken { .. } = answer else {
+        return answer;
+    };
+    debug_info::files(pack, start, tape);
+    answer
+}
+
+pub fn read_function_locations(pack: &[u8], place: usize, budget: u64, tape: &mut [u32]) -> Answer
+    ensures { λ q. ⌜ SectionCall 0 vob.functionLocations (now (pack .entry)) place budget (now (tape .entry)) q (now (tape .exit)) ⌝ }
+{
+    let start = calls::opening(pack, place, budget);
+    let first = debug_info::function_locations(pack, start, &mut tape[..0]);
+    let answer = calls::closed(first, place, budget, tape.len());
+    let Answer::Taken { .. } = answer else {
+        return answer;
+    };
+    debug_info::function_locations(pack, start, tape);
+    answer
+}
+
+// The number of functions bounds the list of functions with inline sources.
+pub fn read_inline_sources(
+    pack: &[u8],
+    place: usize,
+    budget: u64,
+    functions: u64,
+    tape: &mut [u32],
+) -> Answer
+    ensures { λ q. ⌜ SectionCall functions vob.inlineSources (now (pack .entry)) place budget (now (tape .entry)) q (now (tape .exit)) ⌝ }
+{
+    let start = calls::opening(pack, place, budget);
+    let first = debug_info::inline_sources(pack, start, functions, &mut tape[..0]);
+    let answer = calls::closed(first, place, budget, tape.len());
+    let Answer::Taken { .. } = answer else {
+        return answer;
+    };
+    debug_info::inline_sources(pack, start, functions, tape);
+    answer
+}
