@@ -1,6 +1,6 @@
 -- The laws of the leaves: what each answer of their codes has to show.
 use Prim.Native.Nat.{ℕ, _+_, _-_, _*_, _^_, _/_, _%_, _≤_, _<_}
-use mathlib.Core.Path.{_≡_, refl, _∙_}
+use mathlib.Core.Path.{_≡_, refl, ap, sym, _∙_}
 use mathlib.Core.List.{List, [], _∷_}
 use mathlib.Core.Bool.{true, false}
 use native.Mathlib.Omega.{arith}
@@ -20,7 +20,7 @@ use Rattle.format.specs.Ending.{part-length}
 use Rattle.format.specs.Laying.{digits-little}
 use Rattle.vob24.specs.Refusals.{invalidValueKind}
 use Rattle.vob24.specs.Leaves.{kindOk, packedOk, packedWord}
-use Rattle.reader.specs.Contract.{refusal, stepOf, payloadStep, textStep, textSpan, numberOf, ReadyAt, Paid}
+use Rattle.reader.specs.Contract.{refusal, stepOf, signedStep, floatStep, payloadStep, textStep, textSpan, numberOf, ReadyAt, Paid}
 use Rattle.reader.specs.Leaves.{past, Fetched, Short, Fetches, there, short, FetchesSigned, signed, shortSigned, FetchesFloat, float, shortFloat, Answered, Denied, Answers, answered, denied, entriesTrace, bytesTrace, CountAt, Counted, enough, few, Spans, spanned, unspanned, Bought, bought, unbought}
 use Rattle.reader.specs.declared.Cursor.{Cursor}
 use Rattle.reader.specs.declared.Refusal.{Refusal}
@@ -35,6 +35,27 @@ use Rattle.reader.specs.declared.Text.{Text}
 use Rattle.reader.proofs.Gather.{read, read-take, bytes-read}
 use Rattle.reader.proofs.Settles.{guard-yes, guard-no, room-yes, room-no, field-yes, field-no, pay-yes, pay-no}
 use Rattle.reader.proofs.Paying.{paid-no, paid-yes, paid-spent, paid-bought}
+
+-- ---- refusals, by the step of their answer
+
+pub apart : {X : Type 0} {c : Cursor} {x : Refusal} → Refused x ≡ Taken c → X
+apart e = let z : _≡_ {A = ℕ} 0 1 = cc in absurd (omega arith)
+
+signed-refusal : (r : Signed) {x : Refusal} → signedStep r ≡ Refused x → r ≡ Signed.Not x
+signed-refusal (Signed.Got i n c) e = apart (sym e)
+signed-refusal (Signed.Not y) e = cc
+
+float-refusal : (r : Float) {x : Refusal} → floatStep r ≡ Refused x → r ≡ Float.Not x
+float-refusal (Float.Got y n c) e = apart (sym e)
+float-refusal (Float.Not y) e = cc
+
+payload-refusal : (r : Payload) {x : Refusal} → payloadStep r ≡ Refused x → r ≡ Payload.Not x
+payload-refusal (Payload.Got p n c) e = apart (sym e)
+payload-refusal (Payload.Not y) e = cc
+
+pub text-refusal : (r : Text) {x : Refusal} → textStep r ≡ Refused x → r ≡ Text.Not x
+text-refusal (Text.Got p n k c) e = apart (sym e)
+text-refusal (Text.Not y) e = cc
 
 -- ---- fixed widths
 
@@ -87,14 +108,14 @@ module _ {s : List ℕ} {c : Cursor} {q : Number} where
   pub signed-got : {n : ℕ} {d : Cursor} {i : ℤ} → q ≡ Got n d → Fetches 8 s c q → i ≡ toZ w64 n → FetchesSigned s c (Signed.Got i n d)
   signed-got e h i = signed (fetched e h) i
 
-  pub signed-not : {x : Refusal} → q ≡ Not x → Fetches 8 s c q → FetchesSigned s c (Signed.Not x)
-  signed-not e h = shortSigned (shorts e h)
+  pub signed-not : {r : Signed} {x : Refusal} → q ≡ Not x → signedStep r ≡ stepOf q → Fetches 8 s c q → FetchesSigned s c r
+  signed-not {r} e i h = rw (signed-refusal r (i ∙ ap stepOf e)) (shortSigned (shorts e h))
 
   pub float-got : {n : ℕ} {d : Cursor} {y : ieee.Float} → q ≡ Got n d → Fetches 8 s c q → y ≡ ofBits binary64 n → FetchesFloat s c (Float.Got y n d)
   float-got e h i = float (fetched e h) i
 
-  pub float-not : {x : Refusal} → q ≡ Not x → Fetches 8 s c q → FetchesFloat s c (Float.Not x)
-  float-not e h = shortFloat (shorts e h)
+  pub float-not : {r : Float} {x : Refusal} → q ≡ Not x → floatStep r ≡ stepOf q → Fetches 8 s c q → FetchesFloat s c r
+  float-not {r} e i h = rw (float-refusal r (i ∙ ap stepOf e)) (shortFloat (shorts e h))
 
 -- past a number of a fixed width
 pub past-ready : {k : ℕ} {s : List ℕ} {c d : Cursor} {q : Number} {n : ℕ} → ReadyAt s c → q ≡ Got n d → Fetches k s c q → ReadyAt s d
@@ -254,8 +275,8 @@ module _ {s : List ℕ} {d : Cursor} {n k : ℕ} (r : ReadyAt s d) where
     unfolding bytesTrace
     bytes-there = field-yes (d .left) _ s _ _ inside
 
-    pub bytes-poor : {x : Refusal} → p ≡ Refused x → Bought s d n k (Payload.Not x)
-    bytes-poor i = let a = paid-spent i y in rw (a .is) (unbought (bytes-there ∙ pay-no (d .left) k n (d .place + n) (end (text (d .place) (part s (d .place) n)) (d .place + n)) (a .poor)))
+    pub bytes-poor : {q : Payload} {x : Refusal} → p ≡ Refused x → p ≡ payloadStep q → Bought s d n k q
+    bytes-poor {q} i j = let a = paid-spent i y in rw (payload-refusal q (sym j ∙ i), a .is) (unbought (bytes-there ∙ pay-no (d .left) k n (d .place + n) (end (text (d .place) (part s (d .place) n)) (d .place + n)) (a .poor)))
 
     pub bytes-got : {g : Cursor} → p ≡ Taken g → Bought s d n k (Payload.Got (d .place) n g)
     unfolding settle
@@ -266,9 +287,9 @@ unfolding traceLeaf bytesTrace
 payload-leads ρ k {s} {c} f i = rw (f .next) (field-yes (c .left) 4 s (c .place) _ (f .room) ∙ rw (← f .is) (guard-yes (c .left) _ _ _ i))
 
 module _ {s : List ℕ} {c : Cursor} {q : Number} {ρ : Rule} {k : ℕ} where
-  pub payload-short : {x : Refusal} → q ≡ Not x → Fetches 4 s c q → Spans (payload ρ k) s c (Payload.Not x)
+  pub payload-short : {p : Payload} {x : Refusal} → q ≡ Not x → payloadStep p ≡ stepOf q → Fetches 4 s c q → Spans (payload ρ k) s c p
   unfolding traceLeaf
-  payload-short e h = let j = shorts e h in rw (j .is) (unspanned (record { settles = field-no (c .left) 4 s (c .place) _ (j .room) }))
+  payload-short {p} e i h = let j = shorts e h in rw (payload-refusal p (i ∙ ap stepOf e), j .is) (unspanned (record { settles = field-no (c .left) 4 s (c .place) _ (j .room) }))
 
   module _ {n : ℕ} {d : Cursor} (e : q ≡ Got n d) (h : Fetches 4 s c q) where
     payload-denied : ρ .test n ≡ false → Denied (payload ρ k) s c (refusal (ρ .why n) (d .place) (d .left))
@@ -289,6 +310,18 @@ got-up e = rw e
 
 pub not-up : {q : Number} {x : Refusal} → q ≡ Not x → Refused x ≡ stepOf q
 not-up e = rw e
+
+pub signed-up : {q : Signed} {i : ℤ} {n : ℕ} {c : Cursor} → q ≡ Signed.Got i n c → Taken c ≡ signedStep q
+signed-up e = rw e
+
+pub signed-down : {q : Signed} {x : Refusal} → q ≡ Signed.Not x → Refused x ≡ signedStep q
+signed-down e = rw e
+
+pub float-up : {q : Float} {y : ieee.Float} {n : ℕ} {c : Cursor} → q ≡ Float.Got y n c → Taken c ≡ floatStep q
+float-up e = rw e
+
+pub float-down : {q : Float} {x : Refusal} → q ≡ Float.Not x → Refused x ≡ floatStep q
+float-down e = rw e
 
 pub payload-up : {q : Payload} {p n : ℕ} {c : Cursor} → q ≡ Payload.Got p n c → Taken c ≡ payloadStep q
 payload-up e = rw e
@@ -314,4 +347,4 @@ with-got n e = rw e
 pub with-not : (n : ℕ) {r : Step} {x : Refusal} → r ≡ Refused x → Not x ≡ numberOf n r
 with-not n e = rw e
 
-pub ruleset leaves = (lt-leb, le-leb, eq-eqb, ne-eqb, fetch-short, signed-got, signed-not, float-got, float-not, past-ready, narrow-byte, narrow-half, narrow-word, fixed-short, fixed-no, fixed-got, word-kind, word-id, packed-ok, tag-low, tag-gap, tag-above, tag-high, product-fits, counted-few, counted-paid, count-short, count-no, count-then, count-size, count-at, bytes-few, bytes-poor, bytes-got, payload-short, payload-no, payload-then, got-up, not-up, payload-up, payload-down, text-up, text-down, span-up, span-down, with-got, with-not, paid-no, paid-yes)
+pub ruleset leaves = (lt-leb, le-leb, eq-eqb, ne-eqb, fetch-short, signed-got, signed-not, float-got, float-not, past-ready, narrow-byte, narrow-half, narrow-word, fixed-short, fixed-no, fixed-got, word-kind, word-id, packed-ok, tag-low, tag-gap, tag-above, tag-high, product-fits, counted-few, counted-paid, count-short, count-no, count-then, count-size, count-at, bytes-few, bytes-poor, bytes-got, payload-short, payload-no, payload-then, got-up, not-up, signed-up, signed-down, float-up, float-down, payload-up, payload-down, text-up, text-down, span-up, span-down, with-got, with-not, paid-no, paid-yes)

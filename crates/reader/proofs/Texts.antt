@@ -14,13 +14,14 @@ use Rattle.vob24.specs.Utf8.{Scan, illFormed, characters, scan, wellFormed, isT
 use Rattle.utf8.specs.Answers.{scanOf}
 use Rattle.utf8.specs.declared.Scanned.{Scanned}
 use Rattle.utf8.specs.declared.Scanned.the-variants.{IllFormed, Characters}
-use Rattle.reader.specs.Contract.{refusal}
+use Rattle.reader.specs.Contract.{refusal, payloadStep, textStep}
 use Rattle.reader.specs.Leaves.{Denied, Spanned, Spans, spanned, unspanned, Texts, written, unwritten, Within, inside, nothing, Checked, formed, malformed, passed}
 use Rattle.reader.specs.declared.Cursor.{Cursor}
 use Rattle.reader.specs.declared.Refusal.{Refusal}
 use Rattle.reader.specs.declared.Payload.{Payload}
 use Rattle.reader.specs.declared.Text.{Text}
 use Rattle.reader.proofs.Settles.{guard-yes, guard-no}
+use Rattle.reader.proofs.Leaves.{text-refusal}
 
 -- the questions of a text are those of the payload, then its own
 string-after : (ρ : Rule) (k : ℕ) (ok : List ℕ → Bool) (s : List ℕ) (p : ℕ) → traceLeaf (string ρ k ok) s p ≡ bind (traceLeaf (payload ρ k) s p) (λ v q. guard (ok (content v)) (wrong invalidUtf8 0) q (end v q))
@@ -94,7 +95,7 @@ module _ {s : List ℕ} {q : Payload} where
     pub checked-not : {w : Scanned} {x : Refusal} → w ≡ IllFormed → scanOf w ≡ scan (take (p + n - p) (drop p s)) → x ≡ refusal (wrong invalidUtf8 0) (d .place) (d .left) → Checked s q (Text.Not x)
     checked-not i h y = rw e (malformed (scanned s p n (rw i at h)) y)
 
-  pub checked-passed : {x : Refusal} → q ≡ Payload.Not x → Checked s q (Text.Not x)
-  checked-passed e = rw e passed
+  pub checked-passed : {t : Text} {x : Refusal} → q ≡ Payload.Not x → textStep t ≡ payloadStep q → Checked s q t
+  checked-passed {t} e i = rw (text-refusal t (i ∙ ap payloadStep e), e) passed
 
 pub ruleset texts = (text-then, spans-within, checked-got, checked-not, checked-passed)

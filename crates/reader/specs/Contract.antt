@@ -16,6 +16,8 @@ use Rattle.reader.specs.declared.Step.{Step}
 use Rattle.reader.specs.declared.Step.the-variants.{Taken, Refused}
 use Rattle.reader.specs.declared.Number.{Number}
 use Rattle.reader.specs.declared.Number.the-variants.{Got, Not}
+use Rattle.reader.specs.declared.Signed.{Signed}
+use Rattle.reader.specs.declared.Float.{Float}
 use Rattle.reader.specs.declared.Payload.{Payload}
 use Rattle.reader.specs.declared.Text.{Text}
 
@@ -25,10 +27,18 @@ refusal w p b = record { number = w .number; context = w .context; detail1 = w .
 abbrev pub wrongOf : Refusal → Wrong
 wrongOf x = record { number = x .number; context = x .context; detail1 = x .detail1; detail2 = x .detail2 }
 
--- the answer without its number
+-- the answer without its value
 abbrev pub stepOf : Number → Step
 stepOf (Got n c) = Taken c
 stepOf (Not x) = Refused x
+
+abbrev pub signedStep : Signed → Step
+signedStep (Signed.Got i n c) = Taken c
+signedStep (Signed.Not x) = Refused x
+
+abbrev pub floatStep : Float → Step
+floatStep (Float.Got y n c) = Taken c
+floatStep (Float.Not x) = Refused x
 
 abbrev pub payloadStep : Payload → Step
 payloadStep (Payload.Got p n c) = Taken c

@@ -14,7 +14,7 @@ ghost use Rattle.vob24.specs.Settings.{settings, sizeOf, ModuleArtifact};
 ghost use Rattle.vob24.specs.Utf8.{wellFormed};
 ghost use Rattle.vob24.specs.Leaves.{free, atMost, atMostBare, limit, packedWord};
 ghost use Rattle.vob24.specs.Grammar.{metadataTag, methodSize, noHostCalls};
-ghost use Rattle.reader.specs.Contract.{refusal, stepOf, payloadStep, textStep, textSpan, numberOf, ReadyAt, Wordy, Kept, WordyPair, KeptPair, Paid};
+ghost use Rattle.reader.specs.Contract.{refusal, stepOf, signedStep, floatStep, payloadStep, textStep, textSpan, numberOf, ReadyAt, Wordy, Kept, WordyPair, KeptPair, Paid};
 ghost use Rattle.reader.specs.Leaves.{Fetches, FetchesSigned, FetchesFloat, Answers, CountAt, Counted, Spans, Within, Checked, Bought, Marks, Texts, magic, version};
 use utf8::Scanned;
 
@@ -98,6 +98,70 @@ pub fn refused_text(q: Text) -> Step
     match q {
         Text::Got(_, _, _, c) => Step::Taken(c),
         Text::Not(x) => Step::Refused(x),
+    }
+}
+
+pub fn refused_signed(q: Signed) -> Step
+    ensures { λ r. ⌜ r ≡ signedStep q ⌝ }
+{
+    match q {
+        Signed::Got(_, _, c) => Step::Taken(c),
+        Signed::Not(x) => Step::Refused(x),
+    }
+}
+
+pub fn refused_float(q: Float) -> Step
+    ensures { λ r. ⌜ r ≡ floatStep q ⌝ }
+{
+    match q {
+        Float::Got(_, _, c) => Step::Taken(c),
+        Float::Not(x) => Step::Refused(x),
+    }
+}
+
+// The refusal of a leaf's first part, as the leaf's own answer.
+fn not_signed(q: Number) -> Signed
+    ensures { λ r. ⌜ signedStep r ≡ stepOf q ⌝ }
+{
+    match q {
+        Number::Got(_, c) => Signed::Got(0, 0, c),
+        Number::Not(x) => Signed::Not(x),
+    }
+}
+
+fn not_float(q: Number) -> Float
+    ensures { λ r. ⌜ floatStep r ≡ stepOf q ⌝ }
+{
+    match q {
+        Number::Got(_, c) => Float::Got(0.0, 0, c),
+        Number::Not(x) => Float::Not(x),
+    }
+}
+
+fn not_payload(q: Number) -> Payload
+    ensures { λ r. ⌜ payloadStep r ≡ stepOf q ⌝ }
+{
+    match q {
+        Number::Got(_, c) => Payload::Got(0, 0, c),
+        Number::Not(x) => Payload::Not(x),
+    }
+}
+
+fn not_paid(r: Step) -> Payload
+    ensures { λ q. ⌜ r ≡ payloadStep q ⌝ }
+{
+    match r {
+        Step::Taken(c) => Payload::Got(0, 0, c),
+        Step::Refused(x) => Payload::Not(x),
+    }
+}
+
+fn not_text(q: Payload) -> Text
+    ensures { λ r. ⌜ textStep r ≡ payloadStep q ⌝ }
+{
+    match q {
+        Payload::Got(_, _, c) => Text::Got(0, 0, 0, c),
+        Payload::Not(x) => Text::Not(x),
     }
 }
 
@@ -314,20 +378,22 @@ pub fn read_i64(s: &[u8], c: Cursor) -> Signed
     requires { ⌜ ReadyAt (now s) c ⌝ }
     ensures { λ q. ⌜ FetchesSigned (now (s .entry)) c q ⌝ }
 {
-    match read_u64(s, c) {
-        Number::Got(n, d) => Signed::Got(i64_of(n), n, d),
-        Number::Not(x) => Signed::Not(x),
-    }
+    let q = read_u64(s, c);
+    let Number::Got(n, d) = q else {
+        return not_signed(q);
+    };
+    Signed::Got(i64_of(n), n, d)
 }
 
 pub fn read_f64(s: &[u8], c: Cursor) -> Float
     requires { ⌜ ReadyAt (now s) c ⌝ }
     ensures { λ q. ⌜ FetchesFloat (now (s .entry)) c q ⌝ }
 {
-    match read_u64(s, c) {
-        Number::Got(n, d) => Float::Got(f64_of(n), n, d),
-        Number::Not(x) => Float::Not(x),
-    }
+    let q = read_u64(s, c);
+    let Number::Got(n, d) = q else {
+        return not_float(q);
+    };
+    Float::Got(f64_of(n), n, d)
 }
 
 // ---- numbers held to a rule
@@ -490,41 +556,35 @@ fn bytes(s: &[u8], d: Cursor, n: u64, context: u64) -> Payload
         context,
         n,
     );
-    match paid {
-        Step::Taken(e) => Payload::Got(start, length, e),
-        Step::Refused(x) => Payload::Not(x),
-    }
+    let Step::Taken(e) = paid else {
+        return not_paid(paid);
+    };
+    Payload::Got(start, length, e)
 }
 
 pub fn read_bytes(s: &[u8], c: Cursor) -> Payload
     requires { ⌜ ReadyAt (now s) c ⌝ }
     ensures { λ q. ⌜ Spans (Leaf.payload free Refusals.byteString) (now (s .entry)) c q ⌝ }
 {
-    match read_u32(s, c) {
-        Number::Got(n, d) => bytes(s, d, n, numbers::BYTE_STRING),
-        Number::Not(x) => Payload::Not(x),
-    }
+    let q = read_u32(s, c);
+    let Number::Got(n, d) = q else {
+        return not_payload(q);
+    };
+    bytes(s, d, n, numbers::BYTE_STRING)
 }
 
 pub fn read_artifact_bytes(s: &[u8], c: Cursor, context: u64, most: u64) -> Payload
     requires { ⌜ ReadyAt (now s) c ⌝ }
     ensures { λ q. ⌜ Spans (Leaf.payload (limit Refusals.moduleArtifactLimitExceeded context most) context) (now (s .entry)) c q ⌝ }
 {
-    match read_u32(s, c) {
-        Number::Got(n, d) => {
-            if most < n {
-                return Payload::Not(over(
-                    d,
-                    numbers::MODULE_ARTIFACT_LIMIT_EXCEEDED,
-                    context,
-                    n,
-                    most,
-                ));
-            }
-            bytes(s, d, n, context)
-        }
-        Number::Not(x) => Payload::Not(x),
+    let q = read_u32(s, c);
+    let Number::Got(n, d) = q else {
+        return not_payload(q);
+    };
+    if most < n {
+        return Payload::Not(over(d, numbers::MODULE_ARTIFACT_LIMIT_EXCEEDED, context, n, most));
     }
+    bytes(s, d, n, context)
 }
 
 // The payload as a text.
@@ -532,17 +592,15 @@ fn text_of(s: &[u8], q: Payload) -> Text
     requires { ⌜ Within (now s) q ⌝ }
     ensures { λ t. ⌜ Checked (now (s .entry)) q t ⌝ }
 {
-    match q {
-        Payload::Got(start, length, d) => {
-            let end = start + length;
-            let found = utf8::scan(s, start, end);
-            match found {
-                Scanned::Characters(n) => Text::Got(start, length, n, d),
-                Scanned::IllFormed => Text::Not(refuse(d, numbers::INVALID_UTF8, 0)),
-            }
-        }
-        Payload::Not(x) => Text::Not(x),
-    }
+    let Payload::Got(start, length, d) = q else {
+        return not_text(q);
+    };
+    let end = start + length;
+    let found = utf8::scan(s, start, end);
+    let Scanned::Characters(n) = found else {
+        return Text::Not(refuse(d, numbers::INVALID_UTF8, 0));
+    };
+    Text::Got(start, length, n, d)
 }
 
 pub fn read_string(s: &[u8], c: Cursor) -> Text

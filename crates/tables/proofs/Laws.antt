@@ -17,7 +17,7 @@ use Rattle.vob24.specs.Settings.{settings}
 use Rattle.vob24.specs.Leaves.{u64, bool, str}
 use Rattle.vob24.specs.Grammar as vob
 use Rattle.fields.specs.Fields.{constantTag}
-use Rattle.reader.specs.Contract.{stepOf, payloadStep, ReadyAt, Takes, takes, Reader, NumberOf, SpanOf, ReadsSpan, lostSpan, refuses, WordyPair, KeptPair}
+use Rattle.reader.specs.Contract.{stepOf, signedStep, floatStep, payloadStep, ReadyAt, Takes, takes, Reader, NumberOf, SpanOf, ReadsSpan, lostSpan, refuses, WordyPair, KeptPair}
 use Rattle.reader.specs.Leaves.{Fetches, there, short, FetchesSigned, signed, shortSigned, FetchesFloat, float, shortFloat}
 use Rattle.reader.specs.declared.Cursor.{Cursor}
 use Rattle.reader.specs.declared.Refusal.{Refusal}
@@ -33,7 +33,7 @@ use Rattle.reader.proofs.Parts.{span-of, tag-most-bare}
 use Rattle.reader.proofs.Keeping.{long-lost, long-kept, wordy8}
 use Rattle.records.specs.Recorded.{Recorded}
 use Rattle.tables.specs.declared.answers.Constant.{Constant}
-use Rattle.tables.specs.Constants.{constantFormat, constantOf, constantBy, signedStep, floatStep, boolOf, intOf, floatOf, textOf}
+use Rattle.tables.specs.Constants.{constantFormat, constantOf, constantBy, boolOf, intOf, floatOf, textOf}
 
 -- a trace ends once
 module _ {o : Out Value} {v w : Value} {p q : ℕ} where

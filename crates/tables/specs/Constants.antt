@@ -11,8 +11,6 @@ use Rattle.vob24.specs.Settings.{settings}
 use Rattle.vob24.specs.Grammar as vob
 use Rattle.reader.specs.declared.Step.{Step}
 use Rattle.reader.specs.declared.Step.the-variants.{Taken, Refused}
-use Rattle.reader.specs.declared.Signed.{Signed}
-use Rattle.reader.specs.declared.Float.{Float as FloatAnswer}
 use Rattle.tables.specs.declared.answers.Constant.{Constant}
 use Rattle.tables.specs.declared.answers.ConstantRead.{ConstantRead}
 
@@ -30,14 +28,6 @@ stepOfConstant (ConstantRead.Not x) = Refused x
 abbrev pub recordOfConstant : ConstantRead → Constant
 recordOfConstant (ConstantRead.Got x c) = x
 recordOfConstant (ConstantRead.Not x) = Constant.Nil
-
-abbrev pub signedStep : Signed → Step
-signedStep (Signed.Got i n c) = Taken c
-signedStep (Signed.Not x) = Refused x
-
-abbrev pub floatStep : FloatAnswer → Step
-floatStep (FloatAnswer.Got y n c) = Taken c
-floatStep (FloatAnswer.Not x) = Refused x
 
 -- what stands behind the tag
 abbrev pub boolOf : Value → Constant

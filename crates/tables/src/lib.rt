@@ -6,7 +6,7 @@ ghost use Rattle.fields.specs.Fields.{externCount};
 ghost use Rattle.reader.specs.Contract.{Ready, ReadyAt, Reader};
 ghost use Rattle.records.specs.Recorded.{Recorded};
 ghost use Rattle.tables.specs.Tables.{itabMethods, itabFormat, itabList, fieldOffsets, errorFormat, objectFormat, wellKnown, globalFormat, globalList, artifactFormat, artifactList};
-ghost use Rattle.tables.specs.Constants.{constantFormat, constantList, stepOfConstant, recordOfConstant, signedStep, floatStep, boolOf, intOf, floatOf, textOf, constantOf};
+ghost use Rattle.tables.specs.Constants.{constantFormat, constantList, stepOfConstant, recordOfConstant, boolOf, intOf, floatOf, textOf, constantOf};
 use answers::Constant;
 use answers::ConstantRead;
 use reader::Cursor;
@@ -147,24 +147,6 @@ fn refused_constant(r: Step) -> ConstantRead
     }
 }
 
-fn refused_signed(q: Signed) -> Step
-    ensures { λ r. ⌜ r ≡ signedStep q ⌝ }
-{
-    match q {
-        Signed::Got(_, _, c) => Step::Taken(c),
-        Signed::Not(x) => Step::Refused(x),
-    }
-}
-
-fn refused_float(q: Float) -> Step
-    ensures { λ r. ⌜ r ≡ floatStep q ⌝ }
-{
-    match q {
-        Float::Got(_, _, c) => Step::Taken(c),
-        Float::Not(x) => Step::Refused(x),
-    }
-}
-
 fn constant_bool(s: &[u8], c: Cursor, tape: &mut [u32]) -> ConstantRead
     requires { ⌜ ReadyAt (now s) c ⌝ }
     ensures { λ q. ⌜ Recorded bool (λ p v. boolOf v) (now (s .entry)) c (now (tape .entry)) (stepOfConstant q) (recordOfConstant q) (now (tape .exit)) ⌝ }
@@ -183,7 +165,7 @@ fn constant_int(s: &[u8], c: Cursor, tape: &mut [u32]) -> ConstantRead
 {
     let q = reader::read_i64(s, c);
     let Signed::Got(value, bits, d) = q else {
-        return refused_constant(refused_signed(q));
+        return refused_constant(reader::refused_signed(q));
     };
     ConstantRead::Got(
         Constant::Int(value),
@@ -197,7 +179,7 @@ fn constant_float(s: &[u8], c: Cursor, tape: &mut [u32]) -> ConstantRead
 {
     let q = reader::read_f64(s, c);
     let Float::Got(value, bits, d) = q else {
-        return refused_constant(refused_float(q));
+        return refused_constant(reader::refused_float(q));
     };
     ConstantRead::Got(
         Constant::Float(value),

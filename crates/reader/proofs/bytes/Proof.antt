@@ -12,8 +12,8 @@ refuse-requires c κs = search needs
 returns : tie.Need-returns
 returns c = search (needs, leaves)
 
-add-t10 : tie.Need-add-t10
-add-t10 c = search needs
+add-t9 : tie.Need-add-t9
+add-t9 c = search needs
 
 charge-allocation-requires : tie.Need-charge-allocation-requires
 charge-allocation-requires c κs = search needs
@@ -21,8 +21,11 @@ charge-allocation-requires c κs = search needs
 enum-known-paid : tie.Need-enum-known-paid
 enum-known-paid c = search needs
 
-enum-known-paid-2 : tie.Need-enum-known-paid-2
-enum-known-paid-2 c = search needs
+enum-told : tie.Need-enum-told
+enum-told c = search needs
+
+not-paid-requires : tie.Need-not-paid-requires
+not-paid-requires c κs = search needs
 
 returns-2 : tie.Need-returns-2
 returns-2 c = search (needs, leaves)
@@ -37,9 +40,10 @@ bytes-spec =
     sub-if1
     refuse-requires
     returns
-    add-t10
+    add-t9
     charge-allocation-requires
     enum-known-paid
-    enum-known-paid-2
+    enum-told
+    not-paid-requires
     returns-2
     returns-3)

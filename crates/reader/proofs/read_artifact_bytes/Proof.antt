@@ -6,23 +6,26 @@ use Rattle.reader.proofs.read_artifact_bytes.Tie as tie
 read-u32-requires : tie.Need-read-u32-requires
 read-u32-requires c κs = search needs
 
-enum-known-n : tie.Need-enum-known-n
-enum-known-n c = search needs
+enum-known-q : tie.Need-enum-known-q
+enum-known-q c = search needs
 
-over-requires : tie.Need-over-requires
-over-requires c κs = search needs
+enum-told : tie.Need-enum-told
+enum-told c = search needs
+
+not-payload-requires : tie.Need-not-payload-requires
+not-payload-requires c κs = search needs
 
 returns : tie.Need-returns
 returns c = search (needs, leaves)
 
-bytes-requires : tie.Need-bytes-requires
-bytes-requires c κs = search (needs, leaves)
-
-enum-known-x : tie.Need-enum-known-x
-enum-known-x c = search needs
+over-requires : tie.Need-over-requires
+over-requires c κs = search needs
 
 returns-2 : tie.Need-returns-2
 returns-2 c = search (needs, leaves)
+
+bytes-requires : tie.Need-bytes-requires
+bytes-requires c κs = search (needs, leaves)
 
 returns-3 : tie.Need-returns-3
 returns-3 c = search (needs, leaves)
@@ -32,10 +35,11 @@ read-artifact-bytes-spec =
     tie.close
     (tie.spec
     read-u32-requires
-    enum-known-n
-    over-requires
+    enum-known-q
+    enum-told
+    not-payload-requires
     returns
-    bytes-requires
-    enum-known-x
+    over-requires
     returns-2
+    bytes-requires
     returns-3)

@@ -6,17 +6,20 @@ use Rattle.reader.proofs.read_bytes.Tie as tie
 read-u32-requires : tie.Need-read-u32-requires
 read-u32-requires c κs = search needs
 
-enum-known-n : tie.Need-enum-known-n
-enum-known-n c = search needs
+enum-known-q : tie.Need-enum-known-q
+enum-known-q c = search needs
 
-bytes-requires : tie.Need-bytes-requires
-bytes-requires c κs = search (needs, leaves)
+enum-told : tie.Need-enum-told
+enum-told c = search needs
 
-enum-known-x : tie.Need-enum-known-x
-enum-known-x c = search needs
+not-payload-requires : tie.Need-not-payload-requires
+not-payload-requires c κs = search needs
 
 returns : tie.Need-returns
 returns c = search (needs, leaves)
+
+bytes-requires : tie.Need-bytes-requires
+bytes-requires c κs = search (needs, leaves)
 
 returns-2 : tie.Need-returns-2
 returns-2 c = search (needs, leaves)
@@ -24,4 +27,11 @@ returns-2 c = search (needs, leaves)
 pub read-bytes-spec : {M : Type 1} → statement M
 read-bytes-spec =
     tie.close
-    (tie.spec read-u32-requires enum-known-n bytes-requires enum-known-x returns returns-2)
+    (tie.spec
+    read-u32-requires
+    enum-known-q
+    enum-told
+    not-payload-requires
+    returns
+    bytes-requires
+    returns-2)

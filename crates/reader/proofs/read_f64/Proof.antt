@@ -6,17 +6,20 @@ use Rattle.reader.proofs.read_f64.Tie as tie
 read-u64-requires : tie.Need-read-u64-requires
 read-u64-requires c κs = search needs
 
-enum-known-n : tie.Need-enum-known-n
-enum-known-n c = search needs
+enum-known-q : tie.Need-enum-known-q
+enum-known-q c = search needs
 
-f64-of-requires : tie.Need-f64-of-requires
-f64-of-requires c κs = search needs
+enum-told : tie.Need-enum-told
+enum-told c = search needs
 
-enum-known-x : tie.Need-enum-known-x
-enum-known-x c = search needs
+not-float-requires : tie.Need-not-float-requires
+not-float-requires c κs = search needs
 
 returns : tie.Need-returns
 returns c = search (needs, leaves)
+
+f64-of-requires : tie.Need-f64-of-requires
+f64-of-requires c κs = search needs
 
 returns-2 : tie.Need-returns-2
 returns-2 c = search (needs, leaves)
@@ -24,4 +27,11 @@ returns-2 c = search (needs, leaves)
 pub read-f64-spec : {M : Type 1} → statement M
 read-f64-spec =
     tie.close
-    (tie.spec read-u64-requires enum-known-n f64-of-requires enum-known-x returns returns-2)
+    (tie.spec
+    read-u64-requires
+    enum-known-q
+    enum-told
+    not-float-requires
+    returns
+    f64-of-requires
+    returns-2)

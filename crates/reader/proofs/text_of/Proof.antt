@@ -7,6 +7,15 @@ use Rattle.reader.proofs.text_of.Tie as tie
 enum-known-q : tie.Need-enum-known-q
 enum-known-q c = search needs
 
+enum-told : tie.Need-enum-told
+enum-told c = search needs
+
+not-text-requires : tie.Need-not-text-requires
+not-text-requires c κs = search needs
+
+returns : tie.Need-returns
+returns c = search (needs, texts)
+
 add-end : tie.Need-add-end
 add-end c = omega (arith, within-room ((c .before .q) .given .1) (c .before .before .before .before .pre))
 
@@ -16,17 +25,11 @@ scan-requires c κs = (omega arith, within-room ((c .before .q) .given .1) (c .b
 enum-known-found : tie.Need-enum-known-found
 enum-known-found c = search needs
 
-enum-told : tie.Need-enum-told
-enum-told c = search needs
+enum-told-2 : tie.Need-enum-told-2
+enum-told-2 c = search needs
 
 refuse-requires : tie.Need-refuse-requires
 refuse-requires c κs = search needs
-
-enum-known-q-2 : tie.Need-enum-known-q-2
-enum-known-q-2 c = search needs
-
-returns : tie.Need-returns
-returns c = search (needs, texts)
 
 returns-2 : tie.Need-returns-2
 returns-2 c = search (needs, texts)
@@ -39,12 +42,13 @@ text-of-spec =
     tie.close
     (tie.spec
     enum-known-q
+    enum-told
+    not-text-requires
+    returns
     add-end
     scan-requires
     enum-known-found
-    enum-told
+    enum-told-2
     refuse-requires
-    enum-known-q-2
-    returns
     returns-2
     returns-3)
