@@ -1,12 +1,11 @@
 // The field readers: a leaf, and its words on the tape. Each opens a leaf's answer by `let .. else` and passes the refusal up.
 // `field_` readers take the answer so far and give the next; `number_` and `span_` readers start at a cursor and also hand
 // out the number, or the start and length, that they read. Ports the read_ functions of serialize.rs on one field.
-ghost use Rattle.format.specs.Format.{Format, number};
+ghost use Rattle.format.specs.Format.{number};
 ghost use Rattle.vob24.specs.Settings.{settings};
 ghost use Rattle.vob24.specs.Leaves.{u8, u16, u32, u64, optionalId, bool, slotType, valueKind, direction, valueMeta, valueRttid, sourceU32, str, memberName, optional};
-ghost use Rattle.vob24.specs.Grammar.{assertKind};
+ghost use Rattle.vob24.specs.Grammar.{assertKind, magic, version};
 ghost use Rattle.reader.specs.Contract.{Ready, ReadyAt, Reader, NumberOf, SpanOf};
-ghost use Rattle.reader.specs.Leaves.{magic, version};
 ghost use Rattle.fields.specs.Fields.{runtimeTag, constantTag, selectTag, metadataTagged, listCount, debugCount, artifactCount, methodCount, externCount, artifactName, artifactPayload};
 use reader::Cursor;
 use reader::Number;
@@ -553,7 +552,7 @@ pub fn span_artifact_payload(s: &[u8], c: Cursor, tape: &mut [u32]) -> Payload
 
 pub fn field_magic(s: &[u8], r: Step, tape: &mut [u32]) -> Step
     requires { ⌜ Ready (now s) r ⌝ }
-    ensures { λ q. ⌜ Reader (Format.leaf magic) (now (s .entry)) r (now (tape .entry)) q (now (tape .exit)) ⌝ }
+    ensures { λ q. ⌜ Reader magic (now (s .entry)) r (now (tape .entry)) q (now (tape .exit)) ⌝ }
 {
     let Step::Taken(c) = r else {
         return r;
@@ -563,7 +562,7 @@ pub fn field_magic(s: &[u8], r: Step, tape: &mut [u32]) -> Step
 
 pub fn field_version(s: &[u8], r: Step, tape: &mut [u32]) -> Step
     requires { ⌜ Ready (now s) r ⌝ }
-    ensures { λ q. ⌜ Reader (Format.leaf version) (now (s .entry)) r (now (tape .entry)) q (now (tape .exit)) ⌝ }
+    ensures { λ q. ⌜ Reader version (now (s .entry)) r (now (tape .entry)) q (now (tape .exit)) ⌝ }
 {
     let Step::Taken(c) = r else {
         return r;

@@ -14,8 +14,9 @@ use Rattle.format.specs.Layout.{digits}
 use Rattle.format.specs.Ending.{part-length}
 use Rattle.format.specs.Laying.{digits-little, same-eq}
 use Rattle.vob24.specs.Refusals.{invalidMagic, unsupportedVersion}
+use Rattle.vob24.specs.Leaves.{magicMark, versionMark}
 use Rattle.reader.specs.Contract.{refusal, stepOf, ReadyAt}
-use Rattle.reader.specs.Leaves.{past, Fetched, Fetches, Denied, Marks, marked, unmarked, magic, version}
+use Rattle.reader.specs.Leaves.{past, Fetched, Fetches, Denied, Marks, marked, unmarked}
 use Rattle.reader.specs.declared.Cursor.{Cursor}
 use Rattle.reader.specs.declared.Refusal.{Refusal}
 use Rattle.reader.specs.declared.Step.{Step}
@@ -40,7 +41,7 @@ module _ {m : List ℕ} {y : ℕ → Wrong} {s : List ℕ} {c : Cursor} where
   unfolding traceLeaf settle
   mark-same h e = marked {d = past (length m) c} (field-yes (c .left) (length m) s (c .place) _ h ∙ guard-yes (c .left) _ _ _ e) refl
 
-pub magic-short : {s : List ℕ} {c : Cursor} {x : Refusal} → ReadyAt s c → length s - c .place < 3 → x ≡ refusal (wrong unexpectedEof 0) (c .place) (c .left) → Marks magic s c (Refused x)
+pub magic-short : {s : List ℕ} {c : Cursor} {x : Refusal} → ReadyAt s c → length s - c .place < 3 → x ≡ refusal (wrong unexpectedEof 0) (c .place) (c .left) → Marks magicMark s c (Refused x)
 magic-short r h e = rw e (unmarked (mark-few (omega (arith, r .within))))
 
 module _ {s : List ℕ} {c : Cursor} (r : ReadyAt s c) (h : 3 ≤ length s - c .place) where
@@ -51,19 +52,19 @@ module _ {s : List ℕ} {c : Cursor} (r : ReadyAt s c) (h : 3 ≤ length s - c .
   three = read-take 3 s (c .place) inside ∙ simp add-assoc
 
   module _ {x : Refusal} (e : x ≡ refusal (wrong invalidMagic 0) (c .place + 3) (c .left)) where
-    pub magic-first : (getD s (c .place) 0 ≡ 86 → ⊥) → Marks magic s c (Refused x)
+    pub magic-first : (getD s (c .place) 0 ≡ 86 → ⊥) → Marks magicMark s c (Refused x)
     unfolding same pick
     magic-first i = rw e (unmarked (mark-other inside (rw three (rw (ne-eqb _ _ i)))))
 
-    pub magic-second : getD s (c .place) 0 ≡ 86 → (getD s (c .place + 1) 0 ≡ 79 → ⊥) → Marks magic s c (Refused x)
+    pub magic-second : getD s (c .place) 0 ≡ 86 → (getD s (c .place + 1) 0 ≡ 79 → ⊥) → Marks magicMark s c (Refused x)
     unfolding same pick
     magic-second i j = rw e (unmarked (mark-other inside (rw three (rw (eq-eqb _ _ i, ne-eqb _ _ j)))))
 
-    pub magic-third : getD s (c .place) 0 ≡ 86 → getD s (c .place + 1) 0 ≡ 79 → (getD s (c .place + 2) 0 ≡ 66 → ⊥) → Marks magic s c (Refused x)
+    pub magic-third : getD s (c .place) 0 ≡ 86 → getD s (c .place + 1) 0 ≡ 79 → (getD s (c .place + 2) 0 ≡ 66 → ⊥) → Marks magicMark s c (Refused x)
     unfolding same pick
     magic-third i j k = rw e (unmarked (mark-other inside (rw three (rw (eq-eqb _ _ i, eq-eqb _ _ j, ne-eqb _ _ k)))))
 
-  pub magic-got : getD s (c .place) 0 ≡ 86 → getD s (c .place + 1) 0 ≡ 79 → getD s (c .place + 2) 0 ≡ 66 → Marks magic s c (Taken (past 3 c))
+  pub magic-got : getD s (c .place) 0 ≡ 86 → getD s (c .place + 1) 0 ≡ 79 → getD s (c .place + 2) 0 ≡ 66 → Marks magicMark s c (Taken (past 3 c))
   unfolding same pick
   magic-got i j k = mark-same inside (rw three (rw (eq-eqb _ _ i, eq-eqb _ _ j, eq-eqb _ _ k)))
 
@@ -88,17 +89,17 @@ other-version {s} {c} {d} {n} f e = go (same (part s (c .place) 4) twentyFour) r
     go false i = refl
 
 module _ {s : List ℕ} {c : Cursor} {q : Number} where
-  pub version-short : {x : Refusal} {r : Step} → q ≡ Not x → r ≡ stepOf q → Fetches 4 s c q → Marks version s c r
+  pub version-short : {x : Refusal} {r : Step} → q ≡ Not x → r ≡ stepOf q → Fetches 4 s c q → Marks versionMark s c r
   version-short e i h = let k = shorts e h in rw (i, e, k .is) (unmarked (mark-few (k .room)))
 
   module _ {n : ℕ} {d : Cursor} (e : q ≡ Got n d) (h : Fetches 4 s c q) where
-    pub version-no : {x : Refusal} → (n ≡ 24 → ⊥) → x ≡ refusal (wrong unsupportedVersion n) (d .place) (d .left) → Marks version s c (Refused x)
+    pub version-no : {x : Refusal} → (n ≡ 24 → ⊥) → x ≡ refusal (wrong unsupportedVersion n) (d .place) (d .left) → Marks versionMark s c (Refused x)
     version-no i j =
         let f = fetched e h in
         let k = mark-other {m = twentyFour} {y = λ n. wrong unsupportedVersion n} (f .room) (other-version f i) in
         rw (j, f .next, f .is) (unmarked k)
 
-    pub version-got : n ≡ 24 → Marks version s c (Taken d)
+    pub version-got : n ≡ 24 → Marks versionMark s c (Taken d)
     version-got i = let f = fetched e h in rw (f .next) (mark-same (f .room) (same-version f i))
 
 pub ruleset marks = (magic-short, magic-first, magic-second, magic-third, magic-got, version-short, version-no, version-got)

@@ -1,17 +1,16 @@
 -- The contracts of the leaves, ByteReader's methods: a value and the next cursor, or the refusal. No word is written.
 use Prim.Native.Nat.{ℕ, _+_, _*_, _≤_, _<_}
 use mathlib.Core.Path.{_≡_}
-use mathlib.Core.List.{List, [], _∷_}
+use mathlib.Core.List.{List}
 use lib.IntN.{ℤ}
 use lib.Ieee.{Float, binary64, ofBits}
 use lib.ListN.{length}
 use mir.Syntax.{w64}
 use mir.Val.{toZ}
 use Rattle.format.specs.Trace.{wrong, unexpectedEof, invalidUtf8, Trace, end, charge, settle, taken, refused}
-use Rattle.format.specs.Format.{Value, none, num, text, Leaf, mark}
+use Rattle.format.specs.Format.{Value, none, num, text, Leaf}
 use Rattle.format.specs.Reading.{little, part, room, field, traceLeaf}
 use Rattle.format.specs.Layout.{Bytes}
-use Rattle.vob24.specs.Refusals
 use Rattle.vob24.specs.Utf8.{scan, illFormed, characters}
 use Rattle.reader.specs.Contract.{refusal, wrongOf, ReadyAt}
 use Rattle.reader.specs.declared.Cursor.{Cursor}
@@ -102,13 +101,6 @@ pub data Spans (l : Leaf) (s : List ℕ) (c : Cursor) : Payload → Type 0 where
 pub data Bought (s : List ℕ) (d : Cursor) (n k : ℕ) : Payload → Type 0 where
   bought : {e : Cursor} → d .place + n ≤ length s → settle (d .left) (bytesTrace s (d .place) n k) ≡ taken (text (d .place) (part s (d .place) n)) (e .place) (e .left) → e .at ≡ d .at → Bought s d n k (Payload.Got (d .place) n e)
   unbought : {x : Refusal} → settle (d .left) (bytesTrace s (d .place) n k) ≡ refused (wrongOf x) (x .place) (x .left) → Bought s d n k (Payload.Not x)
-
--- Magic and version, as the pack's format has them.
-abbrev pub magic : Leaf
-magic = mark (86 ∷ 79 ∷ 66 ∷ []) (λ _. wrong Refusals.invalidMagic 0)
-
-abbrev pub version : Leaf
-version = mark (24 ∷ 0 ∷ 0 ∷ 0 ∷ []) (λ n. wrong Refusals.unsupportedVersion n)
 
 -- A mark of the file: passed or refused.
 pub data Marks (l : Leaf) (s : List ℕ) (c : Cursor) : Step → Type 0 where

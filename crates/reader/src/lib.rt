@@ -12,10 +12,10 @@ ghost use Rattle.format.specs.Reading.{little};
 ghost use Rattle.vob24.specs.Refusals;
 ghost use Rattle.vob24.specs.Settings.{settings, sizeOf, ModuleArtifact};
 ghost use Rattle.vob24.specs.Utf8.{wellFormed};
-ghost use Rattle.vob24.specs.Leaves.{free, atMost, atMostBare, limit, packedWord};
+ghost use Rattle.vob24.specs.Leaves.{free, atMost, atMostBare, limit, packedWord, magicMark, versionMark};
 ghost use Rattle.vob24.specs.Grammar.{metadataTag, methodSize, noHostCalls};
 ghost use Rattle.reader.specs.Contract.{refusal, stepOf, signedStep, floatStep, payloadStep, textStep, textSpan, numberOf, ReadyAt, Wordy, Kept, WordyPair, KeptPair, Paid};
-ghost use Rattle.reader.specs.Leaves.{Fetches, FetchesSigned, FetchesFloat, Answers, CountAt, Counted, Spans, Within, Checked, Bought, Marks, Texts, magic, version};
+ghost use Rattle.reader.specs.Leaves.{Fetches, FetchesSigned, FetchesFloat, Answers, CountAt, Counted, Spans, Within, Checked, Bought, Marks, Texts};
 use utf8::Scanned;
 
 pub mod limits;
@@ -718,7 +718,7 @@ pub fn read_extern_count(s: &[u8], c: Cursor) -> Number
 
 pub fn read_magic(s: &[u8], c: Cursor) -> Step
     requires { ⌜ ReadyAt (now s) c ⌝ }
-    ensures { λ r. ⌜ Marks magic (now (s .entry)) c r ⌝ }
+    ensures { λ r. ⌜ Marks magicMark (now (s .entry)) c r ⌝ }
 {
     let place = c.place;
     if s.len() - place < 3 {
@@ -744,7 +744,7 @@ pub fn read_magic(s: &[u8], c: Cursor) -> Step
 
 pub fn read_version(s: &[u8], c: Cursor) -> Step
     requires { ⌜ ReadyAt (now s) c ⌝ }
-    ensures { λ r. ⌜ Marks version (now (s .entry)) c r ⌝ }
+    ensures { λ r. ⌜ Marks versionMark (now (s .entry)) c r ⌝ }
 {
     let q = read_u32(s, c);
     let Number::Got(n, d) = q else {

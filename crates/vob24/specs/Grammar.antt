@@ -5,12 +5,12 @@ use mathlib.Core.Bool.{true, false}
 use lib.ListN.{length}
 use lib.Dec.{leb, eqb}
 use Rattle.format.specs.Trace.{wrong, pick}
-use Rattle.format.specs.Format.{Value, number, content, first, second, Rule, byte, Ask, pay, fixed, mark, string, payload, count, ask, Format, empty, leaf, seq, _▸_, chain, times, entries, counted}
+use Rattle.format.specs.Format.{Value, number, content, first, second, Rule, byte, Ask, pay, fixed, string, payload, count, ask, Format, empty, leaf, seq, _▸_, chain, times, entries, counted}
 use Rattle.vob24.specs.Refusals
 use Rattle.vob24.specs.Settings as of
 use Rattle.vob24.specs.Settings.{Settings, sizeOf}
 use Rattle.vob24.specs.Utf8.{wellFormed}
-use Rattle.vob24.specs.Leaves.{free, atMost, atMostBare, limit, u8, u16, u32, u64, optionalId, bool, slotType, valueKind, direction, valueMeta, valueRttid, sourceU32, str, memberName, listOf, choose, optional}
+use Rattle.vob24.specs.Leaves.{free, atMost, atMostBare, limit, magicMark, versionMark, u8, u16, u32, u64, optionalId, bool, slotType, valueKind, direction, valueMeta, valueRttid, sourceU32, str, memberName, listOf, choose, optional}
 use Rattle.vob24.specs.Questions.{refuseIf, among, repeat, named, fieldKeys, newNames, Identity, newIdentities, transferWords, sameSlots, sameCode}
 
 -- The questions on what was read.
@@ -293,13 +293,11 @@ sections set =
     ▸ section set 0 wellKnown ▸ section set 0 constants ▸ section set 0 globals
     ▸ seq (section set 0 functions) (λ v. afterFunctions set (counted v))
 
--- "Magic "VOB"? 3."
 abbrev pub magic : Format
-magic = leaf (mark (86 ∷ 79 ∷ 66 ∷ []) (λ _. wrong Refusals.invalidMagic 0))
+magic = leaf magicMark
 
--- "Version 24? 4 (d1 the version read)."
 abbrev pub version : Format
-version = leaf (mark (24 ∷ 0 ∷ 0 ∷ 0 ∷ []) (λ n. wrong Refusals.unsupportedVersion n))
+version = leaf versionMark
 
 unfoldable pub pack : Settings → Format
 pack set = magic ▸ version ▸ sections set

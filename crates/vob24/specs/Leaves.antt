@@ -5,8 +5,8 @@ use mathlib.Core.Bool.{Bool, true, false}
 use lib.ListN.{getD}
 use lib.Dec.{leb, ltb}
 use Rattle.format.specs.Trace.{wrong, pick}
-use Rattle.format.specs.Format.{number, Rule, byte, half, word, long, option, fixed, packed, string, count, Format, empty, leaf, seq, times}
-use Rattle.vob24.specs.Refusals.{invalidBoolean, invalidSlotType, invalidValueKind, invalidPackedValueMeta, invalidPackedValueRttid, invalidChanDir, byteString, vector}
+use Rattle.format.specs.Format.{number, Rule, byte, half, word, long, option, Leaf, fixed, mark, packed, string, count, Format, empty, leaf, seq, times}
+use Rattle.vob24.specs.Refusals.{invalidMagic, unsupportedVersion, invalidBoolean, invalidSlotType, invalidValueKind, invalidPackedValueMeta, invalidPackedValueRttid, invalidChanDir, byteString, vector}
 use Rattle.vob24.specs.Utf8.{wellFormed}
 
 -- A rule that asks nothing.
@@ -35,6 +35,14 @@ packedOk n = pick (kindOk n) (ltb (n / 256) 0xffffff) false
 -- The kind is tested before the id: "9 (d1 that byte)", else the number given, "(d1 the word)".
 abbrev pub packedWord : ℕ → Rule
 packedWord e = record { test = packedOk; why = λ n. pick (kindOk n) (wrong e n) (wrong invalidValueKind (n % 256)) }
+
+-- "Magic "VOB"? 3."
+abbrev pub magicMark : Leaf
+magicMark = mark (86 ∷ 79 ∷ 66 ∷ []) (λ _. wrong invalidMagic 0)
+
+-- "Version 24? 4 (d1 the version read)."
+abbrev pub versionMark : Leaf
+versionMark = mark (24 ∷ 0 ∷ 0 ∷ 0 ∷ []) (λ n. wrong unsupportedVersion n)
 
 abbrev pub u8 : Format
 u8 = leaf (fixed byte free)
