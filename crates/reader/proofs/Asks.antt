@@ -105,5 +105,3 @@ followThen {f} {l} {s} {t} {t₁} {r} {r₁} {q} h k = go r r₁ (h .reads) (h .
     go (Taken c) (Taken d) (takes {v = v} a) y i j = let b = j c d v refl refl (takes-ends a) in record { reads = thenReads a (asks-reads b); ready = asks-ready y b }
     go (Taken c) (Refused x) (refuses a) y i j = rw (i x refl) (record { reads = refuses (seq-refuses a); ready = tt })
     go (Refused x) (Refused z) skips y i j = rw (i z refl) (record { reads = skips; ready = tt })
-
-pub ruleset asking = (asks-none, asks-deny, asks-poor, asks-paid, behind, followThen)

@@ -218,5 +218,3 @@ module _ {f : Format} {s : List ℕ} {t₀ : List ℕ} {r₀ : Step} {n : ℕ} w
 
   pub turns-done : {t : List ℕ} {r : Step} {k : ℕ} → k ≤ 0 → Turns f s t₀ r₀ n t r k → Reader (times f n) s r₀ t₀ r t
   turns-done h l = chained-done h (l .chained)
-
-pub ruleset reading = (numberJust, fieldThen, emptyThen, at-step, at-refused, ready-at, got-ready, turns-start, turns-more, turns-refused, turns-done)

@@ -10,3 +10,4 @@ pub mod Packing
 pub mod Texts
 pub mod Keeping
 pub mod Parts
+pub mod Reading

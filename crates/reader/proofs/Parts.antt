@@ -90,5 +90,3 @@ module _ {f : Format} {s : List ℕ} {c : Cursor} {t t₁ : List ℕ} {q : Paylo
     where
       go : ReadsSpan f s c t (Payload.Not x) t₁ → Reader (seq f g) s (Taken c) t (Refused x) t₂
       go (lostSpan h) = record { reads = refuses (seq-refuses h); ready = tt }
-
-pub ruleset parts = (partNot, list-done, list-refused, optional-none, optional-some, span-ready)

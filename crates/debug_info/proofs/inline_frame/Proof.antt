@@ -1,4 +1,4 @@
-use Rattle.reader.proofs.Laws.{reading}
+use Rattle.reader.proofs.Reading.{reading}
 use Rattle.vob24.specs.Grammar.{frame}
 use borrow.Author.Needs.{needs}
 use Rattle.debug_info.proofs.inline_frame.Statement.{statement}

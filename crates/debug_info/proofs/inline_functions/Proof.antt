@@ -1,6 +1,5 @@
 use borrow.Author.Needs.{needs}
-use Rattle.reader.proofs.Laws.{reading}
-use Rattle.reader.proofs.Parts.{parts}
+use Rattle.reader.proofs.Reading.{reading}
 use Rattle.debug_info.proofs.Laws.{sharing}
 use Rattle.debug_info.proofs.Laws.{Sharing, function-most}
 use Rattle.debug_info.proofs.inline_functions.Statement.{statement}
@@ -13,73 +12,73 @@ abbrev μ-loop : tie.MeasureT-loop
 μ-loop s functions tape₀ most n k₀ here₀ left₀ tape k here left = k
 
 enum-known-r : tie.Need-enum-known-r Inv-loop μ-loop
-enum-known-r c = search (needs, reading, parts, sharing)
+enum-known-r c = search (needs, reading, sharing)
 
 enum-told : tie.Need-enum-told Inv-loop μ-loop
-enum-told c = search (needs, reading, parts, sharing)
+enum-told c = search (needs, reading, sharing)
 
 returns : tie.Need-returns Inv-loop μ-loop
-returns c = search (needs, reading, parts, sharing)
+returns c = search (needs, reading, sharing)
 
 smaller-requires : tie.Need-smaller-requires Inv-loop μ-loop
-smaller-requires c κs = search (needs, reading, parts, sharing)
+smaller-requires c κs = search (needs, reading, sharing)
 
 number-debug-count-requires : tie.Need-number-debug-count-requires Inv-loop μ-loop
-number-debug-count-requires c κs = search (needs, reading, parts, sharing)
+number-debug-count-requires c κs = search (needs, reading, sharing)
 
 enum-known-q : tie.Need-enum-known-q Inv-loop μ-loop
-enum-known-q c = search (needs, reading, parts, sharing)
+enum-known-q c = search (needs, reading, sharing)
 
 enum-told-2 : tie.Need-enum-told-2 Inv-loop μ-loop
-enum-told-2 c = search (needs, reading, parts, sharing)
+enum-told-2 c = search (needs, reading, sharing)
 
 refused-requires : tie.Need-refused-requires Inv-loop μ-loop
-refused-requires c κs = search (needs, reading, parts, sharing)
+refused-requires c κs = search (needs, reading, sharing)
 
 same-length : tie.Need-same-length Inv-loop μ-loop
-same-length c = search (needs, reading, parts, sharing)
+same-length c = search (needs, reading, sharing)
 
 returns-2 : tie.Need-returns-2 Inv-loop μ-loop
-returns-2 c = search (needs, reading, parts, sharing)
+returns-2 c = search (needs, reading, sharing)
 
 loop-holds : tie.Need-loop-holds Inv-loop μ-loop
-loop-holds c = search (needs, reading, parts, sharing)
+loop-holds c = search (needs, reading, sharing)
 
 inline-function-requires : tie.Need-inline-function-requires Inv-loop μ-loop
-inline-function-requires c κs = search (needs, reading, parts, sharing)
+inline-function-requires c κs = search (needs, reading, sharing)
 
 enum-known-p : tie.Need-enum-known-p Inv-loop μ-loop
-enum-known-p c = search (needs, reading, parts, sharing)
+enum-known-p c = search (needs, reading, sharing)
 
 enum-told-3 : tie.Need-enum-told-3 Inv-loop μ-loop
-enum-told-3 c = search (needs, reading, parts, sharing)
+enum-told-3 c = search (needs, reading, sharing)
 
 refused-requires-2 : tie.Need-refused-requires-2 Inv-loop μ-loop
-refused-requires-2 c κs = search (needs, reading, parts, sharing)
+refused-requires-2 c κs = search (needs, reading, sharing)
 
 same-length-2 : tie.Need-same-length-2 Inv-loop μ-loop
-same-length-2 c = search (needs, reading, parts, sharing)
+same-length-2 c = search (needs, reading, sharing)
 
 returns-3 : tie.Need-returns-3 Inv-loop μ-loop
-returns-3 c = search (needs, reading, parts, sharing)
+returns-3 c = search (needs, reading, sharing)
 
 sub-left : tie.Need-sub-left Inv-loop μ-loop
 sub-left c = function-most ((c .before .p) .given .1) ((c .before .before .before .before .before .inline-function) .ensures)
 
 sub-k : tie.Need-sub-k Inv-loop μ-loop
-sub-k c = search (needs, reading, parts, sharing)
+sub-k c = search (needs, reading, sharing)
 
 loop-less : tie.Need-loop-less Inv-loop μ-loop
-loop-less c = search (needs, reading, parts, sharing)
+loop-less c = search (needs, reading, sharing)
 
 loop-again : tie.Need-loop-again Inv-loop μ-loop
-loop-again c = search (needs, reading, parts, sharing)
+loop-again c = search (needs, reading, sharing)
 
 same-length-3 : tie.Need-same-length-3 Inv-loop μ-loop
-same-length-3 c = search (needs, reading, parts, sharing)
+same-length-3 c = search (needs, reading, sharing)
 
 returns-4 : tie.Need-returns-4 Inv-loop μ-loop
-returns-4 c = search (needs, reading, parts, sharing)
+returns-4 c = search (needs, reading, sharing)
 
 pub inline-functions-spec : {M : Type 1} → statement M
 inline-functions-spec =

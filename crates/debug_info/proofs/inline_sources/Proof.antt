@@ -1,4 +1,4 @@
-use Rattle.reader.proofs.Laws.{reading}
+use Rattle.reader.proofs.Reading.{reading}
 use borrow.Author.Needs.{needs}
 use Rattle.debug_info.proofs.inline_sources.Statement.{statement}
 use Rattle.debug_info.proofs.inline_sources.Tie as tie

@@ -1,5 +1,4 @@
-use Rattle.reader.proofs.Laws.{reading}
-use Rattle.reader.proofs.Parts.{parts}
+use Rattle.reader.proofs.Reading.{reading}
 use borrow.Author.Needs.{needs}
 use Rattle.debug_info.proofs.optional_span.Statement.{statement}
 use Rattle.debug_info.proofs.optional_span.Tie as tie
@@ -11,10 +10,10 @@ enum-told : tie.Need-enum-told
 enum-told c = search needs
 
 returns : tie.Need-returns
-returns c = search (needs, reading, parts)
+returns c = search (needs, reading)
 
 number-bool-requires : tie.Need-number-bool-requires
-number-bool-requires c κs = search (needs, reading, parts)
+number-bool-requires c κs = search (needs, reading)
 
 enum-known-q : tie.Need-enum-known-q
 enum-known-q c = search needs
@@ -29,22 +28,22 @@ same-length : tie.Need-same-length
 same-length c = search needs
 
 returns-2 : tie.Need-returns-2
-returns-2 c = search (needs, reading, parts)
+returns-2 c = search (needs, reading)
 
 same-length-2 : tie.Need-same-length-2
 same-length-2 c = search needs
 
 returns-3 : tie.Need-returns-3
-returns-3 c = search (needs, reading, parts)
+returns-3 c = search (needs, reading)
 
 span-requires : tie.Need-span-requires
-span-requires c κs = search (needs, reading, parts)
+span-requires c κs = search (needs, reading)
 
 same-length-3 : tie.Need-same-length-3
 same-length-3 c = search needs
 
 returns-4 : tie.Need-returns-4
-returns-4 c = search (needs, reading, parts)
+returns-4 c = search (needs, reading)
 
 pub optional-span-spec : {M : Type 1} → statement M
 optional-span-spec =

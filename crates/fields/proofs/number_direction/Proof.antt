@@ -1,4 +1,4 @@
-use Rattle.reader.proofs.Laws.{reading}
+use Rattle.reader.proofs.Reading.{reading}
 use Rattle.reader.proofs.Keeping.{keeping}
 use borrow.Author.Needs.{needs}
 use Rattle.fields.proofs.number_direction.Statement.{statement}

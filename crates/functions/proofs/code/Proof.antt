@@ -5,8 +5,9 @@ use Rattle.format.specs.Format.{counted, leaf, ask, seq}
 use Rattle.instruction.specs.Records.{metadataList}
 use Rattle.vob24.specs.Questions.{sameCode}
 use Rattle.functions.proofs.Laws.{agree, differ}
-use Rattle.reader.proofs.Laws.{at-step, numberThen, numberNot, got-ready, reading}
-use Rattle.reader.proofs.Parts.{partNot, parts}
+use Rattle.reader.proofs.Reading.{reading}
+use Rattle.reader.proofs.Laws.{at-step, numberThen, numberNot, got-ready}
+use Rattle.reader.proofs.Parts.{partNot}
 use borrow.Author.Needs.{needs}
 use Rattle.functions.proofs.code.Statement.{statement}
 use Rattle.functions.proofs.code.Tie as tie
@@ -18,10 +19,10 @@ enum-told : tie.Need-enum-told
 enum-told c = search needs
 
 returns : tie.Need-returns
-returns c = search (needs, reading, parts)
+returns c = search (needs, reading)
 
 number-instructions-requires : tie.Need-number-instructions-requires
-number-instructions-requires c κs = search (needs, reading, parts)
+number-instructions-requires c κs = search (needs, reading)
 
 enum-known-p : tie.Need-enum-known-p
 enum-known-p c = search needs
@@ -40,7 +41,7 @@ unfolding code
 returns-2 c = partNot ((c .before .before .before .before .before .before .before .before .r) .given .1) ((c .before .enum-told2) .given .1) ((c .refused) .ensures) ((c .before .before .before .before .before .number-instructions) .ensures)
 
 number-instruction-metadata-requires : tie.Need-number-instruction-metadata-requires
-number-instruction-metadata-requires c κs = search (needs, reading, parts)
+number-instruction-metadata-requires c κs = search (needs, reading)
 
 enum-known-q : tie.Need-enum-known-q
 enum-known-q c = search needs

@@ -1,5 +1,5 @@
 use Rattle.vob24.specs.Grammar.{functionTraits}
-use Rattle.reader.proofs.Laws.{reading}
+use Rattle.reader.proofs.Reading.{reading}
 use borrow.Author.Needs.{needs}
 use Rattle.functions.proofs.function_traits.Statement.{statement}
 use Rattle.functions.proofs.function_traits.Tie as tie

@@ -1,4 +1,4 @@
-use Rattle.reader.proofs.Laws.{reading}
+use Rattle.reader.proofs.Reading.{reading}
 use borrow.Author.Needs.{needs}
 use Rattle.functions.proofs.functions.Statement.{statement}
 use Rattle.functions.proofs.functions.Tie as tie

@@ -1,6 +1,7 @@
 use Rattle.instruction.proofs.Laws.{numberedDone, numberedRefused, numbering}
 use borrow.Author.Needs.{needs}
-use Rattle.reader.proofs.Laws.{reading, Turns}
+use Rattle.reader.proofs.Reading.{reading}
+use Rattle.reader.proofs.Laws.{Turns}
 use Rattle.functions.specs.Formats.{functionFormat}
 use Rattle.functions.proofs.number_functions.Statement.{statement}
 use Rattle.functions.proofs.number_functions.Tie as tie

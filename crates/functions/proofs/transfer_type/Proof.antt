@@ -1,5 +1,5 @@
 use Rattle.vob24.specs.Grammar.{transfer}
-use Rattle.reader.proofs.Laws.{reading}
+use Rattle.reader.proofs.Reading.{reading}
 use borrow.Author.Needs.{needs}
 use Rattle.functions.proofs.transfer_type.Statement.{statement}
 use Rattle.functions.proofs.transfer_type.Tie as tie

@@ -1,4 +1,5 @@
-use Rattle.reader.proofs.Laws.{got-ready, reading}
+use Rattle.reader.proofs.Reading.{reading}
+use Rattle.reader.proofs.Laws.{got-ready}
 use Rattle.instruction.proofs.Shapes.{elemRecord}
 use Rattle.instruction.proofs.Laws.{recording}
 use borrow.Author.Needs.{needs}

@@ -1,6 +1,7 @@
-use Rattle.reader.proofs.Laws.{got-ready, reading}
-use native.Mathlib.Omega.{arith}
+use Rattle.reader.proofs.Reading.{reading}
+use Rattle.reader.proofs.Laws.{got-ready}
 use Rattle.reader.proofs.Parts.{tag-most-bare}
+use native.Mathlib.Omega.{arith}
 use Rattle.instruction.proofs.Shapes.{assertRecord}
 use Rattle.instruction.proofs.Laws.{recording}
 use borrow.Author.Needs.{needs}

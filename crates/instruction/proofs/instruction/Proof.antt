@@ -1,5 +1,5 @@
 use Rattle.vob24.specs.Grammar.{instruction}
-use Rattle.reader.proofs.Laws.{reading}
+use Rattle.reader.proofs.Reading.{reading}
 use borrow.Author.Needs.{needs}
 use Rattle.instruction.proofs.instruction.Statement.{statement}
 use Rattle.instruction.proofs.instruction.Tie as tie

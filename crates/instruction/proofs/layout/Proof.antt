@@ -1,5 +1,5 @@
 use Rattle.instruction.proofs.Shapes.{oneLayout}
-use Rattle.reader.proofs.Laws.{reading}
+use Rattle.reader.proofs.Reading.{reading}
 use Rattle.instruction.proofs.Laws.{recording}
 use borrow.Author.Needs.{needs}
 use Rattle.instruction.proofs.layout.Statement.{statement}

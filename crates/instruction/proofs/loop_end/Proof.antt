@@ -1,7 +1,7 @@
 use Rattle.instruction.specs.declared.Metadata.the-variants as kind
 use Rattle.instruction.specs.Records.{bareOf}
 use Rattle.instruction.proofs.Laws.{recordedLast, recording}
-use Rattle.reader.proofs.Laws.{reading}
+use Rattle.reader.proofs.Reading.{reading}
 use borrow.Author.Needs.{needs}
 use Rattle.instruction.proofs.loop_end.Statement.{statement}
 use Rattle.instruction.proofs.loop_end.Tie as tie

@@ -1,5 +1,6 @@
 use native.Mathlib.Omega.{arith}
-use Rattle.reader.proofs.Laws.{got-ready, reading}
+use Rattle.reader.proofs.Reading.{reading}
+use Rattle.reader.proofs.Laws.{got-ready}
 use Rattle.instruction.proofs.Shapes.{mapGetLayout}
 use Rattle.instruction.proofs.Laws.{recording}
 use borrow.Author.Needs.{needs}

@@ -1,5 +1,6 @@
 use Rattle.instruction.proofs.Laws.{numberedDone, numberedRefused, numbering}
-use Rattle.reader.proofs.Laws.{Turns, reading}
+use Rattle.reader.proofs.Reading.{reading}
+use Rattle.reader.proofs.Laws.{Turns}
 use Rattle.instruction.specs.Records.{instructionFormat}
 use borrow.Author.Needs.{needs}
 use Rattle.instruction.proofs.number_instructions.Statement.{statement}

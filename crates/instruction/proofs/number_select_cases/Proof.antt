@@ -2,7 +2,8 @@ use mathlib.Core.Path.{refl, sym}
 use Rattle.instruction.proofs.Answers.{select-got, select-not, answers}
 use Rattle.instruction.proofs.Laws.{numberedDone, itemRefused, itemTaken, numbering}
 use borrow.Author.Needs.{needs}
-use Rattle.reader.proofs.Laws.{reading, Turns}
+use Rattle.reader.proofs.Reading.{reading}
+use Rattle.reader.proofs.Laws.{Turns}
 use Rattle.reader.specs.declared.Step.the-variants.{Taken}
 use Rattle.instruction.specs.Records.{selectFormat}
 use Rattle.instruction.proofs.number_select_cases.Statement.{statement}

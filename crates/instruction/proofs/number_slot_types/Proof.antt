@@ -1,5 +1,6 @@
 use Rattle.instruction.proofs.Laws.{numberedDone, numberedRefused, numbering}
-use Rattle.reader.proofs.Laws.{Turns, reading}
+use Rattle.reader.proofs.Reading.{reading}
+use Rattle.reader.proofs.Laws.{Turns}
 use Rattle.vob24.specs.Leaves.{slotType}
 use borrow.Author.Needs.{needs}
 use Rattle.instruction.proofs.number_slot_types.Statement.{statement}

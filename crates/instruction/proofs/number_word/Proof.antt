@@ -1,5 +1,5 @@
 use Rattle.instruction.proofs.Laws.{fitting}
-use Rattle.reader.proofs.Laws.{reading}
+use Rattle.reader.proofs.Reading.{reading}
 use Rattle.reader.proofs.Keeping.{keeping}
 use borrow.Author.Needs.{needs}
 use Rattle.instruction.proofs.number_word.Statement.{statement}

@@ -1,6 +1,7 @@
 use Rattle.instruction.proofs.Laws.{recordedNot, lostThen, lostLast, lastFour, recording}
 use native.Mathlib.Omega.{arith}
-use Rattle.reader.proofs.Laws.{got-ready, reading}
+use Rattle.reader.proofs.Reading.{reading}
+use Rattle.reader.proofs.Laws.{got-ready}
 use lib.Dec.{eqb}
 use mathlib.Core.Path.{refl}
 use Rattle.instruction.specs.declared.SelectCase.the-variants.{Recv}

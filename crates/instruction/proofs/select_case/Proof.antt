@@ -1,6 +1,6 @@
 use Rattle.vob24.specs.Grammar.{selectCase}
 use Rattle.instruction.proofs.Shapes.{selectAt, select-one}
-use Rattle.reader.proofs.Laws.{reading}
+use Rattle.reader.proofs.Reading.{reading}
 use Rattle.instruction.proofs.Laws.{recording}
 use borrow.Author.Needs.{needs}
 use Rattle.instruction.proofs.select_case.Statement.{statement}

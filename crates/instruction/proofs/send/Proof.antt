@@ -1,4 +1,5 @@
-use Rattle.reader.proofs.Laws.{got-ready, reading}
+use Rattle.reader.proofs.Reading.{reading}
+use Rattle.reader.proofs.Laws.{got-ready}
 use mathlib.Core.Path.{refl}
 use Rattle.instruction.specs.declared.SelectCase.the-variants.{Send}
 use Rattle.instruction.proofs.Laws.{lastThree, recording}

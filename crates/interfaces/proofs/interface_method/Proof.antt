@@ -1,6 +1,6 @@
 use borrow.Author.Needs.{needs}
 use Rattle.vob24.specs.Grammar.{interfaceMethod}
-use Rattle.reader.proofs.Laws.{reading}
+use Rattle.reader.proofs.Reading.{reading}
 use Rattle.interfaces.proofs.interface_method.Statement.{statement}
 use Rattle.interfaces.proofs.interface_method.Tie as tie
 

@@ -1,6 +1,5 @@
 use borrow.Author.Needs.{needs}
-use Rattle.reader.proofs.Laws.{reading}
-use Rattle.reader.proofs.Parts.{parts}
+use Rattle.reader.proofs.Reading.{reading}
 use Rattle.vob24.specs.Grammar.{runtimeField}
 use Rattle.runtime_type.proofs.field.Statement.{statement}
 use Rattle.runtime_type.proofs.field.Tie as tie
@@ -25,7 +24,7 @@ same-length c = search needs
 
 returns : tie.Need-returns
 unfolding runtimeField
-returns c = search (needs, reading, parts)
+returns c = search (needs, reading)
 
 pub field-spec : {M : Type 1} → statement M
 field-spec =

@@ -2,7 +2,8 @@ use Prim.Native.Nat.{_+_}
 use native.Mathlib.Omega.{arith}
 use lib.Dec.{eqb}
 use borrow.Author.Needs.{needs}
-use Rattle.reader.proofs.Laws.{reading, got-ready}
+use Rattle.reader.proofs.Reading.{reading}
+use Rattle.reader.proofs.Laws.{got-ready}
 use Rattle.runtime_type.proofs.Laws.{recording, recordedThree, listedTwo, fixed-place, rttids-place}
 use Rattle.runtime_type.specs.declared.RuntimeType.the-variants as kind
 use Rattle.runtime_type.specs.Records.{twoOf}

@@ -1,7 +1,7 @@
 use Prim.Native.Nat.{_+_}
 use native.Mathlib.Omega.{arith}
 use borrow.Author.Needs.{needs}
-use Rattle.reader.proofs.Laws.{reading}
+use Rattle.reader.proofs.Reading.{reading}
 use Rattle.vob24.specs.Grammar.{runtimeInterface}
 use Rattle.runtime_type.proofs.Laws.{recording, fixed-fits, fixed-place, listed, recordedTwo}
 use Rattle.runtime_type.specs.declared.RuntimeType.the-variants as kind

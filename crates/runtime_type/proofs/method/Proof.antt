@@ -1,6 +1,5 @@
 use borrow.Author.Needs.{needs}
-use Rattle.reader.proofs.Laws.{reading}
-use Rattle.reader.proofs.Parts.{parts}
+use Rattle.reader.proofs.Reading.{reading}
 use Rattle.vob24.specs.Grammar.{runtimeMethod}
 use Rattle.runtime_type.proofs.method.Statement.{statement}
 use Rattle.runtime_type.proofs.method.Tie as tie
@@ -16,7 +15,7 @@ same-length c = search needs
 
 returns : tie.Need-returns
 unfolding runtimeMethod
-returns c = search (needs, reading, parts)
+returns c = search (needs, reading)
 
 pub method-spec : {M : Type 1} → statement M
 method-spec =

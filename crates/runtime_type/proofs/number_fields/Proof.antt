@@ -1,5 +1,6 @@
 use borrow.Author.Needs.{needs}
-use Rattle.reader.proofs.Laws.{reading, Turns}
+use Rattle.reader.proofs.Reading.{reading}
+use Rattle.reader.proofs.Laws.{Turns}
 use Rattle.vob24.specs.Grammar.{runtimeField}
 use Rattle.vob24.specs.Settings.{settings}
 use Rattle.runtime_type.proofs.Laws.{numbering, numberedDone, numberedRefused}

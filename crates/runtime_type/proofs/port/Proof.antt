@@ -1,6 +1,6 @@
 use native.Mathlib.Omega.{arith}
 use borrow.Author.Needs.{needs}
-use Rattle.reader.proofs.Laws.{reading}
+use Rattle.reader.proofs.Reading.{reading}
 use Rattle.runtime_type.proofs.Laws.{recording, fixed-fits, recordedTwo}
 use Rattle.runtime_type.specs.declared.RuntimeType.the-variants as kind
 use Rattle.runtime_type.specs.Records.{bareOf}

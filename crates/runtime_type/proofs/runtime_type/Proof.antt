@@ -1,8 +1,9 @@
 use borrow.Author.Needs.{needs}
-use Rattle.reader.proofs.Laws.{reading, got-ready}
+use Rattle.reader.proofs.Reading.{reading}
+use Rattle.reader.proofs.Laws.{got-ready}
+use Rattle.reader.proofs.Parts.{tag-most}
 use Rattle.vob24.specs.Grammar.{runtimeType, runtimeVariants}
 use Rattle.vob24.specs.Settings.{settings}
-use Rattle.reader.proofs.Parts.{tag-most}
 use Rattle.runtime_type.proofs.Laws.{recording, recordedEmpty, variantAt, last-tag}
 use Rattle.runtime_type.specs.declared.RuntimeType.the-variants as kind
 use Rattle.runtime_type.specs.Records.{bareOf, typeRecords, runtimeTypeOf}

@@ -1,6 +1,7 @@
 use borrow.Author.Needs.{needs}
-use Rattle.reader.proofs.Laws.{reading, Turns}
-use Rattle.reader.proofs.Parts.{parts, list-done, list-refused}
+use Rattle.reader.proofs.Reading.{reading}
+use Rattle.reader.proofs.Laws.{Turns}
+use Rattle.reader.proofs.Parts.{list-done, list-refused}
 use Rattle.reader.specs.declared.Step.the-variants.{Taken}
 use Rattle.vob24.specs.Grammar.{runtimeType}
 use Rattle.vob24.specs.Settings.{settings}
@@ -15,64 +16,64 @@ abbrev μ-loop : tie.MeasureT-loop
 μ-loop s tape₀ n k₀ here₀ tape k here = k
 
 enum-known-r : tie.Need-enum-known-r Inv-loop μ-loop
-enum-known-r c = search (needs, reading, parts, numbering)
+enum-known-r c = search (needs, reading, numbering)
 
 enum-told : tie.Need-enum-told Inv-loop μ-loop
-enum-told c = search (needs, reading, parts, numbering)
+enum-told c = search (needs, reading, numbering)
 
 returns : tie.Need-returns Inv-loop μ-loop
-returns c = search (needs, reading, parts, numbering)
+returns c = search (needs, reading, numbering)
 
 number-count-requires : tie.Need-number-count-requires Inv-loop μ-loop
-number-count-requires c κs = search (needs, reading, parts, numbering)
+number-count-requires c κs = search (needs, reading, numbering)
 
 enum-known-q : tie.Need-enum-known-q Inv-loop μ-loop
-enum-known-q c = search (needs, reading, parts, numbering)
+enum-known-q c = search (needs, reading, numbering)
 
 enum-told-2 : tie.Need-enum-told-2 Inv-loop μ-loop
-enum-told-2 c = search (needs, reading, parts, numbering)
+enum-told-2 c = search (needs, reading, numbering)
 
 refused-requires : tie.Need-refused-requires Inv-loop μ-loop
-refused-requires c κs = search (needs, reading, parts, numbering)
+refused-requires c κs = search (needs, reading, numbering)
 
 same-length : tie.Need-same-length Inv-loop μ-loop
-same-length c = search (needs, reading, parts, numbering)
+same-length c = search (needs, reading, numbering)
 
 returns-2 : tie.Need-returns-2 Inv-loop μ-loop
-returns-2 c = search (needs, reading, parts, numbering)
+returns-2 c = search (needs, reading, numbering)
 
 loop-holds : tie.Need-loop-holds Inv-loop μ-loop
-loop-holds c = search (needs, reading, parts, numbering)
+loop-holds c = search (needs, reading, numbering)
 
 runtime-type-requires : tie.Need-runtime-type-requires Inv-loop μ-loop
-runtime-type-requires c κs = search (needs, reading, parts, numbering)
+runtime-type-requires c κs = search (needs, reading, numbering)
 
 enum-known-item : tie.Need-enum-known-item Inv-loop μ-loop
-enum-known-item c = search (needs, reading, parts, numbering)
+enum-known-item c = search (needs, reading, numbering)
 
 enum-told-3 : tie.Need-enum-told-3 Inv-loop μ-loop
-enum-told-3 c = search (needs, reading, parts, numbering)
+enum-told-3 c = search (needs, reading, numbering)
 
 type-refused-requires : tie.Need-type-refused-requires Inv-loop μ-loop
-type-refused-requires c κs = search (needs, reading, parts, numbering)
+type-refused-requires c κs = search (needs, reading, numbering)
 
 same-length-2 : tie.Need-same-length-2 Inv-loop μ-loop
-same-length-2 c = search (needs, reading, parts, numbering)
+same-length-2 c = search (needs, reading, numbering)
 
 returns-3 : tie.Need-returns-3 Inv-loop μ-loop
 returns-3 c = list-refused ((c .before .before .before .before .before .before .before .before .before .before .before .before .before .before .before .before .before .r) .given .1) ((c .before .before .before .before .before .before .before .before .before .before .q) .given .1) ((c .before .before .before .before .before .before .before .before .before .before .before .before .before .before .number-count) .ensures) ((c .before .before .before .before .before .before .before .loop-test) .taken) ((c .before .before .before .before .before .before .before .before .loop) .inv) (typeRefused ((c .before .enum-told3) .given .1) ((c .type-refused) .ensures) ((c .before .before .before .before .before .runtime-type) .ensures)) (refused-as ((c .before .enum-told3) .given .1) ((c .type-refused) .ensures))
 
 sub-k : tie.Need-sub-k Inv-loop μ-loop
-sub-k c = search (needs, reading, parts, numbering)
+sub-k c = search (needs, reading, numbering)
 
 loop-less : tie.Need-loop-less Inv-loop μ-loop
-loop-less c = search (needs, reading, parts, numbering)
+loop-less c = search (needs, reading, numbering)
 
 loop-again : tie.Need-loop-again Inv-loop μ-loop
-loop-again c = search (needs, reading, parts, numbering)
+loop-again c = search (needs, reading, numbering)
 
 same-length-3 : tie.Need-same-length-3 Inv-loop μ-loop
-same-length-3 c = search (needs, reading, parts, numbering)
+same-length-3 c = search (needs, reading, numbering)
 
 returns-4 : tie.Need-returns-4 Inv-loop μ-loop
 returns-4 c = list-done ((c .before .before .before .before .before .before .before .before .before .before .r) .given .1) ((c .before .before .before .q) .given .1) ((c .before .before .before .before .before .before .before .number-count) .ensures) ((c .loop-test) .left) ((c .before .loop) .inv)

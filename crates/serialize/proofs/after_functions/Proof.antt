@@ -1,4 +1,4 @@
-use Rattle.reader.proofs.Laws.{reading, fieldThen}
+use Rattle.reader.proofs.Laws.{fieldThen}
 use Rattle.vob24.specs.Grammar.{section, afterFunctions}
 use borrow.Author.Needs.{needs}
 use Rattle.serialize.proofs.after_functions.Statement.{statement}

@@ -1,4 +1,4 @@
-use Rattle.reader.proofs.Laws.{reading, fieldThen}
+use Rattle.reader.proofs.Reading.{reading}
 use Rattle.vob24.specs.Grammar.{section, sections, pack}
 use borrow.Author.Needs.{needs}
 use Rattle.serialize.proofs.deserialize.Statement.{statement}

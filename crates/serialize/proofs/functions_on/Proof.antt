@@ -1,6 +1,6 @@
-use Rattle.reader.proofs.Laws.{reading, at-step, numberThen}
+use Rattle.reader.proofs.Reading.{reading}
+use Rattle.reader.proofs.Laws.{at-step, numberThen}
 use Rattle.vob24.specs.Settings.{settings}
-use Rattle.reader.proofs.Parts.{parts}
 use Rattle.vob24.specs.Grammar.{section, afterFunctions}
 use borrow.Author.Needs.{needs}
 use Rattle.serialize.proofs.functions_on.Statement.{statement}
@@ -13,10 +13,10 @@ enum-told : tie.Need-enum-told
 enum-told c = search needs
 
 returns : tie.Need-returns
-returns c = search (needs, reading, parts)
+returns c = search (needs, reading)
 
 number-functions-requires : tie.Need-number-functions-requires
-number-functions-requires c κs = search (needs, reading, parts)
+number-functions-requires c κs = search (needs, reading)
 
 enum-known-q : tie.Need-enum-known-q
 enum-known-q c = search needs
@@ -32,10 +32,10 @@ same-length c = search needs
 
 returns-2 : tie.Need-returns-2
 unfolding section
-returns-2 c = search (needs, reading, parts)
+returns-2 c = search (needs, reading)
 
 after-functions-requires : tie.Need-after-functions-requires
-after-functions-requires c κs = search (needs, reading, parts)
+after-functions-requires c κs = search (needs, reading)
 
 same-length-2 : tie.Need-same-length-2
 same-length-2 c = search needs

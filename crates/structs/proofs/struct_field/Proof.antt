@@ -1,6 +1,6 @@
 use borrow.Author.Needs.{needs}
 use Rattle.vob24.specs.Grammar.{structField}
-use Rattle.reader.proofs.Laws.{reading}
+use Rattle.reader.proofs.Reading.{reading}
 use Rattle.structs.proofs.struct_field.Statement.{statement}
 use Rattle.structs.proofs.struct_field.Tie as tie
 

@@ -1,4 +1,4 @@
-use Rattle.reader.proofs.Laws.{reading}
+use Rattle.reader.proofs.Reading.{reading}
 use Rattle.tables.proofs.Laws.{constants}
 use borrow.Author.Needs.{needs}
 use Rattle.tables.proofs.constant_int.Statement.{statement}

@@ -1,5 +1,4 @@
-use Rattle.reader.proofs.Laws.{reading}
-use Rattle.reader.proofs.Parts.{parts}
+use Rattle.reader.proofs.Reading.{reading}
 use borrow.Author.Needs.{needs}
 use Rattle.tables.proofs.error_field_offsets.Statement.{statement}
 use Rattle.tables.proofs.error_field_offsets.Tie as tie
@@ -11,10 +10,10 @@ enum-told : tie.Need-enum-told
 enum-told c = search needs
 
 returns : tie.Need-returns
-returns c = search (needs, reading, parts)
+returns c = search (needs, reading)
 
 number-bool-requires : tie.Need-number-bool-requires
-number-bool-requires c κs = search (needs, reading, parts)
+number-bool-requires c κs = search (needs, reading)
 
 enum-known-q : tie.Need-enum-known-q
 enum-known-q c = search needs
@@ -29,16 +28,16 @@ same-length : tie.Need-same-length
 same-length c = search needs
 
 returns-2 : tie.Need-returns-2
-returns-2 c = search (needs, reading, parts)
+returns-2 c = search (needs, reading)
 
 same-length-2 : tie.Need-same-length-2
 same-length-2 c = search needs
 
 returns-3 : tie.Need-returns-3
-returns-3 c = search (needs, reading, parts)
+returns-3 c = search (needs, reading)
 
 field-u16-requires : tie.Need-field-u16-requires
-field-u16-requires c κs = search (needs, reading, parts)
+field-u16-requires c κs = search (needs, reading)
 
 field-u16-requires-2 : tie.Need-field-u16-requires-2
 field-u16-requires-2 c κs = search needs
@@ -47,7 +46,7 @@ same-length-3 : tie.Need-same-length-3
 same-length-3 c = search needs
 
 returns-4 : tie.Need-returns-4
-returns-4 c = search (needs, reading, parts)
+returns-4 c = search (needs, reading)
 
 pub error-field-offsets-spec : {M : Type 1} → statement M
 error-field-offsets-spec =

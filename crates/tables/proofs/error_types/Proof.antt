@@ -1,4 +1,4 @@
-use Rattle.reader.proofs.Laws.{reading}
+use Rattle.reader.proofs.Reading.{reading}
 use Rattle.vob24.specs.Grammar.{errorTypes}
 use borrow.Author.Needs.{needs}
 use Rattle.tables.proofs.error_types.Statement.{statement}

@@ -1,4 +1,4 @@
-use Rattle.reader.proofs.Laws.{reading}
+use Rattle.reader.proofs.Reading.{reading}
 use borrow.Author.Needs.{needs}
 use Rattle.tables.proofs.well_known.Statement.{statement}
 use Rattle.tables.proofs.well_known.Tie as tie
