@@ -11,13 +11,6 @@ use reader::Step;
 use reader::numbers;
 use reader::sizes;
 
-// The contexts of 20: the meta word of a capture and of a parameter, whose rttid word is one more, and the slot count.
-const CAPTURE_META: u64 = 1;
-
-const PARAMETER_META: u64 = 3;
-
-const SLOT_COUNT: u64 = 5;
-
 // ---- code
 
 // code, instruction_metadata; then 15 unless they are as many
@@ -82,7 +75,7 @@ fn capture_types(s: &[u8], r: Step, tape: &mut [u32]) -> Step
     ensures { λ q. ⌜ Reader captureTypes (now (s .entry)) r (now (tape .entry)) q (now (tape .exit)) ⌝ }
 {
     let list = transfer_types(s, r, tape);
-    names::transfer_words(s, CAPTURE_META, r, list)
+    names::transfer_words(s, numbers::CAPTURE_META, r, list)
 }
 
 fn param_types(s: &[u8], r: Step, tape: &mut [u32]) -> Step
@@ -90,7 +83,7 @@ fn param_types(s: &[u8], r: Step, tape: &mut [u32]) -> Step
     ensures { λ q. ⌜ Reader paramTypes (now (s .entry)) r (now (tape .entry)) q (now (tape .exit)) ⌝ }
 {
     let list = transfer_types(s, r, tape);
-    names::transfer_words(s, PARAMETER_META, r, list)
+    names::transfer_words(s, numbers::PARAMETER_META, r, list)
 }
 
 // ---- functions
@@ -167,7 +160,7 @@ fn function_body(s: &[u8], r: Step, types: u64, locals: u64, tape: &mut [u32]) -
     if types != locals {
         return Step::Refused(Refusal {
             number: numbers::INVALID_FUNCTION_METADATA,
-            context: SLOT_COUNT,
+            context: numbers::SLOT_COUNT,
             detail1: types,
             detail2: locals,
             place: c.place,
@@ -185,7 +178,7 @@ fn function_slots(s: &[u8], r: Step, locals: u64, tape: &mut [u32]) -> Step
     let Step::Taken(c) = r else {
         return r;
     };
-    let q = instruction::number_slot_types(s, c, tape);
+    let q = slots::number_slot_types(s, c, tape);
     let Number::Got(types, d) = q else {
         return reader::refused(q);
     };

@@ -22,17 +22,21 @@ use Rattle.reader.specs.declared.Number.the-variants.{Got}
 use Rattle.reader.proofs.Parts.{tag-ok, tag-most-bare}
 use Rattle.records.specs.Recorded.{noItems, Recorded}
 use Rattle.records.specs.declared.Items.{Items}
+use Rattle.records.proofs.Recording.{recordedThen, recordedPlace, recordedLast, recordedTwo, lastTwo, lastThree, fixed-place, list-place, variantAt}
 use Rattle.instruction.specs.Records.{twoLayouts, elemLayout, mapGet, slotLayout, ifaceAssert, callIface, bareOf, oneOf, twoOf, elemOf, mapGetOf, slotOf, assertOf, callIfaceOf, metadataRecords, metadataOf, sendOf, recvOf, selectOf}
 use Rattle.instruction.specs.declared.Metadata.{Metadata}
 use Rattle.instruction.specs.declared.Metadata.the-variants as kind
 use Rattle.instruction.specs.declared.MetadataRecord.{MetadataRecord}
 use Rattle.instruction.specs.declared.SelectCase.{SelectCase}
 use Rattle.instruction.specs.declared.SelectCase.the-variants.{Send}
-use Rattle.instruction.proofs.Laws.{recordedThen, recordedPlace, recordedLast, recordedTwo, lastTwo, lastThree, fixed-place, slots-place, variantAt}
 
 -- the n entries of a list whose count stands at p
 abbrev itemsOf : ℕ → ℕ → Items
 itemsOf p n = record { start = p + 4; count = n }
+
+-- slot types take one byte each
+slots-place : {s : List ℕ} {c d : Cursor} {q : Number} {n : ℕ} {t t₁ : List ℕ} → q ≡ Got n d → NumberOf (slotTypes settings) counted s c t q t₁ → d .place ≡ c .place + 4 + n
+slots-place e h = omega (arith, list-place e h)
 
 -- one list
 pub oneLayout : {f : Format} {k : Metadata} {s : List ℕ} {c d : Cursor} {q : Number} {n : ℕ} {i : Items} {t t₁ : List ℕ} → q ≡ Got n d → NumberOf f counted s c t q t₁ → i ≡ itemsOf (c .place) n → Recorded f (oneOf k) s c t (Taken d) (record { kind = k; first = i; second = noItems }) t₁

@@ -2,14 +2,13 @@
 // Ports instruction.rs, and InstructionMetadata and SelectCaseLayout of bytecode.rs with their reading in serialize.rs. A
 // metadata is answered as an enum without lists, held in a record beside its lists' starts and counts.
 ghost use mathlib.Core.Path.{_≡_};
-ghost use Prim.Native.Nat.{_+_};
 ghost use Rattle.format.specs.Format.{counted};
 ghost use Rattle.vob24.specs.Settings.{settings};
-ghost use Rattle.vob24.specs.Leaves.{u16, u32};
+ghost use Rattle.vob24.specs.Leaves.{u32};
 ghost use Rattle.vob24.specs.Grammar.{slotTypes};
 ghost use Rattle.reader.specs.Contract.{stepOf, Ready, ReadyAt, Reader, NumberOf};
 ghost use Rattle.instruction.specs.Records.{instructionFormat, instructionList, metadataFormat, metadataList, selectFormat, selectList, twoLayouts, elemLayout, mapGet, slotLayout, ifaceAssert, callIface, sendFormat, recvFormat, bareOf, oneOf, twoOf, elemOf, mapGetOf, loopEndOf, slotOf, assertOf, callIfaceOf, metadataOf, sendOf, recvOf, selectOf};
-ghost use Rattle.instruction.specs.Contract.{Fitting, metadataStep, MetadataReader, selectStep, SelectReader};
+ghost use Rattle.instruction.specs.Contract.{metadataStep, MetadataReader, selectStep, SelectReader};
 use reader::Cursor;
 use reader::Number;
 use reader::Refusal;
@@ -120,62 +119,6 @@ pub fn number_instructions(s: &[u8], c: Cursor, tape: &mut [u32]) -> Number
 
 // ---- the parts of a metadata
 
-// A u32 or u16, known to fit its type.
-fn number_word(s: &[u8], c: Cursor, tape: &mut [u32]) -> Number
-    requires { ⌜ ReadyAt (now s) c ⌝ }
-    ensures { λ q. ⌜ Fitting 4294967296 u32 (now (s .entry)) c (now (tape .entry)) q (now (tape .exit)) ⌝ }
-{
-    let q = reader::read_u32(s, c);
-    let Number::Got(n, d) = q else {
-        return q;
-    };
-    Number::Got(n, reader::keep(d, n, tape))
-}
-
-fn number_half(s: &[u8], c: Cursor, tape: &mut [u32]) -> Number
-    requires { ⌜ ReadyAt (now s) c ⌝ }
-    ensures { λ q. ⌜ Fitting 65536 u16 (now (s .entry)) c (now (tape .entry)) q (now (tape .exit)) ⌝ }
-{
-    let q = reader::read_u16(s, c);
-    let Number::Got(n, d) = q else {
-        return q;
-    };
-    Number::Got(n, reader::keep(d, n, tape))
-}
-
-// A list of slot types; hands out how many they are.
-pub fn number_slot_types(s: &[u8], c: Cursor, tape: &mut [u32]) -> Number
-    requires { ⌜ ReadyAt (now s) c ⌝ }
-    ensures { λ q. ⌜ NumberOf (slotTypes settings) counted (now (s .entry)) c (now (tape .entry)) q (now (tape .exit)) ⌝ }
-{
-    let q = fields::number_count(s, c, sizes::SLOT_TYPE, tape);
-    let Number::Got(n, d) = q else {
-        return q;
-    };
-    let mut k = n;
-    let mut here = Step::Taken(d);
-    while 0 < k {
-        here = fields::field_slot_type(s, here, tape);
-        let Step::Taken(_) = here else {
-            return reader::with(n, here);
-        };
-        k -= 1;
-    }
-    reader::with(n, here)
-}
-
-// The n entries of the list whose count stands at the cursor.
-fn items_at(s: &[u8], c: Cursor, n: u64) -> Items
-    requires { ⌜ ReadyAt (now s) c ⌝ }
-    ensures { λ q. ⌜ q ≡ record { start = c .place + 4; count = n } ⌝ }
-{
-    let place = c.place;
-    Items {
-        start: place + 4,
-        count: n as usize,
-    }
-}
-
 // A metadata that has no list.
 fn bare(kind: Metadata) -> MetadataRecord
     ensures { λ q. ⌜ q ≡ bareOf kind ⌝ }
@@ -204,14 +147,14 @@ fn layout(s: &[u8], c: Cursor, kind: Metadata, tape: &mut [u32]) -> MetadataRead
     requires { ⌜ ReadyAt (now s) c ⌝ }
     ensures { λ q. ⌜ MetadataReader (slotTypes settings) (oneOf kind) (now (s .entry)) c (now (tape .entry)) q (now (tape .exit)) ⌝ }
 {
-    let q = number_slot_types(s, c, tape);
+    let q = slots::number_slot_types(s, c, tape);
     let Number::Got(n, d) = q else {
         return not_metadata(q);
     };
     MetadataRead::Got(
         MetadataRecord {
             kind,
-            first: items_at(s, c, n),
+            first: records::items_at(s, c, n),
             second: Items { start: 0, count: 0 },
         },
         d,
@@ -223,19 +166,19 @@ fn layouts(s: &[u8], c: Cursor, kind: Metadata, tape: &mut [u32]) -> MetadataRea
     requires { ⌜ ReadyAt (now s) c ⌝ }
     ensures { λ q. ⌜ MetadataReader twoLayouts (twoOf kind) (now (s .entry)) c (now (tape .entry)) q (now (tape .exit)) ⌝ }
 {
-    let q1 = number_slot_types(s, c, tape);
+    let q1 = slots::number_slot_types(s, c, tape);
     let Number::Got(m, d) = q1 else {
         return not_metadata(q1);
     };
-    let q2 = number_slot_types(s, d, tape);
+    let q2 = slots::number_slot_types(s, d, tape);
     let Number::Got(n, e) = q2 else {
         return not_metadata(q2);
     };
     MetadataRead::Got(
         MetadataRecord {
             kind,
-            first: items_at(s, c, m),
-            second: items_at(s, d, n),
+            first: records::items_at(s, c, m),
+            second: records::items_at(s, d, n),
         },
         e,
     )
@@ -246,7 +189,7 @@ fn elem_layout(s: &[u8], c: Cursor, tape: &mut [u32]) -> MetadataRead
     requires { ⌜ ReadyAt (now s) c ⌝ }
     ensures { λ q. ⌜ MetadataReader elemLayout elemOf (now (s .entry)) c (now (tape .entry)) q (now (tape .exit)) ⌝ }
 {
-    let q1 = number_word(s, c, tape);
+    let q1 = fields::number_u32(s, c, tape);
     let Number::Got(bytes, d) = q1 else {
         return not_metadata(q1);
     };
@@ -266,11 +209,11 @@ fn map_get(s: &[u8], c: Cursor, tape: &mut [u32]) -> MetadataRead
     requires { ⌜ ReadyAt (now s) c ⌝ }
     ensures { λ q. ⌜ MetadataReader mapGet mapGetOf (now (s .entry)) c (now (tape .entry)) q (now (tape .exit)) ⌝ }
 {
-    let q1 = number_slot_types(s, c, tape);
+    let q1 = slots::number_slot_types(s, c, tape);
     let Number::Got(m, d) = q1 else {
         return not_metadata(q1);
     };
-    let q2 = number_slot_types(s, d, tape);
+    let q2 = slots::number_slot_types(s, d, tape);
     let Number::Got(n, e) = q2 else {
         return not_metadata(q2);
     };
@@ -281,8 +224,8 @@ fn map_get(s: &[u8], c: Cursor, tape: &mut [u32]) -> MetadataRead
     MetadataRead::Got(
         MetadataRecord {
             kind: Metadata::MapGet { has_ok: ok == 1 },
-            first: items_at(s, c, m),
-            second: items_at(s, d, n),
+            first: records::items_at(s, c, m),
+            second: records::items_at(s, d, n),
         },
         f,
     )
@@ -293,7 +236,7 @@ fn loop_end(s: &[u8], c: Cursor, tape: &mut [u32]) -> MetadataRead
     requires { ⌜ ReadyAt (now s) c ⌝ }
     ensures { λ q. ⌜ MetadataReader u32 loopEndOf (now (s .entry)) c (now (tape .entry)) q (now (tape .exit)) ⌝ }
 {
-    let q = number_word(s, c, tape);
+    let q = fields::number_u32(s, c, tape);
     let Number::Got(pc, d) = q else {
         return not_metadata(q);
     };
@@ -305,7 +248,7 @@ fn slot_layout(s: &[u8], c: Cursor, tape: &mut [u32]) -> MetadataRead
     requires { ⌜ ReadyAt (now s) c ⌝ }
     ensures { λ q. ⌜ MetadataReader slotLayout slotOf (now (s .entry)) c (now (tape .entry)) q (now (tape .exit)) ⌝ }
 {
-    let q = number_half(s, c, tape);
+    let q = fields::number_u16(s, c, tape);
     let Number::Got(length, d) = q else {
         return not_metadata(q);
     };
@@ -324,7 +267,7 @@ fn iface_assert_layout(s: &[u8], c: Cursor, tape: &mut [u32]) -> MetadataRead
     let Number::Got(assert, d) = q1 else {
         return not_metadata(q1);
     };
-    let q2 = number_word(s, d, tape);
+    let q2 = fields::number_u32(s, d, tape);
     let Number::Got(target, e) = q2 else {
         return not_metadata(q2);
     };
@@ -340,11 +283,11 @@ fn call_iface_layout(s: &[u8], c: Cursor, tape: &mut [u32]) -> MetadataRead
     requires { ⌜ ReadyAt (now s) c ⌝ }
     ensures { λ q. ⌜ MetadataReader callIface callIfaceOf (now (s .entry)) c (now (tape .entry)) q (now (tape .exit)) ⌝ }
 {
-    let q1 = number_word(s, c, tape);
+    let q1 = fields::number_u32(s, c, tape);
     let Number::Got(id, d) = q1 else {
         return not_metadata(q1);
     };
-    let q2 = number_word(s, d, tape);
+    let q2 = fields::number_u32(s, d, tape);
     let Number::Got(method, e) = q2 else {
         return not_metadata(q2);
     };
@@ -367,7 +310,7 @@ fn select_exec_layout(s: &[u8], c: Cursor, tape: &mut [u32]) -> MetadataRead
     MetadataRead::Got(
         MetadataRecord {
             kind: Metadata::SelectExecLayout,
-            first: items_at(s, c, n),
+            first: records::items_at(s, c, n),
             second: Items { start: 0, count: 0 },
         },
         d,
@@ -449,15 +392,15 @@ fn send(s: &[u8], c: Cursor, tape: &mut [u32]) -> SelectCaseRead
     requires { ⌜ ReadyAt (now s) c ⌝ }
     ensures { λ q. ⌜ SelectReader sendFormat sendOf (now (s .entry)) c (now (tape .entry)) q (now (tape .exit)) ⌝ }
 {
-    let q1 = number_half(s, c, tape);
+    let q1 = fields::number_u16(s, c, tape);
     let Number::Got(queue, d) = q1 else {
         return not_select(q1);
     };
-    let q2 = number_half(s, d, tape);
+    let q2 = fields::number_u16(s, d, tape);
     let Number::Got(value, e) = q2 else {
         return not_select(q2);
     };
-    let q3 = number_half(s, e, tape);
+    let q3 = fields::number_u16(s, e, tape);
     let Number::Got(slots, f) = q3 else {
         return not_select(q3);
     };
@@ -476,15 +419,15 @@ fn recv(s: &[u8], c: Cursor, tape: &mut [u32]) -> SelectCaseRead
     requires { ⌜ ReadyAt (now s) c ⌝ }
     ensures { λ q. ⌜ SelectReader recvFormat recvOf (now (s .entry)) c (now (tape .entry)) q (now (tape .exit)) ⌝ }
 {
-    let q1 = number_half(s, c, tape);
+    let q1 = fields::number_u16(s, c, tape);
     let Number::Got(destination, d) = q1 else {
         return not_select(q1);
     };
-    let q2 = number_half(s, d, tape);
+    let q2 = fields::number_u16(s, d, tape);
     let Number::Got(queue, e) = q2 else {
         return not_select(q2);
     };
-    let q3 = number_half(s, e, tape);
+    let q3 = fields::number_u16(s, e, tape);
     let Number::Got(slots, f) = q3 else {
         return not_select(q3);
     };

@@ -81,3 +81,10 @@ pub const INLINE_FRAMES: u64 = 12;
 pub const INLINE_FUNCTIONS: u64 = 13;
 
 pub const INLINE_ENTRIES: u64 = 14;
+
+// Contexts of 20: the meta word of a capture and of a parameter, whose rttid word is one more; and the slot count.
+pub const CAPTURE_META: u64 = 1;
+
+pub const PARAMETER_META: u64 = 3;
+
+pub const SLOT_COUNT: u64 = 5;

@@ -2,7 +2,7 @@
 // Ports RuntimeType of runtime_type.rs and read_runtime_type of serialize.rs. A runtime type is answered as an enum without
 // lists, held in a record beside its lists' starts and counts.
 ghost use mathlib.Core.Path.{_≡_};
-ghost use Prim.Native.Nat.{_+_, _<_};
+ghost use Prim.Native.Nat.{_<_};
 ghost use Rattle.format.specs.Format.{counted};
 ghost use Rattle.vob24.specs.Leaves.{valueKind, valueRttid};
 ghost use Rattle.reader.specs.Contract.{stepOf, Ready, ReadyAt, Reader, NumberOf};
@@ -164,18 +164,6 @@ fn number_new_methods(s: &[u8], c: Cursor, tape: &mut [u32]) -> Number
 }
 
 // ---- the records' parts
-
-// The n entries of the list whose count stands at the cursor.
-fn items_at(s: &[u8], c: Cursor, n: u64) -> Items
-    requires { ⌜ ReadyAt (now s) c ⌝ }
-    ensures { λ q. ⌜ q ≡ record { start = c .place + 4; count = n } ⌝ }
-{
-    let place = c.place;
-    Items {
-        start: place + 4,
-        count: n as usize,
-    }
-}
 
 fn optional_id(raw: u64) -> OptionalId
     requires { ⌜ raw < 4294967296 ⌝ }
@@ -341,8 +329,8 @@ fn func(s: &[u8], c: Cursor, tape: &mut [u32]) -> RuntimeTypeRead
             kind: RuntimeType::Func {
                 variadic: variadic == 1,
             },
-            first: items_at(s, d, params),
-            second: items_at(s, e, results),
+            first: records::items_at(s, d, params),
+            second: records::items_at(s, e, results),
         },
         f,
     )
@@ -364,7 +352,7 @@ fn struct_type(s: &[u8], c: Cursor, tape: &mut [u32]) -> RuntimeTypeRead
     RuntimeTypeRead::Got(
         RuntimeTypeRecord {
             kind: RuntimeType::Struct { meta_id: id as u32 },
-            first: items_at(s, d, n),
+            first: records::items_at(s, d, n),
             second: Items { start: 0, count: 0 },
         },
         e,
@@ -387,7 +375,7 @@ fn interface(s: &[u8], c: Cursor, tape: &mut [u32]) -> RuntimeTypeRead
     RuntimeTypeRead::Got(
         RuntimeTypeRecord {
             kind: RuntimeType::Interface { meta_id: id as u32 },
-            first: items_at(s, d, n),
+            first: records::items_at(s, d, n),
             second: Items { start: 0, count: 0 },
         },
         e,
@@ -405,7 +393,7 @@ fn tuple(s: &[u8], c: Cursor, tape: &mut [u32]) -> RuntimeTypeRead
     RuntimeTypeRead::Got(
         RuntimeTypeRecord {
             kind: RuntimeType::Tuple,
-            first: items_at(s, c, n),
+            first: records::items_at(s, c, n),
             second: Items { start: 0, count: 0 },
         },
         d,

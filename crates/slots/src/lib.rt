@@ -1,11 +1,34 @@
 // A list of slot types, which stands in many records: structs, globals, functions, instructions' metadata.
 // Ports `read_vec(read_slot_type)` of serialize.rs.
+ghost use Rattle.format.specs.Format.{counted};
 ghost use Rattle.vob24.specs.Settings.{settings};
 ghost use Rattle.vob24.specs.Grammar.{slotTypes};
-ghost use Rattle.reader.specs.Contract.{Ready, Reader};
+ghost use Rattle.reader.specs.Contract.{Ready, ReadyAt, Reader, NumberOf};
+use reader::Cursor;
 use reader::Number;
 use reader::Step;
 use reader::sizes;
+
+// Hands out how many they are.
+pub fn number_slot_types(s: &[u8], c: Cursor, tape: &mut [u32]) -> Number
+    requires { ⌜ ReadyAt (now s) c ⌝ }
+    ensures { λ q. ⌜ NumberOf (slotTypes settings) counted (now (s .entry)) c (now (tape .entry)) q (now (tape .exit)) ⌝ }
+{
+    let q = fields::number_count(s, c, sizes::SLOT_TYPE, tape);
+    let Number::Got(n, d) = q else {
+        return q;
+    };
+    let mut k = n;
+    let mut here = Step::Taken(d);
+    while 0 < k {
+        here = fields::field_slot_type(s, here, tape);
+        let Step::Taken(_) = here else {
+            return reader::with(n, here);
+        };
+        k -= 1;
+    }
+    reader::with(n, here)
+}
 
 pub fn slot_types(s: &[u8], r: Step, tape: &mut [u32]) -> Step
     requires { ⌜ Ready (now s) r ⌝ }
@@ -14,18 +37,5 @@ pub fn slot_types(s: &[u8], r: Step, tape: &mut [u32]) -> Step
     let Step::Taken(c) = r else {
         return r;
     };
-    let q = fields::number_count(s, c, sizes::SLOT_TYPE, tape);
-    let Number::Got(n, d) = q else {
-        return reader::refused(q);
-    };
-    let mut k = n;
-    let mut here = Step::Taken(d);
-    while 0 < k {
-        here = fields::field_slot_type(s, here, tape);
-        let Step::Taken(_) = here else {
-            return here;
-        };
-        k -= 1;
-    }
-    here
+    reader::refused(number_slot_types(s, c, tape))
 }

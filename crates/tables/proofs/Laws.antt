@@ -9,15 +9,13 @@ use lib.Ieee.{Float, binary64, ofBits}
 use lib.ListN.{getD}
 use mir.Syntax.{w64}
 use mir.Val.{toZ}
-use Rattle.format.specs.Trace.{Out, ended, Ends}
-use Rattle.format.specs.Format.{Value, number, first, second, Format, empty}
-use Rattle.format.specs.Reading.{trace}
-use Rattle.format.specs.Ending.{part-length, Both, seq-ends}
+use Rattle.format.specs.Format.{Value, number, Format, empty}
+use Rattle.format.specs.Ending.{part-length}
 use Rattle.vob24.specs.Settings.{settings}
 use Rattle.vob24.specs.Leaves.{u64, bool, str}
 use Rattle.vob24.specs.Grammar as vob
 use Rattle.fields.specs.Fields.{constantTag}
-use Rattle.reader.specs.Contract.{stepOf, signedStep, floatStep, payloadStep, ReadyAt, Takes, takes, Reader, NumberOf, SpanOf, ReadsSpan, lostSpan, refuses, WordyPair, KeptPair}
+use Rattle.reader.specs.Contract.{stepOf, signedStep, floatStep, payloadStep, ReadyAt, Reader, NumberOf, SpanOf, ReadsSpan, lostSpan, refuses, WordyPair, KeptPair}
 use Rattle.reader.specs.Leaves.{Fetches, there, short, FetchesSigned, signed, shortSigned, FetchesFloat, float, shortFloat}
 use Rattle.reader.specs.declared.Cursor.{Cursor}
 use Rattle.reader.specs.declared.Refusal.{Refusal}
@@ -28,54 +26,35 @@ use Rattle.reader.specs.declared.Number.the-variants.{Got, Not}
 use Rattle.reader.specs.declared.Payload.{Payload}
 use Rattle.reader.specs.declared.Signed.{Signed}
 use Rattle.reader.specs.declared.Float.{Float as FloatAnswer}
-use Rattle.reader.proofs.Laws.{takes-ends, at-step, GotOf, got-of, numberJust, numberThen, numberNot, emptyThen, got-ready}
+use Rattle.reader.proofs.Laws.{at-step, got-ready}
 use Rattle.reader.proofs.Parts.{span-of, tag-most-bare}
 use Rattle.reader.proofs.Keeping.{long-lost, long-kept, wordy8}
 use Rattle.records.specs.Recorded.{Recorded}
+use Rattle.records.proofs.Recording.{lostHere, lostLast, recordedNot, recordedEmpty, recordedValue, recordedThen, recordedLast}
 use Rattle.tables.specs.declared.answers.Constant.{Constant}
 use Rattle.tables.specs.Constants.{constantFormat, constantOf, constantBy, boolOf, intOf, floatOf, textOf}
-
--- a trace ends once
-module _ {o : Out Value} {v w : Value} {p q : ℕ} where
-  ends-value : o ≡ ended v p → o ≡ ended w q → v ≡ w
-  ends-value a b = cc
-
-  ends-place : o ≡ ended v p → o ≡ ended w q → p ≡ q
-  ends-place a b = cc
-
-module _ {R : Type 0} {f : Format} {of : ℕ → Value → R} {s : List ℕ} {c : Cursor} {t t₁ : List ℕ} where
-  -- a refusal, with any record
-  record-not : {q : Step} {x : Refusal} {y : R} → q ≡ Refused x → Reader f s (Taken c) t q t₁ → Recorded f of s c t q y t₁
-  record-not e h = record { reader = h; is = λ d v i k. let z : _≡_ {A = ℕ} 0 1 = cc in absurd (omega arith) }
-
-  -- what was taken, with the record of its value
-  record-took : {v : Value} {d : Cursor} {x : R} → ReadyAt s d → Takes f s c t v d t₁ → x ≡ of (c .place) v → Recorded f of s c t (Taken d) x t₁
-  record-took {v} {d} {x} r h e = record { reader = record { reads = takes h; ready = r }; is = λ d′ w i k. same w k (takes-ends h) }
-    where
-      same : (w : Value) {p q : ℕ} → Ends (trace f s (c .place)) w p → Ends (trace f s (c .place)) v q → x ≡ of (c .place) w
-      same w a b = e ∙ ap (of (c .place)) (ends-value b a)
 
 -- ---- what stands behind the tag
 
 module _ {R : Type 0} {f : Format} {s : List ℕ} {c : Cursor} {t t₁ : List ℕ} where
   module _ {of : ℕ → Value → R} {x : Refusal} {r r₁ : Step} {y : R} where
     pub number-unread : {of′ : Value → ℕ} {q : Number} → q ≡ Not x → r ≡ stepOf q → r₁ ≡ r → NumberOf f of′ s c t q t₁ → Recorded f of s c t r₁ y t₁
-    number-unread e i j h = record-not (j ∙ i ∙ ap stepOf e) (numberJust (j ∙ i) h)
+    number-unread e i j h = recordedNot (lostLast e (j ∙ i) h)
 
     pub span-unread : {q : Payload} → q ≡ Payload.Not x → r ≡ payloadStep q → r₁ ≡ r → SpanOf f s c t q t₁ → Recorded f of s c t r₁ y t₁
-    span-unread {q} e i j h = let k : r₁ ≡ Refused x = j ∙ i ∙ ap payloadStep e in record-not k (rw k (go (rw e at (h .reads))))
+    span-unread {q} e i j h = let k : r₁ ≡ Refused x = j ∙ i ∙ ap payloadStep e in recordedNot (record { reader = rw k (go (rw e at (h .reads))); why = x; is = k })
       where
         go : ReadsSpan f s c t (Payload.Not x) t₁ → Reader f s (Taken c) t (Refused x) t₁
         go (lostSpan h) = record { reads = refuses h; ready = tt }
 
   number-record : (g : ℕ → R) {q : Number} {n : ℕ} {d : Cursor} → q ≡ Got n d → NumberOf f number s c t q t₁ → Recorded f (λ p v. g (number v)) s c t (Taken d) (g n) t₁
-  number-record g e h = let k = got-of e h in record-took (k .ready) (k .takes) (ap g (k .is))
+  number-record g e h = recordedLast e h (λ n _. g n) refl
 
 pub bool-record : {f : Format} {s : List ℕ} {c : Cursor} {t t₁ : List ℕ} {q : Number} {n : ℕ} {d : Cursor} → q ≡ Got n d → NumberOf f number s c t q t₁ → Recorded f (λ _ v. boolOf v) s c t (Taken d) (Constant.Bool (eqb n 1)) t₁
 bool-record e h = number-record (λ n. Constant.Bool (eqb n 1)) e h
 
 pub text-record : {f : Format} {s : List ℕ} {c : Cursor} {t t₁ : List ℕ} {q : Payload} {p n : ℕ} {d : Cursor} → q ≡ Payload.Got p n d → SpanOf f s c t q t₁ → Recorded f (λ _ v. textOf v) s c t (Taken d) (Constant.Text p n) t₁
-text-record {s = s} {p = p} {n = n} e h = let k = span-of e h in record-took (k .ready) (k .takes) (ap (Constant.Text p) (sym (part-length s p n (k .room))))
+text-record {s = s} {p = p} {n = n} e h = let k = span-of e h in recordedValue (k .ready) (k .takes) (ap (Constant.Text p) (sym (part-length s p n (k .room))))
 
 -- a signed number is a number of its bits, and so is a float
 module _ {s : List ℕ} {c d : Cursor} {n : ℕ} where
@@ -122,28 +101,17 @@ module _ {R : Type 0} {of : ℕ → Value → R} {s : List ℕ} {c : Cursor} {t 
 module _ {s : List ℕ} {c : Cursor} {q : Number} {t t₁ : List ℕ} (h : NumberOf constantTag number s c t q t₁) where
   pub constant-unread : {x : Refusal} {r r₁ : Step} {y : Constant} {t₂ : List ℕ} → q ≡ Not x → r ≡ stepOf q → r₁ ≡ r → Recorded constantFormat constantOf s c t r₁ y t₂
   unfolding vob.constant
-  constant-unread e i j = record-not (j ∙ i ∙ ap stepOf e) (numberNot _ e (j ∙ i) h)
+  constant-unread e i j = recordedNot (lostHere e (j ∙ i) h)
 
   module _ (k : ℕ) {n : ℕ} {d : Cursor} (e : q ≡ Got n d) (i : n ≡ k) where
     constant-by : {r : Step} {y : Constant} {t₂ : List ℕ} → Recorded (getD (vob.constantVariants settings) k empty) (λ _ v. constantBy k v) s d t₁ r y t₂ → Recorded constantFormat constantOf s c t r y t₂
     unfolding vob.constant
-    constant-by {r} {y} {t₂} m = record { reader = numberThen (λ n. getD (vob.constantVariants settings) n empty) e h (rw i (m .reader)); is = λ d′ v a b. go d′ v a (seq-ends _ _ s (c .place) b) }
-      where
-        g : GotOf constantTag number s c t n d t₁
-        g = got-of e h
-
-        go : (d′ : Cursor) (v : Value) → r ≡ Taken d′ → Both constantTag (λ v. getD (vob.constantVariants settings) (number v) empty) s (c .place) v (d′ .place) → y ≡ constantOf (c .place) v
-        go d′ v a b =
-            let w = takes-ends (g .takes) in
-            let x : first v ≡ g .value = ends-value (b .fore) w in
-            let z : b .mid ≡ d .place = ends-place (b .fore) w in
-            let u : number (first v) ≡ k = ap number x ∙ sym (g .is) ∙ i in
-            m .is d′ (second v) a (rw (u, z) at (b .back)) ∙ ap (λ j. constantBy j (second v)) (sym u)
+    constant-by m = recordedThen e h (λ n. getD (vob.constantVariants settings) n empty) (λ n _ v. constantBy n v) (rw i m)
 
   module _ {n : ℕ} {d : Cursor} (e : q ≡ Got n d) where
     pub constant-nil : n ≡ 0 → Recorded constantFormat constantOf s c t (Taken d) Constant.Nil t₁
     unfolding constantBy
-    constant-nil i = constant-by 0 e i (record { reader = emptyThen (got-ready e h); is = λ d′ v a b. refl })
+    constant-nil i = constant-by 0 e i (recordedEmpty (got-ready e h) refl)
 
     module _ {r : Step} {y : Constant} {t₂ : List ℕ} where
       pub constant-bool : n ≡ 1 → Recorded bool (λ _ v. boolOf v) s d t₁ r y t₂ → Recorded constantFormat constantOf s c t r y t₂

@@ -1,13 +1,14 @@
+use native.Mathlib.Omega.{arith}
 use Rattle.reader.proofs.Reading.{reading}
 use Rattle.reader.proofs.Laws.{got-ready}
 use Rattle.instruction.proofs.Shapes.{callIfaceRecord}
-use Rattle.instruction.proofs.Laws.{recording}
+use Rattle.records.proofs.Recording.{recording, fixed-fits}
 use borrow.Author.Needs.{needs}
 use Rattle.instruction.proofs.call_iface_layout.Statement.{statement}
 use Rattle.instruction.proofs.call_iface_layout.Tie as tie
 
-number-word-requires : tie.Need-number-word-requires
-number-word-requires c κs = search needs
+number-u32-requires : tie.Need-number-u32-requires
+number-u32-requires c κs = search needs
 
 enum-known-q1 : tie.Need-enum-known-q1
 enum-known-q1 c = search needs
@@ -24,8 +25,8 @@ same-length c = search needs
 returns : tie.Need-returns
 returns c = search (needs, reading, recording)
 
-number-word-requires-2 : tie.Need-number-word-requires-2
-number-word-requires-2 c κs = search (needs, reading, recording)
+number-u32-requires-2 : tie.Need-number-u32-requires-2
+number-u32-requires-2 c κs = search (needs, reading, recording)
 
 enum-known-q2 : tie.Need-enum-known-q2
 enum-known-q2 c = search needs
@@ -43,31 +44,31 @@ returns-2 : tie.Need-returns-2
 returns-2 c = search (needs, reading, recording)
 
 cast-t15 : tie.Need-cast-t15
-cast-t15 c = record { fits = (c .before .before .before .before .before .before .before .before .before .before .before .before .number-word) .ensures .fits _ _ ((c .before .before .before .before .before .before .before .before .q1) .given .1) }
+cast-t15 c = record { fits = fixed-fits ((c .before .before .before .before .before .before .before .before .q1) .given .1) ((c .before .before .before .before .before .before .before .before .before .before .before .before .number-u32) .ensures) (λ i. omega (arith, (c .before .before .before .before .before .before .before .before .before .before .before .before .before .before .before .shared-slice-known) .given i)) }
 
 cast-t16 : tie.Need-cast-t16
-cast-t16 c = record { fits = (c .before .before .before .before .before .number-word2) .ensures .fits _ _ ((c .before .q2) .given .1) }
+cast-t16 c = record { fits = fixed-fits ((c .before .q2) .given .1) ((c .before .before .before .before .before .number-u322) .ensures) (λ i. omega (arith, (c .before .before .before .before .before .before .before .before .before .before .before .before .before .before .before .shared-slice-known) .given i)) }
 
 layouts-requires : tie.Need-layouts-requires
-layouts-requires c κs = got-ready ((c .before .before .q2) .given .1) ((c .before .before .before .before .before .before .number-word2) .ensures .reads)
+layouts-requires c κs = got-ready ((c .before .before .q2) .given .1) ((c .before .before .before .before .before .before .number-u322) .ensures)
 
 same-length-3 : tie.Need-same-length-3
 same-length-3 c = search needs
 
 returns-3 : tie.Need-returns-3
-returns-3 c = callIfaceRecord ((c .before .before .before .before .before .before .before .before .before .before .before .before .q1) .given .1) ((c .before .before .before .before .before .q2) .given .1) ((c .before .before .before .before .before .before .before .before .before .before .before .before .before .before .before .before .number-word) .ensures .reads) ((c .before .before .before .before .before .before .before .before .before .number-word2) .ensures .reads) ((c .before .before .layouts) .ensures)
+returns-3 c = callIfaceRecord ((c .before .before .before .before .before .before .before .before .before .before .before .before .q1) .given .1) ((c .before .before .before .before .before .q2) .given .1) ((c .before .before .before .before .before .before .before .before .before .before .before .before .before .before .before .before .number-u32) .ensures) ((c .before .before .before .before .before .before .before .before .before .number-u322) .ensures) ((c .before .before .layouts) .ensures)
 
 pub call-iface-layout-spec : {M : Type 1} → statement M
 call-iface-layout-spec =
     tie.close
     (tie.spec
-    number-word-requires
+    number-u32-requires
     enum-known-q1
     enum-told
     not-metadata-requires
     same-length
     returns
-    number-word-requires-2
+    number-u32-requires-2
     enum-known-q2
     enum-told-2
     not-metadata-requires-2

@@ -1,13 +1,14 @@
+use native.Mathlib.Omega.{arith}
 use Rattle.reader.proofs.Reading.{reading}
 use Rattle.reader.proofs.Laws.{got-ready}
 use Rattle.instruction.proofs.Shapes.{elemRecord}
-use Rattle.instruction.proofs.Laws.{recording}
+use Rattle.records.proofs.Recording.{recording, fixed-fits}
 use borrow.Author.Needs.{needs}
 use Rattle.instruction.proofs.elem_layout.Statement.{statement}
 use Rattle.instruction.proofs.elem_layout.Tie as tie
 
-number-word-requires : tie.Need-number-word-requires
-number-word-requires c κs = search needs
+number-u32-requires : tie.Need-number-u32-requires
+number-u32-requires c κs = search needs
 
 enum-known-q1 : tie.Need-enum-known-q1
 enum-known-q1 c = search needs
@@ -43,7 +44,7 @@ returns-2 : tie.Need-returns-2
 returns-2 c = search (needs, reading, recording)
 
 cast-t15 : tie.Need-cast-t15
-cast-t15 c = record { fits = (c .before .before .before .before .before .before .before .before .before .before .before .before .number-word) .ensures .fits _ _ ((c .before .before .before .before .before .before .before .before .q1) .given .1) }
+cast-t15 c = record { fits = fixed-fits ((c .before .before .before .before .before .before .before .before .q1) .given .1) ((c .before .before .before .before .before .before .before .before .before .before .before .before .number-u32) .ensures) (λ i. omega (arith, (c .before .before .before .before .before .before .before .before .before .before .before .before .before .before .before .shared-slice-known) .given i)) }
 
 layout-requires : tie.Need-layout-requires
 layout-requires c κs = got-ready ((c .before .before .q2) .given .1) ((c .before .before .before .before .before .before .number-bool) .ensures)
@@ -52,13 +53,13 @@ same-length-3 : tie.Need-same-length-3
 same-length-3 c = search needs
 
 returns-3 : tie.Need-returns-3
-returns-3 c = elemRecord ((c .before .before .before .before .before .before .before .before .before .before .before .before .q1) .given .1) ((c .before .before .before .before .before .q2) .given .1) ((c .before .before .before .before .before .before .before .before .before .before .before .before .before .before .before .before .number-word) .ensures .reads) ((c .before .before .before .before .before .before .before .before .before .number-bool) .ensures) ((c .before .before .layout) .ensures)
+returns-3 c = elemRecord ((c .before .before .before .before .before .before .before .before .before .before .before .before .q1) .given .1) ((c .before .before .before .before .before .q2) .given .1) ((c .before .before .before .before .before .before .before .before .before .before .before .before .before .before .before .before .number-u32) .ensures) ((c .before .before .before .before .before .before .before .before .before .number-bool) .ensures) ((c .before .before .layout) .ensures)
 
 pub elem-layout-spec : {M : Type 1} → statement M
 elem-layout-spec =
     tie.close
     (tie.spec
-    number-word-requires
+    number-u32-requires
     enum-known-q1
     enum-told
     not-metadata-requires

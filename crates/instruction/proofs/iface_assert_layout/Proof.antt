@@ -1,9 +1,9 @@
+use native.Mathlib.Omega.{arith}
 use Rattle.reader.proofs.Reading.{reading}
 use Rattle.reader.proofs.Laws.{got-ready}
 use Rattle.reader.proofs.Parts.{tag-most-bare}
-use native.Mathlib.Omega.{arith}
 use Rattle.instruction.proofs.Shapes.{assertRecord}
-use Rattle.instruction.proofs.Laws.{recording}
+use Rattle.records.proofs.Recording.{recording, fixed-fits}
 use borrow.Author.Needs.{needs}
 use Rattle.instruction.proofs.iface_assert_layout.Statement.{statement}
 use Rattle.instruction.proofs.iface_assert_layout.Tie as tie
@@ -26,8 +26,8 @@ same-length c = search needs
 returns : tie.Need-returns
 returns c = search (needs, reading, recording)
 
-number-word-requires : tie.Need-number-word-requires
-number-word-requires c κs = search (needs, reading, recording)
+number-u32-requires : tie.Need-number-u32-requires
+number-u32-requires c κs = search (needs, reading, recording)
 
 enum-known-q2 : tie.Need-enum-known-q2
 enum-known-q2 c = search needs
@@ -48,16 +48,16 @@ cast-t15 : tie.Need-cast-t15
 cast-t15 c = omega (arith, tag-most-bare ((c .before .before .before .before .before .before .before .before .q1) .given .1) ((c .before .before .before .before .before .before .before .before .before .before .before .before .number-assert-kind) .ensures))
 
 cast-t16 : tie.Need-cast-t16
-cast-t16 c = record { fits = (c .before .before .before .before .before .number-word) .ensures .fits _ _ ((c .before .q2) .given .1) }
+cast-t16 c = record { fits = fixed-fits ((c .before .q2) .given .1) ((c .before .before .before .before .before .number-u32) .ensures) (λ i. omega (arith, (c .before .before .before .before .before .before .before .before .before .before .before .before .before .before .before .shared-slice-known) .given i)) }
 
 layout-requires : tie.Need-layout-requires
-layout-requires c κs = got-ready ((c .before .before .q2) .given .1) ((c .before .before .before .before .before .before .number-word) .ensures .reads)
+layout-requires c κs = got-ready ((c .before .before .q2) .given .1) ((c .before .before .before .before .before .before .number-u32) .ensures)
 
 same-length-3 : tie.Need-same-length-3
 same-length-3 c = search needs
 
 returns-3 : tie.Need-returns-3
-returns-3 c = assertRecord ((c .before .before .before .before .before .before .before .before .before .before .before .before .q1) .given .1) ((c .before .before .before .before .before .q2) .given .1) ((c .before .before .before .before .before .before .before .before .before .before .before .before .before .before .before .before .number-assert-kind) .ensures) ((c .before .before .before .before .before .before .before .before .before .number-word) .ensures .reads) ((c .before .before .layout) .ensures)
+returns-3 c = assertRecord ((c .before .before .before .before .before .before .before .before .before .before .before .before .q1) .given .1) ((c .before .before .before .before .before .q2) .given .1) ((c .before .before .before .before .before .before .before .before .before .before .before .before .before .before .before .before .number-assert-kind) .ensures) ((c .before .before .before .before .before .before .before .before .before .number-u32) .ensures) ((c .before .before .layout) .ensures)
 
 pub iface-assert-layout-spec : {M : Type 1} → statement M
 iface-assert-layout-spec =
@@ -69,7 +69,7 @@ iface-assert-layout-spec =
     not-metadata-requires
     same-length
     returns
-    number-word-requires
+    number-u32-requires
     enum-known-q2
     enum-told-2
     not-metadata-requires-2

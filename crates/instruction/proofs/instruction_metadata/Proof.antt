@@ -1,7 +1,7 @@
 use Rattle.vob24.specs.Grammar.{metadata}
 use Rattle.reader.proofs.Reading.{reading}
 use Rattle.reader.proofs.Laws.{got-ready}
-use Rattle.instruction.proofs.Laws.{recordedEmpty, recording}
+use Rattle.records.proofs.Recording.{recordedEmpty, recording}
 use Rattle.instruction.proofs.Shapes.{metadataAt, last-tag}
 use borrow.Author.Needs.{needs}
 use Rattle.instruction.proofs.instruction_metadata.Statement.{statement}

@@ -1,7 +1,7 @@
 use Rattle.reader.proofs.Reading.{reading}
 use Rattle.reader.proofs.Laws.{got-ready}
 use Rattle.instruction.proofs.Shapes.{twoLayout}
-use Rattle.instruction.proofs.Laws.{recording}
+use Rattle.records.proofs.Recording.{recording}
 use borrow.Author.Needs.{needs}
 use Rattle.instruction.proofs.layouts.Statement.{statement}
 use Rattle.instruction.proofs.layouts.Tie as tie

@@ -1,13 +1,14 @@
+use native.Mathlib.Omega.{arith}
 use Rattle.instruction.specs.declared.Metadata.the-variants as kind
 use Rattle.instruction.specs.Records.{bareOf}
-use Rattle.instruction.proofs.Laws.{recordedLast, recording}
+use Rattle.records.proofs.Recording.{recordedLast, recording, fixed-fits}
 use Rattle.reader.proofs.Reading.{reading}
 use borrow.Author.Needs.{needs}
 use Rattle.instruction.proofs.loop_end.Statement.{statement}
 use Rattle.instruction.proofs.loop_end.Tie as tie
 
-number-word-requires : tie.Need-number-word-requires
-number-word-requires c κs = search needs
+number-u32-requires : tie.Need-number-u32-requires
+number-u32-requires c κs = search needs
 
 enum-known-q : tie.Need-enum-known-q
 enum-known-q c = search needs
@@ -25,7 +26,7 @@ returns : tie.Need-returns
 returns c = search (needs, reading, recording)
 
 cast-t10 : tie.Need-cast-t10
-cast-t10 c = record { fits = (c .before .before .before .before .before .number-word) .ensures .fits _ _ ((c .before .q) .given .1) }
+cast-t10 c = record { fits = fixed-fits ((c .before .q) .given .1) ((c .before .before .before .before .before .number-u32) .ensures) (λ i. omega (arith, (c .before .before .before .before .before .before .before .before .shared-slice-known) .given i)) }
 
 bare-requires : tie.Need-bare-requires
 bare-requires c κs = search needs
@@ -34,13 +35,13 @@ same-length-2 : tie.Need-same-length-2
 same-length-2 c = search needs
 
 returns-2 : tie.Need-returns-2
-returns-2 c = recordedLast ((c .before .before .q) .given .1) ((c .before .before .before .before .before .before .number-word) .ensures .reads) (λ n _. bareOf (kind.LoopEnd n)) ((c .bare) .ensures)
+returns-2 c = recordedLast ((c .before .before .q) .given .1) ((c .before .before .before .before .before .before .number-u32) .ensures) (λ n _. bareOf (kind.LoopEnd n)) ((c .bare) .ensures)
 
 pub loop-end-spec : {M : Type 1} → statement M
 loop-end-spec =
     tie.close
     (tie.spec
-    number-word-requires
+    number-u32-requires
     enum-known-q
     enum-told
     not-metadata-requires

@@ -2,7 +2,7 @@ use native.Mathlib.Omega.{arith}
 use Rattle.reader.proofs.Reading.{reading}
 use Rattle.reader.proofs.Laws.{got-ready}
 use Rattle.instruction.proofs.Shapes.{mapGetLayout}
-use Rattle.instruction.proofs.Laws.{recording}
+use Rattle.records.proofs.Recording.{recording}
 use borrow.Author.Needs.{needs}
 use Rattle.instruction.proofs.map_get.Statement.{statement}
 use Rattle.instruction.proofs.map_get.Tie as tie

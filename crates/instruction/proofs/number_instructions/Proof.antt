@@ -1,4 +1,4 @@
-use Rattle.instruction.proofs.Laws.{numberedDone, numberedRefused, numbering}
+use Rattle.records.proofs.Numbering.{numberedDone, numberedRefused, numbering}
 use Rattle.reader.proofs.Reading.{reading}
 use Rattle.reader.proofs.Laws.{Turns}
 use Rattle.instruction.specs.Records.{instructionFormat}

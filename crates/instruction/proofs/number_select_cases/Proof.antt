@@ -1,6 +1,6 @@
 use mathlib.Core.Path.{refl, sym}
 use Rattle.instruction.proofs.Answers.{select-got, select-not, answers}
-use Rattle.instruction.proofs.Laws.{numberedDone, itemRefused, itemTaken, numbering}
+use Rattle.records.proofs.Numbering.{numberedDone, itemRefused, itemTaken, numbering}
 use borrow.Author.Needs.{needs}
 use Rattle.reader.proofs.Reading.{reading}
 use Rattle.reader.proofs.Laws.{Turns}

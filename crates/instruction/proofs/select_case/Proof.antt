@@ -1,7 +1,7 @@
 use Rattle.vob24.specs.Grammar.{selectCase}
 use Rattle.instruction.proofs.Shapes.{selectAt, select-one}
 use Rattle.reader.proofs.Reading.{reading}
-use Rattle.instruction.proofs.Laws.{recording}
+use Rattle.records.proofs.Recording.{recording}
 use borrow.Author.Needs.{needs}
 use Rattle.instruction.proofs.select_case.Statement.{statement}
 use Rattle.instruction.proofs.select_case.Tie as tie

@@ -1,6 +1,6 @@
 use Rattle.instruction.proofs.Shapes.{oneLayout}
 use Rattle.reader.proofs.Reading.{reading}
-use Rattle.instruction.proofs.Laws.{recording}
+use Rattle.records.proofs.Recording.{recording}
 use borrow.Author.Needs.{needs}
 use Rattle.instruction.proofs.select_exec_layout.Statement.{statement}
 use Rattle.instruction.proofs.select_exec_layout.Tie as tie

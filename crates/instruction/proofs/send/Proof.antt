@@ -1,14 +1,15 @@
+use native.Mathlib.Omega.{arith}
 use Rattle.reader.proofs.Reading.{reading}
 use Rattle.reader.proofs.Laws.{got-ready}
 use mathlib.Core.Path.{refl}
 use Rattle.instruction.specs.declared.SelectCase.the-variants.{Send}
-use Rattle.instruction.proofs.Laws.{lastThree, recording}
+use Rattle.records.proofs.Recording.{lastThree, recording, fixed-fits}
 use borrow.Author.Needs.{needs}
 use Rattle.instruction.proofs.send.Statement.{statement}
 use Rattle.instruction.proofs.send.Tie as tie
 
-number-half-requires : tie.Need-number-half-requires
-number-half-requires c κs = search needs
+number-u16-requires : tie.Need-number-u16-requires
+number-u16-requires c κs = search needs
 
 enum-known-q1 : tie.Need-enum-known-q1
 enum-known-q1 c = search needs
@@ -25,8 +26,8 @@ same-length c = search needs
 returns : tie.Need-returns
 returns c = search (needs, reading, recording)
 
-number-half-requires-2 : tie.Need-number-half-requires-2
-number-half-requires-2 c κs = search (needs, reading, recording)
+number-u16-requires-2 : tie.Need-number-u16-requires-2
+number-u16-requires-2 c κs = search (needs, reading, recording)
 
 enum-known-q2 : tie.Need-enum-known-q2
 enum-known-q2 c = search needs
@@ -43,8 +44,8 @@ same-length-2 c = search needs
 returns-2 : tie.Need-returns-2
 returns-2 c = search (needs, reading, recording)
 
-number-half-requires-3 : tie.Need-number-half-requires-3
-number-half-requires-3 c κs = got-ready ((c .before .before .q2) .given .1) ((c .before .before .before .before .before .before .number-half2) .ensures .reads)
+number-u16-requires-3 : tie.Need-number-u16-requires-3
+number-u16-requires-3 c κs = got-ready ((c .before .before .q2) .given .1) ((c .before .before .before .before .before .before .number-u162) .ensures)
 
 enum-known-q3 : tie.Need-enum-known-q3
 enum-known-q3 c = search needs
@@ -62,37 +63,37 @@ returns-3 : tie.Need-returns-3
 returns-3 c = search (needs, reading, recording)
 
 cast-t19 : tie.Need-cast-t19
-cast-t19 c = record { fits = (c .before .before .before .before .before .before .before .before .before .before .before .before .before .before .before .before .before .before .before .number-half) .ensures .fits _ _ ((c .before .before .before .before .before .before .before .before .before .before .before .before .before .before .before .q1) .given .1) }
+cast-t19 c = record { fits = fixed-fits ((c .before .before .before .before .before .before .before .before .before .before .before .before .before .before .before .q1) .given .1) ((c .before .before .before .before .before .before .before .before .before .before .before .before .before .before .before .before .before .before .before .number-u16) .ensures) (λ i. omega (arith, (c .before .before .before .before .before .before .before .before .before .before .before .before .before .before .before .before .before .before .before .before .before .before .shared-slice-known) .given i)) }
 
 cast-t20 : tie.Need-cast-t20
-cast-t20 c = record { fits = (c .before .before .before .before .before .before .before .before .before .before .before .before .number-half2) .ensures .fits _ _ ((c .before .before .before .before .before .before .before .before .q2) .given .1) }
+cast-t20 c = record { fits = fixed-fits ((c .before .before .before .before .before .before .before .before .q2) .given .1) ((c .before .before .before .before .before .before .before .before .before .before .before .before .number-u162) .ensures) (λ i. omega (arith, (c .before .before .before .before .before .before .before .before .before .before .before .before .before .before .before .before .before .before .before .before .before .before .shared-slice-known) .given i)) }
 
 cast-t21 : tie.Need-cast-t21
-cast-t21 c = record { fits = (c .before .before .before .before .before .number-half3) .ensures .fits _ _ ((c .before .q3) .given .1) }
+cast-t21 c = record { fits = fixed-fits ((c .before .q3) .given .1) ((c .before .before .before .before .before .number-u163) .ensures) (λ i. omega (arith, (c .before .before .before .before .before .before .before .before .before .before .before .before .before .before .before .before .before .before .before .before .before .before .shared-slice-known) .given i)) }
 
 same-length-4 : tie.Need-same-length-4
 same-length-4 c = search needs
 
 returns-4 : tie.Need-returns-4
-returns-4 c = lastThree ((c .before .before .before .before .before .before .before .before .before .before .before .before .before .before .before .q1) .given .1) ((c .before .before .before .before .before .before .before .before .before .before .before .before .before .before .before .before .before .before .before .number-half) .ensures .reads) ((c .before .before .before .before .before .before .before .before .q2) .given .1) ((c .before .before .before .before .before .before .before .before .before .before .before .before .number-half2) .ensures .reads) ((c .before .q3) .given .1) ((c .before .before .before .before .before .number-half3) .ensures .reads) (λ a b k _. Send a b k) refl
+returns-4 c = lastThree ((c .before .before .before .before .before .before .before .before .before .before .before .before .before .before .before .q1) .given .1) ((c .before .before .before .before .before .before .before .before .before .before .before .before .before .before .before .before .before .before .before .number-u16) .ensures) ((c .before .before .before .before .before .before .before .before .q2) .given .1) ((c .before .before .before .before .before .before .before .before .before .before .before .before .number-u162) .ensures) ((c .before .q3) .given .1) ((c .before .before .before .before .before .number-u163) .ensures) (λ a b k _. Send a b k) refl
 
 pub send-spec : {M : Type 1} → statement M
 send-spec =
     tie.close
     (tie.spec
-    number-half-requires
+    number-u16-requires
     enum-known-q1
     enum-told
     not-select-requires
     same-length
     returns
-    number-half-requires-2
+    number-u16-requires-2
     enum-known-q2
     enum-told-2
     not-select-requires-2
     same-length-2
     returns-2
-    number-half-requires-3
+    number-u16-requires-3
     enum-known-q3
     enum-told-3
     not-select-requires-3

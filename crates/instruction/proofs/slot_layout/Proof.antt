@@ -1,12 +1,13 @@
+use native.Mathlib.Omega.{arith}
 use Rattle.instruction.proofs.Shapes.{slotRecord}
 use Rattle.reader.proofs.Reading.{reading}
-use Rattle.instruction.proofs.Laws.{recording}
+use Rattle.records.proofs.Recording.{recording, fixed-fits}
 use borrow.Author.Needs.{needs}
 use Rattle.instruction.proofs.slot_layout.Statement.{statement}
 use Rattle.instruction.proofs.slot_layout.Tie as tie
 
-number-half-requires : tie.Need-number-half-requires
-number-half-requires c κs = search needs
+number-u16-requires : tie.Need-number-u16-requires
+number-u16-requires c κs = search needs
 
 enum-known-q : tie.Need-enum-known-q
 enum-known-q c = search needs
@@ -24,7 +25,7 @@ returns : tie.Need-returns
 returns c = search (needs, reading, recording)
 
 cast-t10 : tie.Need-cast-t10
-cast-t10 c = record { fits = (c .before .before .before .before .before .number-half) .ensures .fits _ _ ((c .before .q) .given .1) }
+cast-t10 c = record { fits = fixed-fits ((c .before .q) .given .1) ((c .before .before .before .before .before .number-u16) .ensures) (λ i. omega (arith, (c .before .before .before .before .before .before .before .before .shared-slice-known) .given i)) }
 
 layout-requires : tie.Need-layout-requires
 layout-requires c κs = search (needs, reading, recording)
@@ -33,13 +34,13 @@ same-length-2 : tie.Need-same-length-2
 same-length-2 c = search needs
 
 returns-2 : tie.Need-returns-2
-returns-2 c = slotRecord ((c .before .before .before .before .before .q) .given .1) ((c .before .before .before .before .before .before .before .before .before .number-half) .ensures .reads) ((c .before .before .layout) .ensures)
+returns-2 c = slotRecord ((c .before .before .before .before .before .q) .given .1) ((c .before .before .before .before .before .before .before .before .before .number-u16) .ensures) ((c .before .before .layout) .ensures)
 
 pub slot-layout-spec : {M : Type 1} → statement M
 slot-layout-spec =
     tie.close
     (tie.spec
-    number-half-requires
+    number-u16-requires
     enum-known-q
     enum-told
     not-metadata-requires

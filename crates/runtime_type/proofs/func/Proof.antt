@@ -4,7 +4,8 @@ use lib.Dec.{eqb}
 use borrow.Author.Needs.{needs}
 use Rattle.reader.proofs.Reading.{reading}
 use Rattle.reader.proofs.Laws.{got-ready}
-use Rattle.runtime_type.proofs.Laws.{recording, recordedThree, listedTwo, fixed-place, rttids-place}
+use Rattle.records.proofs.Recording.{recording, lastThree, fixed-place}
+use Rattle.runtime_type.proofs.Laws.{listedTwo, rttids-place}
 use Rattle.runtime_type.specs.declared.RuntimeType.the-variants as kind
 use Rattle.runtime_type.specs.Records.{twoOf}
 use Rattle.runtime_type.proofs.func.Statement.{statement}
@@ -74,7 +75,7 @@ same-length-4 : tie.Need-same-length-4
 same-length-4 c = omega (arith, (c .before .before .before .before .before .before .before .before .before .before .before .before .before .before .before .before .before .before .before .before .before .number-bool) .kept .1 .1 .0, (c .before .before .before .before .before .before .before .before .before .before .before .before .before .before .number-rttids) .kept .1 .1 .0, (c .before .before .before .before .before .before .before .number-rttids2) .kept .1 .1 .0)
 
 returns-4 : tie.Need-returns-4
-returns-4 c = recordedThree ((c .before .before .before .before .before .before .before .before .before .before .before .before .before .before .before .before .before .q1) .given .1) ((c .before .before .before .before .before .before .before .before .before .before .before .before .before .before .before .before .before .before .before .before .before .number-bool) .ensures) ((c .before .before .before .before .before .before .before .before .before .before .q2) .given .1) ((c .before .before .before .before .before .before .before .before .before .before .before .before .before .before .number-rttids) .ensures) ((c .before .before .before .q3) .given .1) ((c .before .before .before .before .before .before .before .number-rttids2) .ensures) (λ a m n p. twoOf (kind.Func (eqb a 1)) (p + 1) m n) (listedTwo ((c .before .items-at) .ensures) ((c .items-at2) .ensures) (fixed-place ((c .before .before .before .before .before .before .before .before .before .before .before .before .before .before .before .before .before .q1) .given .1) ((c .before .before .before .before .before .before .before .before .before .before .before .before .before .before .before .before .before .before .before .before .before .number-bool) .ensures)) (rttids-place ((c .before .before .before .before .before .before .before .before .before .before .q2) .given .1) ((c .before .before .before .before .before .before .before .before .before .before .before .before .before .before .number-rttids) .ensures)))
+returns-4 c = lastThree ((c .before .before .before .before .before .before .before .before .before .before .before .before .before .before .before .before .before .q1) .given .1) ((c .before .before .before .before .before .before .before .before .before .before .before .before .before .before .before .before .before .before .before .before .before .number-bool) .ensures) ((c .before .before .before .before .before .before .before .before .before .before .q2) .given .1) ((c .before .before .before .before .before .before .before .before .before .before .before .before .before .before .number-rttids) .ensures) ((c .before .before .before .q3) .given .1) ((c .before .before .before .before .before .before .before .number-rttids2) .ensures) (λ a m n p. twoOf (kind.Func (eqb a 1)) (p + 1) m n) (listedTwo ((c .before .items-at) .ensures) ((c .items-at2) .ensures) (fixed-place ((c .before .before .before .before .before .before .before .before .before .before .before .before .before .before .before .before .before .q1) .given .1) ((c .before .before .before .before .before .before .before .before .before .before .before .before .before .before .before .before .before .before .before .before .before .number-bool) .ensures)) (rttids-place ((c .before .before .before .before .before .before .before .before .before .before .q2) .given .1) ((c .before .before .before .before .before .before .before .before .before .before .before .before .before .before .number-rttids) .ensures)))
 
 pub func-spec : {M : Type 1} → statement M
 func-spec =

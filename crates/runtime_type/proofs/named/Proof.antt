@@ -1,7 +1,7 @@
 use native.Mathlib.Omega.{arith}
 use borrow.Author.Needs.{needs}
 use Rattle.reader.proofs.Reading.{reading}
-use Rattle.runtime_type.proofs.Laws.{recording, fixed-fits, recordedTwo}
+use Rattle.records.proofs.Recording.{recording, fixed-fits, lastTwo}
 use Rattle.runtime_type.specs.declared.RuntimeType.the-variants as kind
 use Rattle.runtime_type.specs.Records.{bareOf, optionalOf}
 use Rattle.runtime_type.proofs.named.Statement.{statement}
@@ -56,7 +56,7 @@ same-length-3 : tie.Need-same-length-3
 same-length-3 c = search needs
 
 returns-3 : tie.Need-returns-3
-returns-3 c = recordedTwo ((c .before .before .before .before .before .before .before .before .before .before .q1) .given .1) ((c .before .before .before .before .before .before .before .before .before .before .before .before .before .before .number-u32) .ensures) ((c .before .before .before .q2) .given .1) ((c .before .before .before .before .before .before .before .number-optional-id) .ensures) (λ m n _. bareOf (kind.Named m (optionalOf n))) (rw (← (c .before .optional-id) .ensures) ((c .bare) .ensures))
+returns-3 c = lastTwo ((c .before .before .before .before .before .before .before .before .before .before .q1) .given .1) ((c .before .before .before .before .before .before .before .before .before .before .before .before .before .before .number-u32) .ensures) ((c .before .before .before .q2) .given .1) ((c .before .before .before .before .before .before .before .number-optional-id) .ensures) (λ m n _. bareOf (kind.Named m (optionalOf n))) (rw (← (c .before .optional-id) .ensures) ((c .bare) .ensures))
 
 pub named-spec : {M : Type 1} → statement M
 named-spec =

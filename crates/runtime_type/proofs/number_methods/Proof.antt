@@ -3,7 +3,7 @@ use Rattle.reader.proofs.Reading.{reading}
 use Rattle.reader.proofs.Laws.{Turns}
 use Rattle.vob24.specs.Grammar.{runtimeMethod}
 use Rattle.vob24.specs.Settings.{settings}
-use Rattle.runtime_type.proofs.Laws.{numbering, numberedDone, numberedRefused}
+use Rattle.records.proofs.Numbering.{numbering, numberedDone, numberedRefused}
 use Rattle.runtime_type.proofs.number_methods.Statement.{statement}
 use Rattle.runtime_type.proofs.number_methods.Tie as tie
 

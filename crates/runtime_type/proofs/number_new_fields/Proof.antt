@@ -1,6 +1,7 @@
 use borrow.Author.Needs.{needs}
 use Rattle.reader.proofs.Reading.{reading}
-use Rattle.runtime_type.proofs.Laws.{numbering, listAsked, listBehind}
+use Rattle.records.proofs.Numbering.{numbering}
+use Rattle.runtime_type.proofs.Laws.{listAsked, listBehind}
 use Rattle.runtime_type.proofs.number_new_fields.Statement.{statement}
 use Rattle.runtime_type.proofs.number_new_fields.Tie as tie
 

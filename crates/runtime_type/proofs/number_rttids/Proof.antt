@@ -2,7 +2,7 @@ use borrow.Author.Needs.{needs}
 use Rattle.reader.proofs.Reading.{reading}
 use Rattle.reader.proofs.Laws.{Turns}
 use Rattle.vob24.specs.Leaves.{valueRttid}
-use Rattle.runtime_type.proofs.Laws.{numbering, numberedDone, numberedRefused}
+use Rattle.records.proofs.Numbering.{numbering, numberedDone, numberedRefused}
 use Rattle.runtime_type.proofs.number_rttids.Statement.{statement}
 use Rattle.runtime_type.proofs.number_rttids.Tie as tie
 

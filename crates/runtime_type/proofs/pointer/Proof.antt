@@ -1,7 +1,7 @@
 use native.Mathlib.Omega.{arith}
 use borrow.Author.Needs.{needs}
 use Rattle.reader.proofs.Reading.{reading}
-use Rattle.runtime_type.proofs.Laws.{recording, fixed-fits, recordedOne}
+use Rattle.records.proofs.Recording.{recording, fixed-fits, recordedLast}
 use Rattle.runtime_type.specs.declared.RuntimeType.the-variants as kind
 use Rattle.runtime_type.specs.Records.{bareOf}
 use Rattle.runtime_type.proofs.pointer.Statement.{statement}
@@ -35,7 +35,7 @@ same-length-2 : tie.Need-same-length-2
 same-length-2 c = search needs
 
 returns-2 : tie.Need-returns-2
-returns-2 c = recordedOne ((c .before .before .q) .given .1) ((c .before .before .before .before .before .before .number-value-rttid) .ensures) (λ n _. bareOf (kind.Pointer n)) ((c .bare) .ensures)
+returns-2 c = recordedLast ((c .before .before .q) .given .1) ((c .before .before .before .before .before .before .number-value-rttid) .ensures) (λ n _. bareOf (kind.Pointer n)) ((c .bare) .ensures)
 
 pub pointer-spec : {M : Type 1} → statement M
 pointer-spec =

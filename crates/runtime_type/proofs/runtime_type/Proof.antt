@@ -4,7 +4,8 @@ use Rattle.reader.proofs.Laws.{got-ready}
 use Rattle.reader.proofs.Parts.{tag-most}
 use Rattle.vob24.specs.Grammar.{runtimeType, runtimeVariants}
 use Rattle.vob24.specs.Settings.{settings}
-use Rattle.runtime_type.proofs.Laws.{recording, recordedEmpty, variantAt, last-tag}
+use Rattle.records.proofs.Recording.{recording, recordedEmpty, variantAt}
+use Rattle.runtime_type.proofs.Laws.{last-tag}
 use Rattle.runtime_type.specs.declared.RuntimeType.the-variants as kind
 use Rattle.runtime_type.specs.Records.{bareOf, typeRecords, runtimeTypeOf}
 use Rattle.runtime_type.proofs.runtime_type.Statement.{statement}

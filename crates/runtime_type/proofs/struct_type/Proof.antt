@@ -3,7 +3,8 @@ use native.Mathlib.Omega.{arith}
 use borrow.Author.Needs.{needs}
 use Rattle.reader.proofs.Reading.{reading}
 use Rattle.vob24.specs.Grammar.{runtimeStruct}
-use Rattle.runtime_type.proofs.Laws.{recording, fixed-fits, fixed-place, listed, recordedTwo}
+use Rattle.records.proofs.Recording.{recording, fixed-fits, fixed-place, lastTwo}
+use Rattle.runtime_type.proofs.Laws.{listed}
 use Rattle.runtime_type.specs.declared.RuntimeType.the-variants as kind
 use Rattle.runtime_type.specs.Records.{listedAt}
 use Rattle.runtime_type.proofs.struct_type.Statement.{statement}
@@ -58,7 +59,7 @@ same-length-3 c = search (needs, reading, recording)
 
 returns-3 : tie.Need-returns-3
 unfolding runtimeStruct
-returns-3 c = recordedTwo ((c .before .before .before .before .before .before .before .before .before .q1) .given .1) ((c .before .before .before .before .before .before .before .before .before .before .before .before .before .number-u32) .ensures) ((c .before .before .q2) .given .1) ((c .before .before .before .before .before .before .number-new-fields) .ensures) (λ m n p. listedAt (kind.Struct m) (p + 4) n) (listed ((c .items-at) .ensures) (fixed-place ((c .before .before .before .before .before .before .before .before .before .q1) .given .1) ((c .before .before .before .before .before .before .before .before .before .before .before .before .before .number-u32) .ensures)))
+returns-3 c = lastTwo ((c .before .before .before .before .before .before .before .before .before .q1) .given .1) ((c .before .before .before .before .before .before .before .before .before .before .before .before .before .number-u32) .ensures) ((c .before .before .q2) .given .1) ((c .before .before .before .before .before .before .number-new-fields) .ensures) (λ m n p. listedAt (kind.Struct m) (p + 4) n) (listed ((c .items-at) .ensures) (fixed-place ((c .before .before .before .before .before .before .before .before .before .q1) .given .1) ((c .before .before .before .before .before .before .before .before .before .before .before .before .before .number-u32) .ensures)))
 
 pub struct-type-spec : {M : Type 1} → statement M
 struct-type-spec =

@@ -1,7 +1,8 @@
 use mathlib.Core.Path.{refl}
 use borrow.Author.Needs.{needs}
 use Rattle.reader.proofs.Reading.{reading}
-use Rattle.runtime_type.proofs.Laws.{recording, recordedOne, listed}
+use Rattle.records.proofs.Recording.{recording, recordedLast}
+use Rattle.runtime_type.proofs.Laws.{listed}
 use Rattle.runtime_type.specs.declared.RuntimeType.the-variants as kind
 use Rattle.runtime_type.specs.Records.{listedAt}
 use Rattle.runtime_type.proofs.tuple.Statement.{statement}
@@ -32,7 +33,7 @@ same-length-2 : tie.Need-same-length-2
 same-length-2 c = search (needs, reading, recording)
 
 returns-2 : tie.Need-returns-2
-returns-2 c = recordedOne ((c .before .before .q) .given .1) ((c .before .before .before .before .before .before .number-rttids) .ensures) (λ n p. listedAt kind.Tuple p n) (listed ((c .items-at) .ensures) refl)
+returns-2 c = recordedLast ((c .before .before .q) .given .1) ((c .before .before .before .before .before .before .number-rttids) .ensures) (λ n p. listedAt kind.Tuple p n) (listed ((c .items-at) .ensures) refl)
 
 pub tuple-spec : {M : Type 1} → statement M
 tuple-spec =

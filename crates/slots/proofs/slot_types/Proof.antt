@@ -1,100 +1,37 @@
-use borrow.Author.Needs.{needs}
 use Rattle.reader.proofs.Reading.{reading}
-use Rattle.reader.proofs.Laws.{Turns}
-use Rattle.reader.proofs.Parts.{list-done, list-refused}
-use Rattle.vob24.specs.Leaves.{slotType}
+use borrow.Author.Needs.{needs}
 use Rattle.slots.proofs.slot_types.Statement.{statement}
 use Rattle.slots.proofs.slot_types.Tie as tie
 
-abbrev Inv-loop : tie.InvT-loop
-Inv-loop s tape₀ n k₀ here₀ tape k here = Turns slotType s tape₀ here₀ k₀ tape here k
+enum-known-r : tie.Need-enum-known-r
+enum-known-r c = search needs
 
-abbrev μ-loop : tie.MeasureT-loop
-μ-loop s tape₀ n k₀ here₀ tape k here = k
+enum-told : tie.Need-enum-told
+enum-told c = search needs
 
-enum-known-r : tie.Need-enum-known-r Inv-loop μ-loop
-enum-known-r c = search (needs, reading)
-
-enum-told : tie.Need-enum-told Inv-loop μ-loop
-enum-told c = search (needs, reading)
-
-returns : tie.Need-returns Inv-loop μ-loop
+returns : tie.Need-returns
 returns c = search (needs, reading)
 
-number-count-requires : tie.Need-number-count-requires Inv-loop μ-loop
-number-count-requires c κs = search (needs, reading)
+number-slot-types-requires : tie.Need-number-slot-types-requires
+number-slot-types-requires c κs = search (needs, reading)
 
-enum-known-q : tie.Need-enum-known-q Inv-loop μ-loop
-enum-known-q c = search (needs, reading)
+refused-requires : tie.Need-refused-requires
+refused-requires c κs = search needs
 
-enum-told-2 : tie.Need-enum-told-2 Inv-loop μ-loop
-enum-told-2 c = search (needs, reading)
+same-length : tie.Need-same-length
+same-length c = search needs
 
-refused-requires : tie.Need-refused-requires Inv-loop μ-loop
-refused-requires c κs = search (needs, reading)
-
-same-length : tie.Need-same-length Inv-loop μ-loop
-same-length c = search (needs, reading)
-
-returns-2 : tie.Need-returns-2 Inv-loop μ-loop
+returns-2 : tie.Need-returns-2
 returns-2 c = search (needs, reading)
-
-loop-holds : tie.Need-loop-holds Inv-loop μ-loop
-loop-holds c = search (needs, reading)
-
-field-slot-type-requires : tie.Need-field-slot-type-requires Inv-loop μ-loop
-field-slot-type-requires c κs = search (needs, reading)
-
-enum-told-3 : tie.Need-enum-told-3 Inv-loop μ-loop
-enum-told-3 c = search (needs, reading)
-
-enum-told-4 : tie.Need-enum-told-4 Inv-loop μ-loop
-enum-told-4 c = search (needs, reading)
-
-same-length-2 : tie.Need-same-length-2 Inv-loop μ-loop
-same-length-2 c = search (needs, reading)
-
-returns-3 : tie.Need-returns-3 Inv-loop μ-loop
-returns-3 c = list-refused ((c .before .before .before .before .before .before .before .before .before .before .before .before .before .before .before .before .r) .given .1) ((c .before .before .before .before .before .before .before .before .before .q) .given .1) ((c .before .before .before .before .before .before .before .before .before .before .before .before .before .number-count) .ensures) ((c .before .before .before .before .before .before .loop-test) .taken) ((c .before .before .before .before .before .before .before .loop) .inv) ((c .before .before .before .before .field-slot-type) .ensures) ((c .enum-told4) .given .1)
-
-sub-k : tie.Need-sub-k Inv-loop μ-loop
-sub-k c = search (needs, reading)
-
-loop-less : tie.Need-loop-less Inv-loop μ-loop
-loop-less c = search (needs, reading)
-
-loop-again : tie.Need-loop-again Inv-loop μ-loop
-loop-again c = search (needs, reading)
-
-same-length-3 : tie.Need-same-length-3 Inv-loop μ-loop
-same-length-3 c = search (needs, reading)
-
-returns-4 : tie.Need-returns-4 Inv-loop μ-loop
-returns-4 c = list-done ((c .before .before .before .before .before .before .before .before .before .before .r) .given .1) ((c .before .before .before .q) .given .1) ((c .before .before .before .before .before .before .before .number-count) .ensures) ((c .loop-test) .left) ((c .before .loop) .inv)
 
 pub slot-types-spec : {M : Type 1} → statement M
 slot-types-spec =
     tie.close
     (tie.spec
-    Inv-loop
-    μ-loop
     enum-known-r
     enum-told
     returns
-    number-count-requires
-    enum-known-q
-    enum-told-2
+    number-slot-types-requires
     refused-requires
     same-length
-    returns-2
-    loop-holds
-    field-slot-type-requires
-    enum-told-3
-    enum-told-4
-    same-length-2
-    returns-3
-    sub-k
-    loop-less
-    loop-again
-    same-length-3
-    returns-4)
+    returns-2)

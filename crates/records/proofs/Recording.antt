@@ -1,48 +1,35 @@
--- The laws of readers that answer a record, and of lists that hand out their count.
-use Prim.Native.Nat.{ℕ, suc, zero, _+_, _-_, _^_, _≤_, _<_}
-use mathlib.Core.Path.{_≡_, refl, ap, sym, _∙_}
+-- The laws of readers that answer a record.
+use Prim.Native.Nat.{ℕ, suc, zero, _+_, _*_, _^_, _<_}
+use mathlib.Core.Path.{_≡_, ap, sym, _∙_}
 use mathlib.Core.List.{List}
 use native.Mathlib.Omega.{arith}
-use lib.ListN.{length, getD}
+use native.Mathlib.Nat.{suc-mul}
+use lib.ListN.{getD}
 use Rattle.format.specs.Trace.{Out, ended, out, Ends}
 use Rattle.format.specs.Format.{Value, number, first, second, counted, Rule, byte, Width, fixed, count, Format, empty, leaf, seq, _▸_, chain, times}
-use Rattle.format.specs.Reading.{size, trace}
-use Rattle.format.specs.Ending.{leaf-ends, seq-ends}
-use Rattle.vob24.specs.Refusals.{invalidSlotType, vector}
-use Rattle.vob24.specs.Settings.{SlotType, settings, sizeOf}
-use Rattle.vob24.specs.Leaves.{free, atMost, slotType, choose}
-use Rattle.vob24.specs.Grammar.{slotTypes}
-use Rattle.reader.specs.Contract.{stepOf, numberOf, Ready, ReadyAt, Refuses, Reads, takes, refuses, Reader, ReadsOf, got, lost, NumberOf}
+use Rattle.format.specs.Reading.{little, part, size, trace}
+use Rattle.format.specs.Ending.{part-length, leaf-ends, seq-ends}
+use Rattle.format.specs.Layout.{Bytes}
+use Rattle.format.specs.Laying.{digits-little}
+use Rattle.vob24.specs.Refusals.{vector}
+use Rattle.vob24.specs.Leaves.{listOf, choose}
+use Rattle.reader.specs.Contract.{stepOf, ReadyAt, Takes, takes, refuses, Reader, ReadsOf, lost, NumberOf}
 use Rattle.reader.specs.declared.Cursor.{Cursor}
 use Rattle.reader.specs.declared.Refusal.{Refusal}
 use Rattle.reader.specs.declared.Step.{Step}
 use Rattle.reader.specs.declared.Step.the-variants.{Taken, Refused}
 use Rattle.reader.specs.declared.Number.{Number}
 use Rattle.reader.specs.declared.Number.the-variants.{Got, Not}
-use Rattle.fields.specs.Fields.{listCount}
-use Rattle.reader.proofs.Laws.{takes-ends, thenReads, then-takes, then-refuses, seq-refuses, got-of, numberNot, numberThen, emptyThen, Turns, turns-done, turns-refused, turns-more}
-use Rattle.reader.specs.Leaves.{Fetches}
-use Rattle.reader.proofs.Leaves.{fetched, below}
+use Rattle.reader.proofs.Laws.{takes-ends, thenReads, got-of, numberNot, numberThen, emptyThen}
+use Rattle.reader.proofs.Leaves.{apart}
+use Rattle.reader.proofs.Gather.{read-take, bytes-read}
 use Rattle.records.specs.Recorded.{Recorded}
-use Rattle.instruction.specs.Contract.{Fitting}
-
-apart : {X : Type 0} {c : Cursor} {x : Refusal} → Refused x ≡ Taken c → X
-apart e = let z : _≡_ {A = ℕ} 0 1 = cc in absurd (omega arith)
 
 -- what ends a trace ends it once
 same-end : {o : Out Value} {v w : Value} {p q : ℕ} → o ≡ ended v p → o ≡ ended w q → (v ≡ w) × (p ≡ q)
 same-end h k = (cc, cc)
 
--- a counted list
-abbrev listing : Rule → ℕ → ℕ → ℕ → Format → Format
-listing ρ m k z f = seq (leaf (count ρ m k z)) (λ n. times f (number n))
-
--- a refusal has no number
-step-number : (p : Number) (n : ℕ) {x : Refusal} → stepOf p ≡ Refused x → p ≡ numberOf n (Refused x)
-step-number (Got m d) n e = apart (sym e)
-step-number (Not y) n e = cc
-
--- ---- records
+-- ---- what is refused
 
 -- a reading that is refused
 pub record Lost (f : Format) (s : List ℕ) (c : Cursor) (t : List ℕ) (r : Step) (t′ : List ℕ) : Type 0 where
@@ -66,6 +53,8 @@ module _ {f : Format} {of : Value → ℕ} {s : List ℕ} {c : Cursor} {q : Numb
   pub lostThen : {g : Value → Format} {n : ℕ} {d : Cursor} {r : Step} {t₂ : List ℕ} → q ≡ Got n d → NumberOf f of s c t q t₁ → ((v : Value) → Lost (g v) s d t₁ r t₂) → Lost (seq f g) s c t r t₂
   lostThen e h k = let m = got-of e h in let l = k (m .value) in record { reader = record { reads = thenReads (m .takes) (l .reader .reads); ready = l .reader .ready }; why = l .why; is = l .is }
 
+-- ---- what is taken
+
 module _ {R : Type 0} {s : List ℕ} {c : Cursor} {t : List ℕ} where
   -- of what is refused nothing is said
   pub recordedNot : {f : Format} {rec : ℕ → Value → R} {x : R} {r : Step} {t₁ : List ℕ} → Lost f s c t r t₁ → Recorded f rec s c t r x t₁
@@ -74,6 +63,10 @@ module _ {R : Type 0} {s : List ℕ} {c : Cursor} {t : List ℕ} where
   -- nothing is read
   pub recordedEmpty : {x y : R} → ReadyAt s c → x ≡ y → Recorded empty (λ _ _. y) s c t (Taken c) x t
   recordedEmpty h i = record { reader = emptyThen h; is = λ d v j k. i }
+
+  -- a value
+  pub recordedValue : {f : Format} {rec : ℕ → Value → R} {v : Value} {d : Cursor} {x : R} {t₁ : List ℕ} → ReadyAt s d → Takes f s c t v d t₁ → x ≡ rec (c .place) v → Recorded f rec s c t (Taken d) x t₁
+  recordedValue {rec = rec} r h i = record { reader = record { reads = takes h; ready = r }; is = λ b w j k. i ∙ ap (rec (c .place)) (sym (same-end k (takes-ends h) .0)) }
 
   -- the place is p
   pub recordedPlace : {f : Format} {rec : ℕ → Value → R} {x : R} {r : Step} {t₁ : List ℕ} {p : ℕ} → c .place ≡ p → Recorded f rec s c t r x t₁ → Recorded f (λ _ v. rec p v) s c t r x t₁
@@ -94,12 +87,7 @@ module _ {R : Type 0} {s : List ℕ} {c : Cursor} {t : List ℕ} where
 
     -- a number, and nothing after it
     pub recordedLast : (rec : ℕ → ℕ → R) {x : R} → x ≡ rec n (c .place) → Recorded f (λ p v. rec (of v) p) s c t (Taken d) x t₁
-    recordedLast rec i =
-        let m = got-of e h in
-        record {
-          reader = record { reads = takes (m .takes); ready = m .ready };
-          is = λ b v j k. i ∙ ap (λ (o : ℕ). rec o (c .place)) (m .is ∙ ap of (sym (same-end k (takes-ends (m .takes)) .0)));
-        }
+    recordedLast rec i = let m = got-of e h in recordedValue (m .ready) (m .takes) (i ∙ ap (λ (o : ℕ). rec o (c .place)) (m .is))
 
 -- two numbers, and what follows by them or nothing; three; four
 module _ {R : Type 0} {s : List ℕ} {c c₁ c₂ : Cursor} {t t₁ t₂ : List ℕ} {f₁ f₂ : Format} {of₁ of₂ : Value → ℕ} {q₁ q₂ : Number} {n₁ n₂ : ℕ}
@@ -118,30 +106,44 @@ module _ {R : Type 0} {s : List ℕ} {c c₁ c₂ : Cursor} {t t₁ t₂ : List 
       pub lastFour : (rec : ℕ → ℕ → ℕ → ℕ → R) {x : R} → x ≡ rec n₁ n₂ n₃ n₄ → Recorded (f₁ ▸ f₂ ▸ f₃ ▸ f₄) (λ _ v. rec (of₁ (first v)) (of₂ (first (second v))) (of₃ (first (second (second v)))) (of₄ (second (second (second v))))) s c t (Taken c₄) x t₄
       lastFour rec i = recordedTwo (f₃ ▸ f₄) (λ a b _ v. rec a b (of₃ (first v)) (of₄ (second v))) (recordedThen e₃ h₃ (λ _. f₄) (λ a _ v. rec n₁ n₂ a (of₄ v)) (recordedLast e₄ h₄ (λ a _. rec n₁ n₂ n₃ a) i))
 
--- ---- the place after a part
+-- ---- numbers of a fixed width
 
-pub fixed-place : {w : Width} {ρ : Rule} {of : Value → ℕ} {s : List ℕ} {c d : Cursor} {q : Number} {n : ℕ} {t t₁ : List ℕ} → q ≡ Got n d → NumberOf (leaf (fixed w ρ)) of s c t q t₁ → d .place ≡ c .place + size w
-unfolding trace
-fixed-place {w} {ρ} {of} {s} {c} e h = leaf-ends (fixed w ρ) s (c .place) (takes-ends (got-of e h .takes)) .3
+module _ {w : Width} {ρ : Rule} {s : List ℕ} {c d : Cursor} {q : Number} {n : ℕ} {t t₁ : List ℕ} (e : q ≡ Got n d) where
+  -- the place after it
+  pub fixed-place : {of : Value → ℕ} → NumberOf (leaf (fixed w ρ)) of s c t q t₁ → d .place ≡ c .place + size w
+  unfolding trace
+  fixed-place h = leaf-ends (fixed w ρ) s (c .place) (takes-ends (got-of e h .takes)) .3
 
-bytes-end : (ρ : Rule) (n : ℕ) (s : List ℕ) (p : ℕ) {v : Value} {q : ℕ} → Ends (trace (times (leaf (fixed byte ρ)) n) s p) v q → q ≡ p + n
+  -- it fits its type, as the pack's elements are bytes
+  pub fixed-fits : NumberOf (leaf (fixed w ρ)) number s c t q t₁ → ((i : ℕ) → getD s i 0 < 256) → n < 256 ^ size w
+  unfolding trace
+  fixed-fits h b =
+      let g = got-of e h in
+      let p = leaf-ends (fixed w ρ) s (c .place) (takes-ends (g .takes)) in
+      let i : n ≡ little (part s (c .place) (size w)) = g .is ∙ ap number (p .2) in
+      let l = part-length s (c .place) (size w) (p .0) in
+      let y : Bytes (part s (c .place) (size w)) = rw (read-take (size w) s (c .place) (p .0)) (bytes-read (size w) s (c .place) b) in
+      let x = digits-little (part s (c .place) (size w)) y .1 in
+      rw i (rw l at x)
+
+fixed-end : (w : Width) (ρ : Rule) (n : ℕ) (s : List ℕ) (p : ℕ) {v : Value} {q : ℕ} → Ends (trace (times (leaf (fixed w ρ)) n) s p) v q → q ≡ p + n * size w
 unfolding chain trace out
-bytes-end ρ zero s p {v} {q} h = let e : q ≡ p = cc in omega arith
-bytes-end ρ (suc n) s p h =
-    let b = seq-ends (leaf (fixed byte ρ)) (λ _. times (leaf (fixed byte ρ)) n) s p h in
-    let e = leaf-ends (fixed byte ρ) s p (b .fore) .3 in
-    let i = bytes-end ρ n s (b .mid) (b .back) in
-    omega (arith, e, i)
+fixed-end w ρ zero s p {v} {q} h = let e : q ≡ p = cc in omega arith
+fixed-end w ρ (suc n) s p h =
+    let b = seq-ends (leaf (fixed w ρ)) (λ _. times (leaf (fixed w ρ)) n) s p h in
+    let e = leaf-ends (fixed w ρ) s p (b .fore) .3 in
+    let i = fixed-end w ρ n s (b .mid) (b .back) in
+    omega (arith, e, i, suc-mul n (size w))
 
--- slot types take one byte each
-pub slots-place : {s : List ℕ} {c d : Cursor} {q : Number} {n : ℕ} {t t₁ : List ℕ} → q ≡ Got n d → NumberOf (slotTypes settings) counted s c t q t₁ → d .place ≡ c .place + 4 + n
+-- the place after a list of them
+pub list-place : {w : Width} {ρ ρ′ : Rule} {z : ℕ} {s : List ℕ} {c d : Cursor} {q : Number} {n : ℕ} {t t₁ : List ℕ} → q ≡ Got n d → NumberOf (listOf ρ z (leaf (fixed w ρ′))) counted s c t q t₁ → d .place ≡ c .place + 4 + n * size w
 unfolding trace
-slots-place {s} {c} {d} {q} {n} e h =
+list-place {w} {ρ} {ρ′} {z} {s} {c} {d} {q} {n} e h =
     let g = got-of e h in
-    let b = seq-ends (listCount SlotType) (λ v. times slotType (number v)) s (c .place) (takes-ends (g .takes)) in
-    let l = leaf-ends (count free 1 vector (sizeOf settings SlotType)) s (c .place) (b .fore) in
-    let i = bytes-end (atMost 5 invalidSlotType) (number (first (g .value))) s (b .mid) (b .back) in
-    omega (arith, l .3, i, g .is)
+    let b = seq-ends (leaf (count ρ 1 vector z)) (λ v. times (leaf (fixed w ρ′)) (number v)) s (c .place) (takes-ends (g .takes)) in
+    let l = leaf-ends (count ρ 1 vector z) s (c .place) (b .fore) in
+    let i = fixed-end w ρ′ (number (first (g .value))) s (b .mid) (b .back) in
+    rw (g .is) (omega (arith, l .3, i))
 
 -- ---- a record by its tag
 
@@ -149,56 +151,4 @@ pub variantAt : {R : Type 0} {ρ : Rule} (fs : List Format) (rs : ℕ → Value 
     → Recorded (getD fs k empty) (λ p v. getD (rs p v) k o) s d t₁ r x t₂ → Recorded (choose ρ fs) (λ p v. getD (rs (p + 1) (second v)) (number (first v)) o) s c t r x t₂
 variantAt fs rs o k e i h m = recordedThen e h (λ n. getD fs n empty) (λ n p v. getD (rs (p + 1) v) n o) (rw i (recordedPlace (fixed-place e h) m))
 
--- ---- lists
-
--- an answer that is refused, of whatever number
-module _ {f : Format} {of : Value → ℕ} {s : List ℕ} {c : Cursor} {t : List ℕ} where
-  lostNumber : {x : Refusal} (p : Number) {t₁ : List ℕ} → Refuses f s c x → stepOf p ≡ Refused x → NumberOf f of s c t p t₁
-  lostNumber (Got n d) a e = apart (sym e)
-  lostNumber {x} (Not y) a e = let i : y ≡ x = cc in rw i (record { reads = lost a; ready = tt })
-
--- the count was not got
-pub numberedNot : {f : Format} {g : Value → Format} {of of′ : Value → ℕ} {s : List ℕ} {c : Cursor} {q : Number} {x : Refusal} {t t₁ t₂ : List ℕ} → q ≡ Not x → NumberOf f of s c t q t₁ → NumberOf (seq f g) of′ s c t q t₂
-numberedNot {f} {g} {of} {of′} {s} {c} {q} {x} {t} {t₁} {t₂} e h = go (rw e at (h .reads))
-  where
-    go : ReadsOf f of s c t (Not x) t₁ → NumberOf (seq f g) of′ s c t q t₂
-    go (lost a) = lostNumber q (seq-refuses a) (rw e)
-
-module _ {ρ : Rule} {m k z : ℕ} {s : List ℕ} {c d : Cursor} {q : Number} {n : ℕ} {t t₁ : List ℕ} (e : q ≡ Got n d) (h : NumberOf (leaf (count ρ m k z)) number s c t q t₁) where
-  -- its items
-  numberedItems : (f : Format) {r : Step} {p : Number} {t₂ : List ℕ} → Reader (times f n) s (Taken d) t₁ r t₂ → p ≡ numberOf n r → NumberOf (listing ρ m k z f) counted s c t p t₂
-  numberedItems f {r} {p} {t₂} a i = rw i (go r (a .reads) (a .ready))
-    where
-      go : (r : Step) → Reads (times f n) s (Taken d) t₁ r t₂ → Ready s r → NumberOf (listing ρ m k z f) counted s c t (numberOf n r) t₂
-      go (Taken b) (takes y) j = let g = got-of e h in record { reads = got (g .is) (then-takes (g .takes) (rw (g .is) at y)); ready = j }
-      go (Refused x) (refuses y) j = let g = got-of e h in lostNumber (Not x) (then-refuses (g .takes) (rw (g .is) at y)) refl
-
-  module _ {f : Format} where
-    pub numberedDone : {t₂ : List ℕ} {r : Step} {p : Number} {j : ℕ} → j ≤ 0 → Turns f s t₁ (Taken d) n t₂ r j → p ≡ numberOf n r → NumberOf (listing ρ m k z f) counted s c t p t₂
-    numberedDone i l w = numberedItems f (turns-done i l) w
-
-    pub numberedRefused : {t₂ t₃ : List ℕ} {r r₁ : Step} {p : Number} {j : ℕ} {x : Refusal} → 0 < j → Turns f s t₁ (Taken d) n t₂ r j → Reader f s r t₂ r₁ t₃ → r₁ ≡ Refused x → p ≡ numberOf n r₁ → NumberOf (listing ρ m k z f) counted s c t p t₃
-    numberedRefused i l a y w = numberedItems f (turns-refused i l a y) w
-
-    -- an item that is answered as a record is refused
-    pub itemRefused : {R : Type 0} {of : ℕ → Value → R} {w : R} {t₂ t₃ : List ℕ} {b : Cursor} {r : Step} {p : Number} {j : ℕ} {x : Refusal} → 0 < j → Turns f s t₁ (Taken d) n t₂ (Taken b) j → Recorded f of s b t₂ r w t₃ → r ≡ Refused x → stepOf p ≡ r → NumberOf (listing ρ m k z f) counted s c t p t₃
-    itemRefused {p = p} i l a y w = numberedItems f (turns-refused i l (a .reader) y) (step-number p n (w ∙ y) ∙ rw y)
-
--- it is taken: one turn more
-pub itemTaken : {R : Type 0} {f : Format} {of : ℕ → Value → R} {s t₀ : List ℕ} {r₀ : Step} {n : ℕ} {w : R} {t t₁ : List ℕ} {b d : Cursor} {r : Step} {k : ℕ} → 0 < k → Turns f s t₀ r₀ n t (Taken b) k → Recorded f of s b t r w t₁ → r ≡ Taken d → length t₁ ≡ length t → Turns f s t₀ r₀ n t₁ (Taken d) (k - 1)
-itemTaken h l a e i = turns-more h l (rw e at (a .reader)) i
-
--- ---- numbers that fit
-
-module _ {f : Format} {s : List ℕ} {c : Cursor} {q : Number} {t t₁ : List ℕ} where
-  pub fittingNot : {m : ℕ} {x : Refusal} → q ≡ Not x → NumberOf f number s c t q t₁ → Fitting m f s c t q t₁
-  fittingNot {m} {x} e h = record { reads = h; fits = λ n d i. let z : _≡_ {A = ℕ} 0 1 = cc in absurd (omega arith) }
-
-pub fittingGot : {f : Format} {k m : ℕ} {s : List ℕ} {c d g : Cursor} {q : Number} {n : ℕ} {t t₁ : List ℕ} → q ≡ Got n d → Fetches k s c q → 256 ^ k ≡ m → NumberOf f number s c t (Got n g) t₁ → Fitting m f s c t (Got n g) t₁
-fittingGot {m = m} {n = n} e h i k = record { reads = k; fits = λ n′ d′ j. let z : n′ ≡ n = cc in rw (z, ← i) (below (fetched e h)) }
-
 pub ruleset recording = (lostHere, lostLast, lostThen, recordedNot)
-
-pub ruleset numbering = (numberedNot, numberedDone, numberedRefused, itemRefused, itemTaken)
-
-pub ruleset fitting = (fittingNot, fittingGot)

@@ -1,10 +1,10 @@
-use Rattle.instruction.proofs.Laws.{numberedDone, numberedRefused, numbering}
+use Rattle.records.proofs.Numbering.{numberedDone, numberedRefused, numbering}
 use Rattle.reader.proofs.Reading.{reading}
 use Rattle.reader.proofs.Laws.{Turns}
 use Rattle.vob24.specs.Leaves.{slotType}
 use borrow.Author.Needs.{needs}
-use Rattle.instruction.proofs.number_slot_types.Statement.{statement}
-use Rattle.instruction.proofs.number_slot_types.Tie as tie
+use Rattle.slots.proofs.number_slot_types.Statement.{statement}
+use Rattle.slots.proofs.number_slot_types.Tie as tie
 
 abbrev Inv-loop : tie.InvT-loop
 Inv-loop s tape₀ n k₀ here₀ tape k here = Turns slotType s tape₀ here₀ k₀ tape here k
