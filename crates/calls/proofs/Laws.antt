@@ -7,18 +7,19 @@ use native.Mathlib.Omega.{arith}
 use native.Mathlib.Nat.{zero-add}
 use lib.ListN.{length, drop}
 use lib.Seq.{sets-eq}
-use lib.Dec.{T, leb, eqb, leb→le, nleb→lt, le→leb}
+use lib.Dec.{T, leb, eqb, leb→le, nleb→lt}
 use borrow.Author.Tests.{le-leb, lt-leb, eq-eqb, ne-eqb}
-use Rattle.format.specs.Trace.{wrong, Trace, end, guard, refused, taken, settle, pick}
+use Rattle.format.specs.Trace.{wrong, Trace, guard, refused, taken, settle, pick}
 use Rattle.format.specs.Format.{Value, Format}
 use Rattle.format.specs.Reading.{trace}
 use Rattle.format.specs.Record.{words}
-use Rattle.format.specs.Settling.{settle-taken, thenS, settle-bind}
-use Rattle.format.specs.Ending.{guard-true, trace-place}
+use Rattle.format.specs.Settling.{settle-taken, thenS}
+use Rattle.format.specs.Ending.{trace-place}
 use Rattle.vob24.specs.Refusals
 use Rattle.vob24.specs.Settings.{settings, maxPackBytes}
 use Rattle.vob24.specs.Grammar.{Section, section, pack}
 use Rattle.vob24.specs.Calls as vob
+use Rattle.vob24.specs.Theorems.{whole-settled, section-alone}
 use Rattle.reader.specs.Contract.{refusal, wrongOf, ReadyAt, Takes, Reads, takes, refuses, skips, Reader}
 use Rattle.reader.specs.declared.Cursor.{Cursor}
 use Rattle.reader.specs.declared.Refusal.{Refusal}
@@ -101,8 +102,7 @@ module _ (n : ℕ) (x : Section) (s : List ℕ) (p b : ℕ) where
   section-past h i = rw (le-leb _ _ h, lt-leb _ _ i)
 
   section-at : length s ≤ maxPackBytes → p ≤ length s → settle b (vob.sectionTrace settings n x s p) ≡ settle b (trace (section settings n x) s p)
-  unfolding vob.sectionTrace
-  section-at h i = ap (settle b) (guard-true _ _ _ _ (le→leb _ _ h) ∙ guard-true _ _ _ _ (le→leb _ _ i))
+  section-at h i = ap (settle b) (section-alone settings n x s p h i)
 
   section-cases : {r₀ r : Step} {t e : List ℕ} → Opened s p b r₀ → Reads (section settings n x) s r₀ t r e → Passed (section settings n x) (vob.sectionTrace settings n x s p) s p b r₀ r
   section-cases (long h) skips = denied (section-long h)
@@ -115,22 +115,18 @@ module _ (s : List ℕ) (b : ℕ) where
   unfolding vob.wholeTrace guard settle
   whole-long h = rw (lt-leb _ _ h)
 
-  whole-at : length s ≤ maxPackBytes → settle b (vob.wholeTrace settings s) ≡ thenS (settle b (trace (pack settings) s 0)) (λ v q l. settle l (guard (eqb q (length s)) (wrong Refusals.trailingBytes (length s - q)) q (end v q)))
-  unfolding vob.wholeTrace
-  whole-at h = ap (settle b) (guard-true _ _ _ _ (le→leb _ _ h)) ∙ settle-bind b (trace (pack settings) s 0) _
-
   -- the whole pack, with the question after it
   judged : {t : List ℕ} {v : Value} {c : Cursor} {e : List ℕ} → length s ≤ maxPackBytes → Takes (pack settings) s (from 0 b) t v c e → (d : Bool) → eqb (c .place) (length s) ≡ d
       → Passed (pack settings) (vob.wholeTrace settings s) s 0 b (Taken (from 0 b)) (pick d (Taken c) (Refused (refusal (wrong Refusals.trailingBytes (length s - c .place)) (c .place) (c .left))))
   unfolding pick thenS guard settle
-  judged {v = v} {c = c} h k true i = passed {v = v} {c = c} refl (whole-at h ∙ rw (k .settles, i)) (k .settles) (k .moves ∙ zero-add _)
-  judged {c = c} h k false i = denied {x = refusal (wrong Refusals.trailingBytes (length s - c .place)) (c .place) (c .left)} (whole-at h ∙ rw (k .settles, i))
+  judged {v = v} {c = c} h k true i = passed {v = v} {c = c} refl (whole-settled settings s b h ∙ rw (k .settles, i)) (k .settles) (k .moves ∙ zero-add _)
+  judged {c = c} h k false i = denied {x = refusal (wrong Refusals.trailingBytes (length s - c .place)) (c .place) (c .left)} (whole-settled settings s b h ∙ rw (k .settles, i))
 
   whole-cases : {r₀ r : Step} {t e : List ℕ} → Opened s 0 b r₀ → Reads (pack settings) s r₀ t r e → Passed (pack settings) (vob.wholeTrace settings s) s 0 b r₀ (ended (length s) r)
   unfolding thenS
   whole-cases (long h) skips = denied (whole-long h)
   whole-cases (past h i) skips = absurd (omega arith)
-  whole-cases (at h i) (refuses {x = x} k) = denied {x = x} (whole-at h ∙ rw (k .settles))
+  whole-cases (at h i) (refuses {x = x} k) = denied {x = x} (whole-settled settings s b h ∙ rw (k .settles))
   whole-cases (at h i) (takes {c′ = c} k) = judged h k (eqb (c .place) (length s)) refl
 
 -- ---- what a call makes of them

@@ -1,5 +1,5 @@
 -- The calls: what each answers, and what it leaves on the tape, for every pack, budget and tape.
-use Prim.Native.Nat.{ℕ, _-_}
+use Prim.Native.Nat.{ℕ, _+_, _-_}
 use mathlib.Core.List.{List, [], _∷_, _++_}
 use lib.ListN.{length, drop}
 use lib.Dec.{leb, eqb}
@@ -62,6 +62,29 @@ readOutcome set s b t = closing (pack set) 0 b t (settle b (wholeTrace set s))
 -- The call on a section, from a place; the number of functions bounds the inline sources.
 unfoldable pub sectionOutcome : Settings → ℕ → Section → List ℕ → ℕ → ℕ → List ℕ → Outcome
 sectionOutcome set n x s p b t = closing (section set n x) p b t (settle b (sectionTrace set n x s p))
+
+-- "Place and budget, in one struct lent and advanced, for the section calls."
+pub record Position : Type 0 where
+  pub place : ℕ
+  pub budget : ℕ
+
+-- Past the bytes taken, with what is left. "A refusal leaves it unmoved."
+abbrev pub moved : Position → Answer → Position
+moved at (Taken w n c l) = record { place = at .place + n; budget = l }
+moved at (Refused w p l) = at
+
+-- The answer, the tape at exit, and the position at exit.
+pub record LentOutcome : Type 0 where
+  pub answer : Answer
+  pub tape : List ℕ
+  pub position : Position
+
+abbrev pub advancing : Position → Outcome → LentOutcome
+advancing at o = record { answer = o .answer; tape = o .tape; position = moved at (o .answer) }
+
+-- The call on a section that is lent its position: the call from this place under this budget.
+unfoldable pub lentOutcome : Settings → ℕ → Section → List ℕ → Position → List ℕ → LentOutcome
+lentOutcome set n x s at t = advancing at (sectionOutcome set n x s (at .place) (at .budget) t)
 
 -- The lookup: start and length of the payload, or the refusal.
 pub data Found : Type 0 where

@@ -13,6 +13,7 @@ use Rattle.format.specs.Format.{Value}
 use Rattle.format.specs.Reading.{part, trace}
 use Rattle.format.specs.Record.{words, decode, Held}
 use Rattle.format.specs.Layout.{Bytes, Valid, bytes}
+use Rattle.format.specs.Settling.{thenS, settle-bind}
 use Rattle.format.specs.Ending.{Ends-bind, bind-out, Ends-guard, guard-true, trace-place}
 use Rattle.format.specs.Laying.{At}
 use Rattle.format.specs.Closing.{layout-iff}
@@ -50,6 +51,11 @@ module _ (set : Settings) where
       let y : q ≡ b .1 = cc in
       (leb→le (length s) maxPackBytes (a .0), b .2 ∙ cc, omega arith, a .2 ∙ bind-out _ _ (b .2) .1 ∙ omega (arith, c .2))
 
+  -- before the questions of 24 and 26
+  pub whole-settled : (s : List ℕ) (b : ℕ) → length s ≤ maxPackBytes → settle b (wholeTrace set s) ≡ thenS (settle b (trace (pack set) s 0)) (λ v q l. settle l (guard (eqb q (length s)) (wrong Refusals.trailingBytes (length s - q)) q (end v q)))
+  unfolding wholeTrace
+  whole-settled s b h = ap (settle b) (guard-true _ _ _ _ (le→leb _ _ h)) ∙ settle-bind b (trace (pack set) s 0) _
+
   ends-whole : (s : List ℕ) {v : Value} → length s ≤ maxPackBytes → Ends (trace (pack set) s 0) v (length s) → Ends (wholeTrace set s) v (length s)
   unfolding wholeTrace out
   ends-whole s {v} h e = ap out (guard-true _ _ _ _ (le→leb _ _ h)) ∙ bind-out _ _ e .0 ∙ ap out (guard-true _ _ _ (end v (length s)) (eqb-refl (length s)))
@@ -61,9 +67,12 @@ module _ (set : Settings) where
       let b = Ends-guard _ _ _ _ (a .1) in
       (leb→le (length s) maxPackBytes (a .0), leb→le p (length s) (b .0), b .1, a .2 ∙ b .2)
 
-  ends-section : (n : ℕ) (x : Section) (s : List ℕ) (p : ℕ) {v : Value} {q : ℕ} → length s ≤ maxPackBytes → p ≤ length s → Ends (trace (section set n x) s p) v q → Ends (sectionTrace set n x s p) v q
+  pub section-alone : (n : ℕ) (x : Section) (s : List ℕ) (p : ℕ) → length s ≤ maxPackBytes → p ≤ length s → sectionTrace set n x s p ≡ trace (section set n x) s p
   unfolding sectionTrace
-  ends-section n x s p h i e = ap out (guard-true _ _ _ _ (le→leb _ _ h) ∙ guard-true _ _ _ _ (le→leb _ _ i)) ∙ e
+  section-alone n x s p h i = guard-true _ _ _ _ (le→leb _ _ h) ∙ guard-true _ _ _ _ (le→leb _ _ i)
+
+  ends-section : (n : ℕ) (x : Section) (s : List ℕ) (p : ℕ) {v : Value} {q : ℕ} → length s ≤ maxPackBytes → p ≤ length s → Ends (trace (section set n x) s p) v q → Ends (sectionTrace set n x s p) v q
+  ends-section n x s p h i e = ap out (section-alone n x s p h i) ∙ e
 
   whole-reads : (s : List ℕ) → Reads (pack set) (wholeTrace set s) s 0
   whole-reads s = record { inner = λ {v} {q} h. let e = whole-ends s h in (e .1 ∙ ap (ended v) (sym (e .2)), e .3) }
