@@ -1,0 +1,41 @@
+-- The laws of the lent section calls: what the call by value has answered, and where that moves the position.
+use Prim.Native.Nat.{ℕ, _+_, _<_, _^_}
+use mathlib.Core.Path.{_≡_, ap, sym, _∙_}
+use mathlib.Core.List.{List}
+use native.Mathlib.Omega.{arith}
+use lib.ListN.{length}
+use Rattle.vob24.specs.Settings.{settings}
+use Rattle.vob24.specs.Grammar.{Section}
+use Rattle.vob24.specs.Calls as vob
+use Rattle.vob24.specs.Theorems.{section-only, section-record}
+use Rattle.reader.specs.declared.Refusal.{Refusal}
+use Rattle.calls.specs.declared.Answer.{Answer}
+use Rattle.calls.specs.Call.{answerOf, SectionCall}
+use Rattle.lent_sections.specs.Call.{positionOf, LentCall, Moves, Fits}
+use Rattle.lent_sections.specs.declared.Position.{Position}
+
+module _ {at : Position} {q : Answer} where
+  pub moves-taken : {w n c l : ℕ} → q ≡ Answer.Taken w n c l → Moves at q (record { place = at .place + n; budget = l })
+  moves-taken e = record { is = rw e }
+
+  pub moves-refused : {r : Refusal} → q ≡ Answer.Refused r → Moves at q at
+  moves-refused e = record { is = rw e }
+
+  pub fits-place : {w n c l : ℕ} → Fits at q → q ≡ Answer.Taken w n c l → at .place + n < 2 ^ 64
+  fits-place k e = k .fits e
+
+pub ruleset moving = (moves-taken, moves-refused, fits-place)
+
+module _ {n : ℕ} {x : Section} {s : List ℕ} {at : Position} {t : List ℕ} {q : Answer} {t′ : List ℕ} (k : SectionCall n x s (at .place) (at .budget) t q t′) where
+  -- the bytes taken lie in the pack
+  pub fits-pack : length s < 2 ^ 64 → Fits at q
+  fits-pack h = record {
+    fits = λ {w} {n = m} {c} {l} e.
+        let i : vob.sectionOutcome settings n x s (at .place) (at .budget) t .answer ≡ vob.Taken w m c l = ap (λ o. o .answer) (k .is) ∙ ap answerOf e in
+        let r = section-record settings n x s (at .place) (at .budget) t (section-only settings n x s (at .place) (at .budget) t i) in
+        omega (arith, r .3);
+  }
+
+  pub lent-call : {at′ : Position} → Moves at q at′ → LentCall n x s at t q at′ t′
+  unfolding vob.lentOutcome
+  lent-call m = record { is = ap (vob.advancing (positionOf at)) (k .is) ∙ ap (λ p. record { answer = answerOf q; tape = t′; position = p }) (sym (m .is)) }

@@ -1,0 +1,4 @@
+pub mod Laws
+pub mod Moving
+pub mod Thin
+pub mod ThinOf
