@@ -1,0 +1,19 @@
+use borrow.Author.Needs.{needs}
+use Rattle.exports.proofs.Laws.{shows-section}
+use Rattle.exports.proofs.vob_functions.Statement.{statement}
+use Rattle.exports.proofs.vob_functions.Tie as tie
+
+read-functions-requires : tie.Need-read-functions-requires
+read-functions-requires c κs = search needs
+
+shown-requires : tie.Need-shown-requires
+shown-requires c κs = search needs
+
+same-length : tie.Need-same-length
+same-length c = search needs
+
+returns : tie.Need-returns
+returns c = search (needs, shows-section)
+
+pub vob-functions-spec : {M : Type 1} → statement M
+vob-functions-spec = tie.close (tie.spec read-functions-requires shown-requires same-length returns)

@@ -1,0 +1,19 @@
+use borrow.Author.Needs.{needs}
+use Rattle.exports.proofs.Laws.{shows-section}
+use Rattle.exports.proofs.vob_name.Statement.{statement}
+use Rattle.exports.proofs.vob_name.Tie as tie
+
+read-name-requires : tie.Need-read-name-requires
+read-name-requires c κs = search needs
+
+shown-requires : tie.Need-shown-requires
+shown-requires c κs = search needs
+
+same-length : tie.Need-same-length
+same-length c = search needs
+
+returns : tie.Need-returns
+returns c = search (needs, shows-section)
+
+pub vob-name-spec : {M : Type 1} → statement M
+vob-name-spec = tie.close (tie.spec read-name-requires shown-requires same-length returns)
