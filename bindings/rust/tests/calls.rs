@@ -1,0 +1,193 @@
+//! Document 01's worked examples, and the limits of budget and tape, through the safe calls.
+
+use vob::{Context, Error, FIRST_SECTION, FunctionMetadata, MAX_PACK_BYTES, Reading, Reason, STARTING_BUDGET, Section};
+
+/// What a word of the tape holds before a call.
+const UNWRITTEN: u32 = 0x5eed_5eed;
+
+/// The bare pack with a name.
+fn named(name: &[u8]) -> Vec<u8> {
+    let mut pack = b"VOB\x18\0\0\0".to_vec();
+    pack.extend((name.len() as u32).to_le_bytes());
+    pack.extend(name);
+    pack.resize(pack.len() + 101, 0);
+    pack
+}
+
+/// The bare pack with artifacts, each of version 1.
+fn with_artifacts(artifacts: &[(&[u8], &[u8])]) -> Vec<u8> {
+    let mut pack = named(b"");
+    pack.truncate(92);
+    pack.extend((artifacts.len() as u32).to_le_bytes());
+    for (name, payload) in artifacts {
+        pack.extend((name.len() as u32).to_le_bytes());
+        pack.extend(*name);
+        pack.extend(1u32.to_le_bytes());
+        pack.extend((payload.len() as u32).to_le_bytes());
+        pack.extend(*payload);
+    }
+    pack.resize(pack.len() + 16, 0);
+    pack
+}
+
+/// Reads a pack that must be refused, and sees that the tape is as it was.
+fn refusal(pack: &[u8], budget: u64, words: usize) -> Error {
+    let mut tape = vec![UNWRITTEN; words];
+    let refusal = vob::read(pack, budget, &mut tape).unwrap_err();
+    assert!(tape.iter().all(|word| *word == UNWRITTEN));
+    refusal
+}
+
+#[test]
+fn bare_pack() {
+    let mut tape = [UNWRITTEN; 40];
+    let reading = vob::read(&named(b""), STARTING_BUDGET, &mut tape).unwrap();
+    assert_eq!(reading, Reading { words: 37, bytes: 112, charged: 0, left: STARTING_BUDGET });
+    assert_eq!(tape[..2], [11, 0]);
+    assert_eq!(tape[37..], [UNWRITTEN; 3]);
+}
+
+#[test]
+fn empty_input() {
+    let refusal = refusal(&[], STARTING_BUDGET, 40);
+    assert_eq!(refusal, Error { reason: Reason::UnexpectedEof, place: 0, left: STARTING_BUDGET });
+    assert_eq!(refusal.numbers(), [2, 0, 0, 0, 0, STARTING_BUDGET]);
+}
+
+#[test]
+fn cut_pack() {
+    assert_eq!(refusal(&named(b"")[..111], 0, 40), Error { reason: Reason::UnexpectedEof, place: 108, left: 0 });
+}
+
+#[test]
+fn too_large() {
+    let (length, maximum) = (MAX_PACK_BYTES as u64 + 1, MAX_PACK_BYTES as u64);
+    let reason = Reason::InputTooLarge { length, maximum };
+    assert_eq!(refusal(&vec![0; MAX_PACK_BYTES + 1], 5, 1), Error { reason, place: 0, left: 5 });
+}
+
+#[test]
+fn budget_one_short() {
+    let pack = named(b"A");
+    let reason = Reason::AllocationBudgetExceeded { context: Context::ByteString, asked: 1, left: 0 };
+    assert_eq!(refusal(&pack, 0, 40), Error { reason, place: 12, left: 0 });
+    let mut tape = [0; 37];
+    let reading = vob::read(&pack, 1, &mut tape).unwrap();
+    assert_eq!(reading, Reading { words: 37, bytes: 113, charged: 1, left: 0 });
+    assert_eq!(tape[..2], [11, 1]);
+}
+
+#[test]
+fn tape_one_short() {
+    let reason = Reason::NoRoom { needed: 37, length: 36 };
+    assert_eq!(refusal(&named(b""), 0, 36), Error { reason, place: 112, left: 0 });
+    let reason = Reason::NoRoom { needed: 37, length: 0 };
+    assert_eq!(refusal(&named(b""), 0, 0), Error { reason, place: 112, left: 0 });
+}
+
+#[test]
+fn first_artifact_of_a_name() {
+    let pack = with_artifacts(&[(b"b", b"one"), (b"", b""), (b"b", b"two")]);
+    assert_eq!(vob::find_artifact(&pack, b"b"), Ok(&b"one"[..]));
+    assert_eq!(vob::find_artifact(&pack, b""), Ok(&[][..]));
+    let left = STARTING_BUDGET - (3 * 56 + 8);
+    assert_eq!(vob::find_artifact(&pack, b"c"), Err(Error { reason: Reason::NoSuchArtifact, place: pack.len(), left }));
+    assert_eq!(
+        vob::find_artifact(b"VOC", b"b"),
+        Err(Error { reason: Reason::InvalidMagic, place: 3, left: STARTING_BUDGET })
+    );
+}
+
+#[test]
+fn artifact_limit() {
+    let pack = with_artifacts(&[(&[b'n'; 129], b"")]);
+    let reason = Reason::ModuleArtifactLimitExceeded { context: Context::ArtifactName, length: 129, maximum: 128 };
+    assert_eq!(refusal(&pack, 100, 40), Error { reason, place: 100, left: 44 });
+}
+
+#[test]
+fn sections_in_turn_give_the_whole_tape() {
+    let pack = with_artifacts(&[(b"ties", b"first"), (b"accents", b"")]);
+    let mut whole = vec![0; pack.len()];
+    let reading = vob::read(&pack, 1000, &mut whole).unwrap();
+    let (mut place, mut left, mut words) = (FIRST_SECTION, 1000, Vec::<u32>::new());
+    for section in [
+        Section::Name,
+        Section::Structs,
+        Section::Interfaces,
+        Section::NamedTypes,
+        Section::Itabs,
+        Section::RuntimeTypes,
+        Section::WellKnown,
+        Section::Constants,
+        Section::Globals,
+        Section::Functions,
+        Section::Externs,
+        Section::Entry,
+        Section::IslandInit,
+        Section::Artifacts,
+        Section::Files,
+        Section::FunctionLocations,
+        Section::InlineSources { functions: 0 },
+    ] {
+        let mut tape = vec![0; pack.len()];
+        let part = vob::read_section(section, &pack, place, left, &mut tape).unwrap();
+        words.extend(&tape[..part.words]);
+        (place, left) = (place + part.bytes, part.left);
+    }
+    assert_eq!((place, left), (pack.len(), reading.left));
+    assert_eq!(words, whole[..reading.words]);
+}
+
+#[test]
+fn section_past_the_end() {
+    for place in [113, usize::MAX] {
+        let answer = vob::read_section(Section::Files, &named(b""), place, 9, &mut []);
+        assert_eq!(answer, Err(Error { reason: Reason::UnexpectedEof, place, left: 9 }));
+    }
+}
+
+#[test]
+fn inline_functions_are_bounded_by_the_functions() {
+    let pack = [0, 0, 0, 0, 1, 0, 0, 0, 0, 0, 0, 0, 0, 0, 0, 0];
+    let read = |functions| vob::read_section(Section::InlineSources { functions }, &pack, 0, 32, &mut [0; 4]);
+    let reason = Reason::DebugMetadataLimitExceeded { context: Context::InlineFunctions, length: 1, maximum: 0 };
+    assert_eq!(read(0), Err(Error { reason, place: 8, left: 32 }));
+    assert_eq!(read(1), Ok(Reading { words: 4, bytes: 16, charged: 32, left: 0 }));
+}
+
+#[test]
+fn charge_sizes() {
+    assert_eq!(vob::charge_size(0), None);
+    assert_eq!(vob::charge_size(1), Some(96));
+    assert_eq!(vob::charge_size(32), Some(8));
+    assert_eq!(vob::charge_size(33), None);
+    assert_eq!(vob::charge_size(u64::MAX), None);
+}
+
+#[test]
+fn texts_of_refusals() {
+    let mut host = named(b"");
+    host[80] = 2;
+    assert_eq!(
+        refusal(&host, 0, 40).to_string(),
+        "refused at byte 84: the pack declares 2 externs, and rule packs call no host"
+    );
+    assert_eq!(
+        refusal(b"VOB\x17\0\0\0", 0, 40).to_string(),
+        "refused at byte 7: the pack has version 23, and only 24 is read"
+    );
+    assert_eq!(
+        refusal(&named(b"A"), 0, 40).to_string(),
+        "refused at byte 12: a text costs 1 bytes of a budget that has 0 left"
+    );
+    assert_eq!(
+        refusal(&named(b"\xed\xa0\x80"), 3, 40).to_string(),
+        "refused at byte 14: the text that ends here is not well-formed UTF-8"
+    );
+    let what = FunctionMetadata::ParameterRttid { index: 2, word: 0xffff_ff18 };
+    assert_eq!(
+        Reason::InvalidFunctionMetadata(what).to_string(),
+        "the rttid word of parameter 2, FFFFFF18 hexadecimal, is invalid"
+    );
+}
