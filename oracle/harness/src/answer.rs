@@ -46,16 +46,67 @@ impl std::fmt::Display for Answer {
 
 pub struct Reading {
     pub answer: Answer,
-    /// The tape's words, section by section, where the answer is taken.
+    /// The words by section, where all was read; a section call has its own alone.
     pub words: Vec<Vec<u32>>,
     /// Charges that were asked for; where the answer is 5, the last one is the one that couldn't be paid.
     pub charges: Vec<Charge>,
-    /// The sections that were begun, with the budget left there.
+    /// The sections that were begun, with the budget left there; none for a section call.
     pub sections: Vec<Mark>,
     /// Name, and start and length of the payload, of each artifact of a taken pack.
-    artifacts: Vec<(Vec<u8>, Span)>,
-    /// Whether the last section was read to its end.
+    pub artifacts: Vec<(Vec<u8>, Span)>,
+    /// Where the last section, or the one called, was read to its end.
     through: Option<Mark>,
+}
+
+impl Reading {
+    fn stopped(answer: Answer) -> Self {
+        Reading {
+            answer,
+            words: Vec::new(),
+            charges: Vec::new(),
+            sections: Vec::new(),
+            artifacts: Vec::new(),
+            through: None,
+        }
+    }
+
+    /// The counted words of the tape.
+    pub fn tape(&self) -> Vec<u32> {
+        match self.answer {
+            Answer::Taken { .. } => self.words.concat(),
+            Answer::Refused { .. } => Vec::new(),
+        }
+    }
+
+    /// What a reading that lacked neither budget nor tape would have answered with these: its charge list decides.
+    pub fn under(&self, budget: u64, tape: u64) -> Answer {
+        let mut left = budget;
+        for charge in &self.charges {
+            let asked = charge.amount as u64;
+            if asked > left {
+                let at = Mark { place: charge.place, left: left as usize };
+                return refused(5, charge_context(charge), asked, left, at);
+            }
+            left -= asked;
+        }
+        match (self.answer, self.through) {
+            (Answer::Taken { words, .. }, Some(end)) if words > tape => {
+                refused(26, 0, words, tape, Mark { place: end.place, left: left as usize })
+            }
+            (Answer::Taken { words, bytes, .. }, _) => Answer::Taken { words, bytes, charged: budget - left, left },
+            (Answer::Refused { number, c, d1, d2, place, .. }, _) => Answer::Refused { number, c, d1, d2, place, left },
+        }
+    }
+
+    /// Start and length of the payload of the first artifact with exactly these name bytes, in a pack whose answer is
+    /// `answer`. `Module::artifact` searches a sorted list and is no judge here.
+    pub fn find(&self, answer: Answer, name: &[u8]) -> Result<(u64, u64), Answer> {
+        let Answer::Taken { bytes, left, .. } = answer else { return Err(answer) };
+        match self.artifacts.iter().find(|(other, _)| other == name) {
+            Some((_, span)) => Ok((span.start as u64, span.len as u64)),
+            None => Err(refused(27, 0, 0, 0, Mark { place: bytes as usize, left: left as usize })),
+        }
+    }
 }
 
 /// Module::deserialize on a whole pack, and what document 01 adds to it (25, 26).
@@ -73,7 +124,7 @@ pub fn read(pack: &[u8], budget: u64, tape: u64) -> Reading {
         sections.truncate(EXTERNS);
         charges.retain(|charge| charge.place <= at.place);
         let answer = refused(25, 0, count as u64, 0, Mark { place: at.place + 4, left: at.left });
-        return Reading { answer, words: Vec::new(), charges, sections, artifacts: Vec::new(), through: None };
+        return Reading { charges, sections, ..Reading::stopped(answer) };
     }
 
     match result {
@@ -98,26 +149,21 @@ pub fn read(pack: &[u8], budget: u64, tape: u64) -> Reading {
         Err(error) => {
             let through = matches!(error, SerializeError::TrailingBytes(_)).then_some(end);
             let answer = refusal(pack, &error, &charges, &spans, end);
-            Reading { answer, words: Vec::new(), charges, sections, artifacts: Vec::new(), through }
+            Reading { charges, sections, through, ..Reading::stopped(answer) }
         }
     }
 }
 
-/// The lookup: the pack under the Rust's budget, then the first artifact with exactly these name bytes.
-/// `Module::artifact` searches a sorted list and is no judge here.
+/// The lookup: the pack under the Rust's budget, then its artifacts.
 pub fn lookup(pack: &[u8], name: &[u8]) -> Result<(u64, u64), Answer> {
     let reading = read(pack, RUST_BUDGET, u64::MAX);
-    let Answer::Taken { bytes, left, .. } = reading.answer else { return Err(reading.answer) };
-    match reading.artifacts.iter().find(|(other, _)| other == name) {
-        Some((_, span)) => Ok((span.start as u64, span.len as u64)),
-        None => Err(refused(27, 0, 0, 0, Mark { place: bytes as usize, left: left as usize })),
-    }
+    reading.find(reading.answer, name)
 }
 
 /// A section alone. The Rust has no such call, but it reads section `number` of any pack whose earlier sections are
 /// bare: so the bytes from `place` on are put behind a bare opening part, and all places are shifted back.
-pub fn section(pack: &[u8], number: usize, place: u64, budget: u64, functions: u64, tape: u64) -> (Answer, Vec<u32>) {
-    let given = |number, d1, d2| (Answer::Refused { number, c: 0, d1, d2, place, left: budget }, Vec::new());
+pub fn section(pack: &[u8], number: usize, place: u64, budget: u64, functions: u64, tape: u64) -> Reading {
+    let given = |number, d1, d2| Reading::stopped(Answer::Refused { number, c: 0, d1, d2, place, left: budget });
     if pack.len() > MAX_VOB_BYTES {
         return given(1, pack.len() as u64, MAX_VOB_BYTES as u64);
     }
@@ -126,21 +172,14 @@ pub fn section(pack: &[u8], number: usize, place: u64, budget: u64, functions: u
     }
     // No pack costs 2^62; what a budget has beyond that is set aside, so that the opening part's charges fit.
     let aside = budget.saturating_sub(1 << 62);
-    let (mut answer, words) = section_behind(pack, number, place, budget - aside, functions, tape);
-    match &mut answer {
+    let mut reading = section_behind(pack, number, place, budget - aside, functions, tape);
+    match &mut reading.answer {
         Answer::Taken { left, .. } | Answer::Refused { left, .. } => *left += aside,
     }
-    (answer, words)
+    reading
 }
 
-fn section_behind(
-    pack: &[u8],
-    number: usize,
-    place: u64,
-    budget: u64,
-    functions: u64,
-    tape: u64,
-) -> (Answer, Vec<u32>) {
+fn section_behind(pack: &[u8], number: usize, place: u64, budget: u64, functions: u64, tape: u64) -> Reading {
     // More functions than the inline limit make no difference to it.
     let functions = if number == INLINE_SOURCES { functions.min(131_072) } else { 0 };
     let opening = opening_part(number, functions);
@@ -154,29 +193,34 @@ fn section_behind(
     assert_eq!((at.place, at.left as u64), (opening.len(), budget));
 
     let end = if number == INLINE_SOURCES { reading.through } else { reading.sections.get(number).copied() };
+    // Each section opens with bytes of its own, so a charge at a section's end is not the next one's.
+    let own = |charge: &&Charge| charge.place > at.place && end.is_none_or(|end| charge.place <= end.place);
+    let moved = |charge: &Charge| Charge { place: (charge.place as i64 + shift) as usize, ..charge.clone() };
+    let charges = reading.charges.iter().filter(own).map(moved).collect();
     let Some(end) = end else {
-        return (shifted(reading.answer, shift), Vec::new());
+        return Reading { charges, ..Reading::stopped(shifted(reading.answer, shift)) };
     };
     let taken = end.place - at.place;
     let alone = [&opening[..], &rest[..taken], &closing_part(number)].concat();
     let (module, report) = report::with_budget(NO_END, || Module::deserialize(&alone));
     let module = module.expect("the section was taken, and nothing is amiss after it");
     let words = words::words(&module, &alone, &report.spans, shift).swap_remove(number - 1);
-    if words.len() as u64 > tape {
-        let at = Mark { place: (end.place as i64 + shift) as usize, left: end.left };
-        return (refused(26, 0, words.len() as u64, tape, at), Vec::new());
-    }
-    let answer = Answer::Taken {
-        words: words.len() as u64,
-        bytes: taken as u64,
-        charged: budget - end.left as u64,
-        left: end.left as u64,
+    let through = Mark { place: (end.place as i64 + shift) as usize, left: end.left };
+    let answer = if words.len() as u64 > tape {
+        refused(26, 0, words.len() as u64, tape, through)
+    } else {
+        Answer::Taken {
+            words: words.len() as u64,
+            bytes: taken as u64,
+            charged: budget - end.left as u64,
+            left: end.left as u64,
+        }
     };
-    (answer, words)
+    Reading { words: vec![words], charges, through: Some(through), ..Reading::stopped(answer) }
 }
 
 /// Bytes of each section of the bare pack.
-const BARE: [usize; 17] = [4, 4, 4, 4, 4, 4, 37, 4, 4, 4, 4, 4, 4, 4, 4, 4, 8];
+pub const BARE: [usize; 17] = [4, 4, 4, 4, 4, 4, 37, 4, 4, 4, 4, 4, 4, 4, 4, 4, 8];
 /// Bytes of a function with an empty name and empty lists.
 const BARE_FUNCTION: usize = 4 + 4 * 2 + 4 + 3 * 2 + 4 + 1 + 4 + 1 + 6 * 4;
 

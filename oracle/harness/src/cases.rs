@@ -7,25 +7,25 @@ use std::collections::{BTreeMap, HashSet};
 
 const NO_EDIT: Edit = Edit { at: 0, len: 0, bytes: [0; 4] };
 
-fn bare() -> Vec<u8> {
+pub fn bare() -> Vec<u8> {
     let mut pack = opening_part(17, 0);
     pack.resize(112, 0);
     pack
 }
 
 /// The bare pack with `filled` in place of a section's `width` bytes.
-fn with_section(number: usize, width: usize, filled: &[u8]) -> Vec<u8> {
+pub fn with_section(number: usize, width: usize, filled: &[u8]) -> Vec<u8> {
     let opening = opening_part(number, 0);
     let rest = 112 - opening.len() - width;
     [&opening[..], filled, &vec![0; rest]].concat()
 }
 
-fn text(bytes: &[u8]) -> Vec<u8> {
+pub fn text(bytes: &[u8]) -> Vec<u8> {
     [&(bytes.len() as u32).to_le_bytes()[..], bytes].concat()
 }
 
 /// The marked cases of document 01, each in a pack.
-fn marked() -> Vec<Vec<u8>> {
+pub fn marked() -> Vec<Vec<u8>> {
     let location = |packed: &[u8]| with_section(16, 4, &[&[1, 0, 0, 0, 1, 0, 0, 0][..], packed, &[0; 4]].concat());
     let mut out: Vec<Vec<u8>> =
         [&[0x00][..], &[0x80, 0x01], &[0xFF, 0xFF, 0xFF, 0xFF, 0x0F], &[0xFF, 0xFF, 0xFF, 0xFF, 0x10], &[0x80, 0x00]]
@@ -105,7 +105,7 @@ fn marked() -> Vec<Vec<u8>> {
 }
 
 /// Repeats, "_" and accents in each table; the writer sorts named methods and can't repeat them, so bytes are changed.
-fn repeats() -> Vec<Vec<u8>> {
+pub fn repeats() -> Vec<Vec<u8>> {
     let accents = ["\u{e9}", "e\u{301}"];
     let mut out = vec![
         packs::with_struct_fields(&["a", "b", "a"]),
@@ -156,7 +156,7 @@ fn repeats() -> Vec<Vec<u8>> {
 }
 
 /// Limits of artifacts and inline sources, exact and one past them.
-fn limits() -> Vec<Vec<u8>> {
+pub fn limits() -> Vec<Vec<u8>> {
     let none: &[u8] = &[];
     let many = vec![("", 0, none); 64];
     let name = "n".repeat(128);
@@ -208,7 +208,7 @@ fn limits() -> Vec<Vec<u8>> {
 }
 
 /// Packs that end early or late, and heads that are not a pack's.
-fn ends() -> Vec<Vec<u8>> {
+pub fn ends() -> Vec<Vec<u8>> {
     let mut out: Vec<Vec<u8>> = (0..=112).map(|n| bare()[..n].to_vec()).collect();
     for extra in [1, 2, 300] {
         out.push([bare(), vec![0; extra]].concat());
@@ -250,7 +250,7 @@ fn ends() -> Vec<Vec<u8>> {
 }
 
 /// Values worth trying at one byte: ends of every range that a question has, neighbours and single bits.
-fn values(old: u8) -> Vec<u8> {
+pub fn values(old: u8) -> Vec<u8> {
     let mut out = vec![0, 1, 2, 3, 4, 5, 6, 8, 9, 12, 13, 18, 19, 24, 25, 0x2F, 0x5F, 0x7F, 0x80, 0xBF, 0xC0, 0xFF];
     out.extend([old.wrapping_add(1), old.wrapping_sub(1), old ^ 1, old ^ 2, old ^ 0x80]);
     out.sort_unstable();

@@ -1,13 +1,7 @@
 //! The oracle's program. Called without arguments it says what it can do.
 
-mod answer;
-mod cases;
-mod packs;
-mod record;
-mod sizes;
-mod words;
-
-use answer::{Answer, RUST_BUDGET};
+use harness::answer::{self, Answer, RUST_BUDGET};
+use harness::{cases, packs, record, sizes};
 use std::io::{Read, Write};
 
 const USAGE: &str = "usage:
@@ -33,9 +27,9 @@ fn main() {
             if !(1..=17).contains(&section) {
                 stop("a section's number is 1 to 17");
             }
-            let (answer, words) =
+            let reading =
                 answer::section(&load(file), section, place, budget, number(rest, 3, 0), number(rest, 4, u64::MAX));
-            print(&format!("{answer}\n{}", words_text(&words)));
+            print(&format!("{}\n{}", reading.answer, words_text(&reading.tape())));
         }
         ["lookup", file, name] => match answer::lookup(&load(file), name.as_bytes()) {
             Ok((start, length)) => println!("found {start} {length}"),
@@ -114,7 +108,7 @@ fn reading_text(pack: &[u8], budget: u64, tape: u64) -> String {
         out += &format!("  {} {} {}\n", i + 1, at.place, at.left);
     }
     if let Answer::Taken { .. } = reading.answer {
-        out += &words_text(&reading.words.concat());
+        out += &words_text(&reading.tape());
     }
     out
 }

@@ -523,7 +523,7 @@ impl Chance {
         self.next() % bound
     }
 
-    fn word(&mut self) -> u32 {
+    pub fn word(&mut self) -> u32 {
         // Small and large numbers alike.
         let bits = self.below(33);
         (self.next() & ((1 << bits) - 1)) as u32
@@ -533,11 +533,11 @@ impl Chance {
         self.word() as u16
     }
 
-    fn flag(&mut self) -> bool {
+    pub fn flag(&mut self) -> bool {
         self.below(2) == 1
     }
 
-    fn text(&mut self) -> String {
+    pub fn text(&mut self) -> String {
         let count = self.below(6);
         (0..count).map(|_| self.character()).collect()
     }
@@ -624,6 +624,51 @@ impl Chance {
             capture_types: self.transfers(),
             capture_slot_types: self.slots(),
             param_types: self.transfers(),
+        }
+    }
+
+    /// Any metadata; `function` takes its own from the fixed list.
+    pub fn metadata(&mut self) -> InstructionMetadata {
+        use InstructionMetadata as M;
+        match self.below(16) {
+            0 => M::None,
+            1 => M::ElemLayout { elem_bytes: self.word(), needs_sign_extend: self.flag(), slot_layout: self.slots() },
+            2 => M::MapGet { key_layout: self.slots(), val_layout: self.slots(), has_ok: self.flag() },
+            3 => M::MapSet { key_layout: self.slots(), val_layout: self.slots() },
+            4 => M::MapDelete { key_layout: self.slots() },
+            5 => M::LoopEnd { end_pc: self.word() },
+            6 => M::PtrLayout { value_layout: self.slots() },
+            7 => M::SlotLayout { array_len: self.short(), elem_layout: self.slots() },
+            8 => M::CallLayout { arg_layout: self.slots(), ret_layout: self.slots() },
+            9 => M::CallExternLayout { arg_layout: self.slots(), ret_layout: self.slots() },
+            10 => M::QueueLayout { elem_layout: self.slots() },
+            11 => M::MapIterNext { key_layout: self.slots(), val_layout: self.slots() },
+            12 => M::IfaceAssertLayout {
+                assert_kind: self.flag() as u8,
+                target_id: self.word(),
+                result_layout: self.slots(),
+            },
+            13 => M::MapNew { key_layout: self.slots(), val_layout: self.slots() },
+            14 => M::CallIfaceLayout {
+                iface_meta_id: self.word(),
+                method_idx: self.word(),
+                arg_layout: self.slots(),
+                ret_layout: self.slots(),
+            },
+            _ => M::SelectExecLayout { cases: self.list(4, Chance::select_case) },
+        }
+    }
+
+    fn select_case(&mut self) -> SelectCaseLayout {
+        if self.flag() {
+            SelectCaseLayout::Send { queue: self.short(), value: self.short(), elem_slots: self.short() }
+        } else {
+            SelectCaseLayout::Recv {
+                destination: self.short(),
+                queue: self.short(),
+                elem_slots: self.short(),
+                has_ok: self.flag(),
+            }
         }
     }
 

@@ -57,9 +57,8 @@ impl Book {
     /// A whole pack: the first `length` bytes of `buffer`, changed by `edit`. With `words` the tape is stored too.
     pub fn whole(&mut self, buffer: &[u8], length: usize, edit: Edit, budget: u64, tape: u64, words: bool) -> Answer {
         let reading = answer::read(&edit.apply(&buffer[..length]), budget, tape);
-        let tape_words = if reading.answer.number() == 0 { reading.words.concat() } else { Vec::new() };
         let call = SectionCall { number: 0, place: 0, budget, functions: 0, tape };
-        self.record(WHOLE, buffer, length, edit, call, &[], reading.answer.fields(), &tape_words, words);
+        self.record(WHOLE, buffer, length, edit, call, &[], reading.answer.fields(), &reading.tape(), words);
         reading.answer
     }
 
@@ -70,9 +69,9 @@ impl Book {
 
     pub fn section(&mut self, buffer: &[u8], edit: Edit, call: SectionCall, words: bool) -> Answer {
         let SectionCall { number, place, budget, functions, tape } = call;
-        let (answer, tape_words) = answer::section(&edit.apply(buffer), number, place, budget, functions, tape);
-        self.record(SECTION, buffer, buffer.len(), edit, call, &[], answer.fields(), &tape_words, words);
-        answer
+        let reading = answer::section(&edit.apply(buffer), number, place, budget, functions, tape);
+        self.record(SECTION, buffer, buffer.len(), edit, call, &[], reading.answer.fields(), &reading.tape(), words);
+        reading.answer
     }
 
     pub fn lookup(&mut self, pack: &[u8], name: &[u8]) {

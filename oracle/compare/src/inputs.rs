@@ -1,0 +1,397 @@
+//! The packs that are compared: written by the Rust, damaged, and lists that are gone through to their end.
+
+use crate::round::Class;
+use harness::answer::{self, opening_part, Reading, NO_END};
+use harness::cases;
+use harness::packs::{self, Chance};
+use original::bytecode::WellKnownTypes;
+use std::rc::Rc;
+
+/// A pack by the Rust's writer, of a few hundred bytes; some of them are wrong in what the writer leaves unasked.
+pub fn written(chance: &mut Chance) -> Vec<u8> {
+    let most = 1 + chance.below(3);
+    let mut m = chance.module(most);
+    for function in &mut m.functions {
+        for metadata in &mut function.instruction_metadata {
+            *metadata = chance.metadata();
+        }
+        if chance.below(16) == 0 {
+            spoil(function, chance);
+        }
+    }
+    // Half of the packs have most sections bare.
+    if chance.flag() {
+        let mut drop = || chance.below(4) != 0;
+        macro_rules! thin { ($($list:expr),*) => { $(if drop() { $list.clear(); })* } }
+        thin!(m.struct_metas, m.interface_metas, m.named_type_metas, m.itabs, m.runtime_types, m.constants, m.globals);
+        thin!(m.functions, m.artifacts, m.debug_info.files, m.debug_info.funcs);
+        thin!(m.debug_info.inline_sources.frames, m.debug_info.inline_sources.functions);
+        if drop() {
+            m.well_known = WellKnownTypes::default();
+        }
+    }
+    packs::bytes_of(&m)
+}
+
+fn spoil(function: &mut original::bytecode::FunctionDef, chance: &mut Chance) {
+    match chance.below(4) {
+        0 => function.local_slots ^= 1,
+        1 => function.instruction_metadata.push(chance.metadata()),
+        2 => drop(function.instruction_metadata.pop()),
+        _ => {
+            let lists = [&mut function.capture_types, &mut function.param_types];
+            for transfer in lists.into_iter().flatten() {
+                match chance.below(4) {
+                    0 => transfer.meta_raw |= 0xFFFF_FF00,
+                    1 => transfer.rttid_raw |= 0xFFFF_FF00,
+                    2 => transfer.rttid_raw |= 0x19,
+                    _ => transfer.meta_raw |= 0x80,
+                }
+            }
+        }
+    }
+}
+
+/// Words at the ends of ranges that a question has.
+fn edge_word(chance: &mut Chance, left: u32) -> u32 {
+    const EDGES: [u32; 24] = [
+        0,
+        1,
+        2,
+        3,
+        5,
+        6,
+        24,
+        25,
+        63,
+        64,
+        65,
+        127,
+        128,
+        129,
+        131_071,
+        131_072,
+        131_073,
+        16_777_216,
+        16_777_217,
+        0xFFFF_FE18,
+        0xFFFF_FF18,
+        0xFFFF_FF19,
+        0x7FFF_FFFF,
+        0xFFFF_FFFF,
+    ];
+    match chance.below(6) {
+        0 => left,
+        1 => left.wrapping_add(1),
+        2 => left / 14 + chance.below(2) as u32,
+        3 => chance.below(left as u64 + 1) as u32,
+        _ => EDGES[chance.below(EDGES.len() as u64) as usize],
+    }
+}
+
+/// Texts and payloads, and the places of count words, as the charges tell them.
+pub struct Marks {
+    pub texts: Vec<(usize, usize)>,
+    pub counts: Vec<usize>,
+}
+
+pub fn marks(reading: &Reading) -> Marks {
+    let mut marks = Marks { texts: Vec::new(), counts: Vec::new() };
+    for charge in &reading.charges {
+        match answer::charge_context(charge) {
+            1 | 9 | 10 => marks.texts.push((charge.place - charge.amount, charge.amount)),
+            2 | 6 | 8 => marks.counts.push(charge.place - 4),
+            _ => {}
+        }
+    }
+    marks
+}
+
+fn pick<T: Copy>(chance: &mut Chance, from: &[T]) -> Option<T> {
+    (!from.is_empty()).then(|| from[chance.below(from.len() as u64) as usize])
+}
+
+pub fn set_word(pack: &mut [u8], at: usize, word: u32) {
+    if let Some(bytes) = pack.get_mut(at..at + 4) {
+        bytes.copy_from_slice(&word.to_le_bytes());
+    }
+}
+
+/// Another text in the place of one, with its length word.
+pub fn set_text(pack: &mut Vec<u8>, (start, length): (usize, usize), text: &[u8]) {
+    pack.splice(start - 4..start + length, cases::text(text));
+}
+
+/// A damaged copy; `reading` is the whole pack's, without end of budget.
+pub fn damaged(pack: &[u8], reading: &Reading, chance: &mut Chance) -> Vec<u8> {
+    let mut out = pack.to_vec();
+    let marks = marks(reading);
+    // One change by what is known of the pack; changes after it may move that.
+    match chance.below(6) {
+        0 => {
+            if let Some(at) = pick(chance, &marks.counts) {
+                let left = (pack.len() - at - 4) as u32;
+                let old = u32::from_le_bytes(pack[at..at + 4].try_into().expect("four bytes"));
+                let word = match chance.below(3) {
+                    0 => old.wrapping_add(1),
+                    1 => old.wrapping_sub(1),
+                    _ => edge_word(chance, left),
+                };
+                set_word(&mut out, at, word);
+            }
+        }
+        1 | 2 => {
+            // A name repeated, blank, empty or ill-formed.
+            if let (Some(from), Some(to)) = (pick(chance, &marks.texts), pick(chance, &marks.texts)) {
+                let text = pack[from.0..from.0 + from.1].to_vec();
+                let text = match chance.below(8) {
+                    0 => b"_".to_vec(),
+                    1 => vec![],
+                    2 => [&text[..], &[chance.next() as u8]].concat(),
+                    3 => text[..text.len() / 2].to_vec(),
+                    _ => text,
+                };
+                set_text(&mut out, to, &text);
+            }
+        }
+        3 => {
+            if let Some(at) = reading.sections.get(10) {
+                set_word(&mut out, at.place, edge_word(chance, (pack.len() - at.place) as u32));
+            }
+        }
+        _ => {}
+    }
+    for _ in 0..chance.below(3) {
+        let at = chance.below(out.len() as u64 + 1) as usize;
+        let left = (out.len() - at) as u32;
+        match chance.below(8) {
+            0 if left > 0 => out[at] ^= 1 << chance.below(8),
+            1 if left > 0 => out[at] = chance.next() as u8,
+            2 if left > 0 => {
+                let values = cases::values(out[at]);
+                out[at] = values[chance.below(values.len() as u64) as usize];
+            }
+            3 => set_word(&mut out, at, edge_word(chance, left.saturating_sub(4))),
+            4 => {
+                let end = at + chance.below((left as u64).min(5) + 1) as usize;
+                out.drain(at..end);
+            }
+            5 => {
+                let bytes: Vec<u8> = (0..1 + chance.below(4)).map(|_| chance.below(26) as u8).collect();
+                out.splice(at..at, bytes);
+            }
+            6 => {
+                let end = at + chance.below((left as u64).min(16) + 1) as usize;
+                let repeat = out[at..end].to_vec();
+                out.splice(at..at, repeat);
+            }
+            _ => out.truncate(at),
+        }
+    }
+    out
+}
+
+/// The opening of one pack and the rest of another, parted at section starts or anywhere.
+pub fn spliced(first: (&[u8], &Reading), second: (&[u8], &Reading), chance: &mut Chance) -> Vec<u8> {
+    let section = chance.below(17) as usize;
+    let ((a, ar), (b, br)) = (first, second);
+    let (x, y) = match (ar.sections.get(section), br.sections.get(section)) {
+        (Some(x), Some(y)) if chance.below(4) != 0 => (x.place, y.place),
+        _ => (chance.below(a.len() as u64 + 1) as usize, chance.below(b.len() as u64 + 1) as usize),
+    };
+    [&a[..x], &b[y..]].concat()
+}
+
+/// A list of inputs that is gone through once, in an order that is spread over it.
+pub struct Family {
+    pub class: Class,
+    pub label: &'static str,
+    pub count: u64,
+    pub done: u64,
+    /// How many are taken at each turn.
+    pub share: u64,
+    make: Box<dyn Fn(u64) -> Vec<u8>>,
+}
+
+impl Family {
+    fn new(
+        class: Class,
+        label: &'static str,
+        turns: u64,
+        count: usize,
+        make: impl Fn(u64) -> Vec<u8> + 'static,
+    ) -> Self {
+        let count = count as u64;
+        Family { class, label, count, done: 0, share: count.div_ceil(turns), make: Box::new(make) }
+    }
+
+    pub fn next(&mut self) -> Option<Vec<u8>> {
+        // A prime above every count: each index is met once.
+        const STEP: u64 = 2_147_483_647;
+        (self.done < self.count).then(|| {
+            let index = (self.done as u128 * STEP as u128 % self.count as u128) as u64;
+            self.done += 1;
+            (self.make)(index)
+        })
+    }
+}
+
+/// Bytes at the ends of the ranges of UTF-8's table.
+const TEXT_EDGES: [u8; 24] = [
+    0x00, 0x41, 0x7F, 0x80, 0x8F, 0x90, 0x9F, 0xA0, 0xBF, 0xC0, 0xC1, 0xC2, 0xDF, 0xE0, 0xE1, 0xEC, 0xED, 0xEE, 0xEF,
+    0xF0, 0xF1, 0xF4, 0xF5, 0xFF,
+];
+const PACKED_EDGES: [u8; 9] = [0x00, 0x01, 0x0F, 0x10, 0x7F, 0x80, 0x81, 0x8F, 0xFF];
+
+/// The digits of `index` in the base of `from`'s length.
+fn digits(mut index: u64, from: &[u8], count: usize) -> Vec<u8> {
+    let base = from.len() as u64;
+    (0..count)
+        .map(|_| {
+            let digit = from[(index % base) as usize];
+            index /= base;
+            digit
+        })
+        .collect()
+}
+
+/// All inputs of at most two bytes.
+fn short(index: u64) -> Vec<u8> {
+    match index {
+        0 => vec![],
+        1..=256 => vec![(index - 1) as u8],
+        _ => ((index - 257) as u16).to_be_bytes().to_vec(),
+    }
+}
+
+const SHORT: usize = 1 + 256 + 65_536;
+
+/// The packs that other inputs are made from: each variant, each marked case, each limit.
+fn corpus() -> Vec<Vec<u8>> {
+    let mut all: Vec<Vec<u8>> = packs::small().into_iter().map(|pack| pack.bytes).collect();
+    all.extend([packs::full(), packs::with_extern()]);
+    for list in [cases::ends(), cases::marked(), cases::repeats(), cases::limits()] {
+        all.extend(list);
+    }
+    all
+}
+
+pub fn families() -> Vec<Family> {
+    let corpus = Rc::new(corpus());
+    let spread = |each: &dyn Fn(&[u8]) -> Vec<usize>| -> Vec<(usize, usize)> {
+        corpus.iter().enumerate().flat_map(|(i, pack)| each(pack).into_iter().map(move |at| (i, at))).collect()
+    };
+    let cuts = spread(&|pack| (0..pack.len()).collect());
+    // What is filled; the bare pack's own bytes have a list of their own.
+    let places = spread(&|pack| {
+        let filled = |byte: &u8| *byte != 0;
+        let first = pack.iter().skip(7).position(filled).map_or(pack.len(), |at| at + 3);
+        let last = pack.iter().rposition(filled).map_or(0, |at| at + 5);
+        (first..last.min(pack.len())).collect()
+    });
+    let counts = spread(&|pack| marks(&answer::read(pack, NO_END as u64, u64::MAX)).counts);
+    let bare = cases::bare();
+    let head = bare[..7].to_vec();
+
+    let edges: Vec<(usize, usize, u8)> = places
+        .iter()
+        .flat_map(|(pack, at)| cases::values(corpus[*pack][*at]).into_iter().map(move |value| (*pack, *at, value)))
+        .collect();
+
+    let from = || corpus.clone();
+    let (listed, cut, edged, changed, counted) = (from(), from(), from(), from(), from());
+    vec![
+        Family::new(Class::Listed, "the listed packs", 200, corpus.len(), move |i| listed[i as usize].clone()),
+        Family::new(Class::Short, "all inputs of at most two bytes", 50_000, SHORT, short),
+        Family::new(Class::Short, "magic, version and at most two bytes", 50_000, SHORT, move |i| {
+            [&head[..], &short(i)].concat()
+        }),
+        Family::new(Class::Byte, "the bare pack with any byte changed to any", 2_000, bare.len() * 256, move |i| {
+            let mut pack = bare.clone();
+            pack[i as usize / 256] = i as u8;
+            pack
+        }),
+        Family::new(Class::Cut, "each cut of the listed packs", 10_000, cuts.len(), move |i| {
+            let (pack, length) = cuts[i as usize];
+            cut[pack][..length].to_vec()
+        }),
+        Family::new(
+            Class::Byte,
+            "the listed packs with any byte at the ends of ranges",
+            4_000,
+            edges.len(),
+            move |i| {
+                let (pack, at, value) = edges[i as usize];
+                let mut pack = edged[pack].clone();
+                pack[at] = value;
+                pack
+            },
+        ),
+        Family::new(
+            Class::Byte,
+            "the listed packs with any byte changed to any",
+            100_000,
+            places.len() * 256,
+            move |i| {
+                let (pack, at) = places[i as usize / 256];
+                let mut pack = changed[pack].clone();
+                pack[at] = i as u8;
+                pack
+            },
+        ),
+        Family::new(
+            Class::Leaf,
+            "each count word of the listed packs at 32 values",
+            10_000,
+            counts.len() * 32,
+            move |i| {
+                let (pack, at) = counts[i as usize / 32];
+                let mut pack = counted[pack].clone();
+                let left = (pack.len() - at - 4) as u32;
+                let around = left / 14 + i as u32 % 4;
+                let word = match i % 32 {
+                    j @ 0..8 => (left + 4).wrapping_sub(j as u32),
+                    8..12 => around,
+                    j => edge_word(&mut Chance(i), j as u32),
+                };
+                set_word(&mut pack, at, word);
+                pack
+            },
+        ),
+        Family::new(Class::Leaf, "names of one and two bytes", 50_000, SHORT, |i| {
+            cases::with_section(1, 4, &cases::text(&short(i)))
+        }),
+        Family::new(Class::Leaf, "names of three bytes at the table's edges", 4_000, 24usize.pow(3), |i| {
+            cases::with_section(1, 4, &cases::text(&digits(i, &TEXT_EDGES, 3)))
+        }),
+        Family::new(Class::Leaf, "names of four bytes at the table's edges", 50_000, 24usize.pow(4), |i| {
+            cases::with_section(1, 4, &cases::text(&digits(i, &TEXT_EDGES, 4)))
+        }),
+        Family::new(Class::Leaf, "packed numbers of five bytes at their edges", 20_000, 9usize.pow(5), |i| {
+            let location = [&[1, 0, 0, 0, 1, 0, 0, 0][..], &digits(i, &PACKED_EDGES, 5), &[0; 4]].concat();
+            cases::with_section(16, 4, &location)
+        }),
+        Family::new(Class::Leaf, "packed words of each low byte in each of their kinds", 2_000, 4 * 4 * 256, |i| {
+            let id = [0, 1, 0xFFFFFE, 0xFFFFFF][i as usize / 256 % 4];
+            packed_word(i as usize / 1024, id << 8 | i as u32 % 256)
+        }),
+    ]
+}
+
+/// A pack with this word as meta or rttid of a named type, or as a transfer word.
+fn packed_word(kind: usize, word: u32) -> Vec<u8> {
+    let mut words = [0, 0];
+    words[kind % 2] = word;
+    let words: Vec<u8> = words.iter().flat_map(|word| u32::to_le_bytes(*word)).collect();
+    if kind < 2 {
+        return cases::with_section(4, 4, &[&[1, 0, 0, 0, 0, 0, 0, 0][..], &words, &[0; 4]].concat());
+    }
+    // A bare function but for its last list.
+    let opening = opening_part(11, 1);
+    let mut pack = opening[..opening.len() - 4].to_vec();
+    pack.extend([1, 0, 0, 0]);
+    pack.extend(&words);
+    pack.extend([0; 2]);
+    pack.resize(pack.len() + 112 - 80, 0);
+    pack
+}

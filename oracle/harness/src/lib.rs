@@ -1,0 +1,8 @@
+//! What the oracle answers, the packs it is asked about, and the lists of stored answers.
+
+pub mod answer;
+pub mod cases;
+pub mod packs;
+pub mod record;
+pub mod sizes;
+mod words;
