@@ -1,9 +1,10 @@
 //! The packs that are compared: written by the Rust, damaged, and lists that are gone through to their end.
 
 use crate::round::Class;
-use harness::answer::{self, opening_part, Reading, NO_END};
+use harness::answer::{self, opening_part, Reading, BARE, NO_END, RUST_BUDGET};
 use harness::cases;
 use harness::packs::{self, Chance};
+use measured::serialize::MAX_VOB_BYTES;
 use original::bytecode::WellKnownTypes;
 use std::rc::Rc;
 
@@ -50,6 +51,74 @@ fn spoil(function: &mut original::bytecode::FunctionDef, chance: &mut Chance) {
             }
         }
     }
+}
+
+/// A pack of some thousand bytes that fills one kind of list: hundreds of names in one table, for one.
+pub fn wide(chance: &mut Chance) -> Vec<u8> {
+    let kind = ["mixed", "names", "slots", "texts", "code"][chance.below(5) as usize];
+    let size = 3_000 + chance.below(5_000) as usize;
+    packs::large(kind, size, chance.next()).expect("a known kind and size enough")
+}
+
+/// Packs at the limits that only a long one reaches.
+pub fn long() -> Vec<Vec<u8>> {
+    let payload = 16_777_216;
+    let artifacts = |payloads: &[usize]| {
+        let mut out = opening_part(14, 0);
+        out.extend((payloads.len() as u32).to_le_bytes());
+        for length in payloads {
+            out.extend(
+                [cases::text(b"p"), 7u32.to_le_bytes().to_vec(), (*length as u32).to_le_bytes().to_vec()].concat(),
+            );
+            out.resize(out.len() + length, 0);
+        }
+        out.resize(out.len() + BARE[14..].iter().sum::<usize>(), 0);
+        out
+    };
+    let mut most = vec![payload; 8];
+    most[7] = MAX_VOB_BYTES - artifacts(&[&most[..7], &[0]].concat()).len();
+    let longest = artifacts(&most);
+    let past = [&longest[..], &[0]].concat();
+
+    // Counts that claim all bytes left: at the Rust's budget and one past it.
+    let counting = |number: usize, count: usize, rest: &[u8]| {
+        [&opening_part(number, 0)[..], &(count as u32).to_le_bytes(), rest].concat()
+    };
+    let functions = |count: usize| counting(10, count, &vec![0; count]);
+    let nested = |left: usize| {
+        let inner = |count: usize| (count as u32).to_le_bytes();
+        let head = [&[0; 40][..], &inner(left - 44), &[18], &inner(left - 49)].concat();
+        counting(10, left, &[&head[..], &vec![0; left - 49]].concat())
+    };
+    let unpaid = RUST_BUDGET as usize / 240 + 1;
+    let unpaid_nested = (RUST_BUDGET as usize + 64 * 44 + 8 * 49) / 312 + 1;
+
+    // All frames and entries that there may be, and one entry more.
+    let inline = |frames: usize, last: u32| {
+        let limit = 131_072;
+        let mut out = opening_part(17, 2);
+        out.extend((frames as u32).to_le_bytes());
+        out.resize(out.len() + 9 * frames, 0);
+        out.extend([2, 0, limit].map(u32::to_le_bytes).concat());
+        out.resize(out.len() + 8 * limit as usize, 0);
+        out.extend([1, last].map(u32::to_le_bytes).concat());
+        out.resize(out.len() + 8 * last as usize, 0);
+        out
+    };
+    vec![
+        vec![0; MAX_VOB_BYTES],
+        vec![0; MAX_VOB_BYTES + 1],
+        longest,
+        past,
+        artifacts(&[payload]),
+        artifacts(&[payload + 1]),
+        functions(unpaid),
+        functions(unpaid - 1),
+        nested(unpaid_nested),
+        nested(unpaid_nested - 1),
+        inline(131_072, 0),
+        inline(0, 1),
+    ]
 }
 
 /// Words at the ends of ranges that a question has.

@@ -26,7 +26,7 @@ pub enum Class {
     Leaf,
     /// The packs of the stored lists.
     Listed,
-    /// At the longest length and past it.
+    /// At limits that only a long pack reaches.
     Long,
     /// Starting budgets around the sum of each opening part of the charge list.
     Budget,
@@ -43,6 +43,8 @@ const NUMBERS: usize = 28;
 
 /// A derived answer in so many is asked of the Rust itself.
 const RUN_AFTER: u64 = 8;
+/// The longest pack that is run a second time: the self-check writes it out as text.
+const LONGEST_RUN: usize = 1 << 20;
 /// The turn at which the few inputs come that take a tenth of a second each.
 const SLOW_TURN: u64 = 200;
 
@@ -146,7 +148,8 @@ impl<'r> Round<'r> {
     fn turn(&mut self, turn: u64) -> Go {
         let pack = inputs::written(&mut self.chance);
         let other = inputs::written(&mut self.chance);
-        let reading = self.input(Class::Written, &pack, Effort { budgets: 12, tapes: 4, sections: 6, lookups: 4 })?;
+        let all = Effort { budgets: 12, tapes: 4, sections: 6, lookups: 4 };
+        let reading = self.input(Class::Written, &pack, all)?;
         let second = answer::read(&other, NO_END as u64, u64::MAX);
         let some = Effort { budgets: 4, tapes: 1, sections: 1, lookups: 0 };
         for i in 0..8 {
@@ -160,6 +163,14 @@ impl<'r> Round<'r> {
         for _ in 0..4 {
             let length = self.chance.below(pack.len() as u64) as usize;
             self.input(Class::Cut, &pack[..length], some)?;
+        }
+        if turn % 16 == 0 {
+            let pack = inputs::wide(&mut self.chance);
+            let reading = self.input(Class::Written, &pack, Effort { lookups: 0, ..all })?;
+            for _ in 0..4 {
+                let damaged = inputs::damaged(&pack, &reading, &mut self.chance);
+                self.input(Class::Damaged, &damaged, some)?;
+            }
         }
         for i in 0..self.families.len() {
             for j in 0..self.families[i].share {
@@ -296,20 +307,15 @@ impl<'r> Round<'r> {
         Ok(())
     }
 
-    /// The longest length and one byte more.
+    /// Packs of up to the longest length and one byte more; sections where the oracle's opening part fits too.
     fn long(&mut self) -> Go {
-        for length in [MAX_VOB_BYTES, MAX_VOB_BYTES + 1] {
-            let pack = vec![0; length];
-            self.bench.pack.fill(&pack);
-            let mut calls = vec![Call::Whole { budget: 7, tape: 3 }, Call::Lookup { name: vec![] }];
-            if length > MAX_VOB_BYTES {
-                let section = |number| Call::Section { number, place: 9, budget: 7, functions: 1, tape: 3 };
-                calls.extend((1..=17).map(section));
-                calls.push(Call::Section { number: 1, place: u64::MAX, budget: 7, functions: 1, tape: 3 });
-            }
-            for call in calls {
-                let (expected, words) = call.expected(&pack);
-                self.case(Class::Long, &pack, call, expected, &words)?;
+        for pack in inputs::long() {
+            self.input(Class::Long, &pack, Effort { budgets: 4, tapes: 2, sections: 0, lookups: 1 })?;
+            if pack.len() > MAX_VOB_BYTES {
+                for number in 1..=17 {
+                    self.section(&pack, number, 9, 1)?;
+                }
+                self.section(&pack, 1, u64::MAX, 1)?;
             }
         }
         Ok(())
@@ -327,7 +333,7 @@ impl<'r> Round<'r> {
 
     /// One case. Now and then the oracle is run on just this call, to check what was derived.
     fn case(&mut self, class: Class, pack: &[u8], call: Call, expected: Fields, words: &[u32]) -> Go {
-        if self.cases % RUN_AFTER == 0 {
+        if self.cases % RUN_AFTER == 0 && pack.len() <= LONGEST_RUN {
             let (answer, tape) = call.expected(pack);
             assert_eq!(answer, expected, "what was derived for {call} is not what the oracle says");
             assert!(answer[0] != 0 || tape == words, "the words of {call} are not what the oracle says");
