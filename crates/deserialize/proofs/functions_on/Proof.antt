@@ -3,8 +3,8 @@ use Rattle.reader.proofs.Laws.{at-step, numberThen}
 use Rattle.vob24.specs.Settings.{settings}
 use Rattle.vob24.specs.Grammar.{section, afterFunctions}
 use borrow.Author.Needs.{needs}
-use Rattle.serialize.proofs.functions_on.Statement.{statement}
-use Rattle.serialize.proofs.functions_on.Tie as tie
+use Rattle.deserialize.proofs.functions_on.Statement.{statement}
+use Rattle.deserialize.proofs.functions_on.Tie as tie
 
 enum-known-r : tie.Need-enum-known-r
 enum-known-r c = search needs

@@ -1,8 +1,8 @@
 use Rattle.reader.proofs.Laws.{fieldThen}
 use Rattle.vob24.specs.Grammar.{section, afterFunctions}
 use borrow.Author.Needs.{needs}
-use Rattle.serialize.proofs.after_functions.Statement.{statement}
-use Rattle.serialize.proofs.after_functions.Tie as tie
+use Rattle.deserialize.proofs.after_functions.Statement.{statement}
+use Rattle.deserialize.proofs.after_functions.Tie as tie
 
 externs-requires : tie.Need-externs-requires
 externs-requires c κs = search needs

@@ -1,8 +1,8 @@
 use Rattle.reader.proofs.Reading.{reading}
 use Rattle.vob24.specs.Grammar.{section, sections, pack}
 use borrow.Author.Needs.{needs}
-use Rattle.serialize.proofs.deserialize.Statement.{statement}
-use Rattle.serialize.proofs.deserialize.Tie as tie
+use Rattle.deserialize.proofs.deserialize.Statement.{statement}
+use Rattle.deserialize.proofs.deserialize.Tie as tie
 
 field-magic-requires : tie.Need-field-magic-requires
 field-magic-requires c κs = search needs

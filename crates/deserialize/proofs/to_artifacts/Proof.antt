@@ -1,8 +1,8 @@
 use Rattle.vob24.specs.Grammar.{section}
-use Rattle.serialize.proofs.Laws.{reaches}
+use Rattle.deserialize.proofs.Laws.{reaches}
 use borrow.Author.Needs.{needs}
-use Rattle.serialize.proofs.to_artifacts.Statement.{statement}
-use Rattle.serialize.proofs.to_artifacts.Tie as tie
+use Rattle.deserialize.proofs.to_artifacts.Statement.{statement}
+use Rattle.deserialize.proofs.to_artifacts.Tie as tie
 
 field-magic-requires : tie.Need-field-magic-requires
 field-magic-requires c κs = search needs

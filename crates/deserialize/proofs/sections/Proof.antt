@@ -1,8 +1,8 @@
 use Rattle.reader.proofs.Laws.{fieldThen}
 use Rattle.vob24.specs.Grammar.{section, sections, pack}
 use borrow.Author.Needs.{needs}
-use Rattle.serialize.proofs.sections.Statement.{statement}
-use Rattle.serialize.proofs.sections.Tie as tie
+use Rattle.deserialize.proofs.sections.Statement.{statement}
+use Rattle.deserialize.proofs.sections.Tie as tie
 
 field-str-requires : tie.Need-field-str-requires
 field-str-requires c κs = search needs

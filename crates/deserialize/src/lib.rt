@@ -1,0 +1,87 @@
+// The whole pack: magic, version and the seventeen sections, in file order.
+// Ports Module::deserialize of serialize.rs.
+ghost use Rattle.format.specs.Format.{Format, counted};
+ghost use Rattle.vob24.specs.Settings.{settings};
+ghost use Rattle.vob24.specs.Grammar.{afterFunctions, section, functions as functionsSection, sections as sectionsFormat, pack as packFormat};
+ghost use Rattle.reader.specs.Contract.{Ready, Reader};
+ghost use Rattle.deserialize.specs.Reach.{Reaches};
+use reader::Number;
+use reader::Step;
+
+// The sections after the functions, by the number of functions.
+fn after_functions(s: &[u8], r: Step, functions: u64, tape: &mut [u32]) -> Step
+    requires { ⌜ Ready (now s) r ⌝ }
+    ensures { λ q. ⌜ Reader (afterFunctions settings functions) (now (s .entry)) r (now (tape .entry)) q (now (tape .exit)) ⌝ }
+{
+    let r1 = tables::externs(s, r, tape);
+    let r2 = tables::entry(s, r1, tape);
+    let r3 = tables::island_init(s, r2, tape);
+    let r4 = tables::artifacts(s, r3, tape);
+    let r5 = debug_info::files(s, r4, tape);
+    let r6 = debug_info::function_locations(s, r5, tape);
+    debug_info::inline_sources(s, r6, functions, tape)
+}
+
+// The functions, and the sections after them.
+fn functions_on(s: &[u8], r: Step, tape: &mut [u32]) -> Step
+    requires { ⌜ Ready (now s) r ⌝ }
+    ensures { λ q. ⌜ Reader (Format.seq (section settings 0 functionsSection) (λ v. afterFunctions settings (counted v))) (now (s .entry)) r (now (tape .entry)) q (now (tape .exit)) ⌝ }
+{
+    let Step::Taken(c) = r else {
+        return r;
+    };
+    let q = functions::number_functions(s, c, tape);
+    let Number::Got(n, d) = q else {
+        return reader::refused(q);
+    };
+    after_functions(s, Step::Taken(d), n, tape)
+}
+
+// All sections, in file order.
+fn sections(s: &[u8], r: Step, tape: &mut [u32]) -> Step
+    requires { ⌜ Ready (now s) r ⌝ }
+    ensures { λ q. ⌜ Reader (sectionsFormat settings) (now (s .entry)) r (now (tape .entry)) q (now (tape .exit)) ⌝ }
+{
+    let r1 = fields::field_str(s, r, tape);
+    let r2 = structs::structs(s, r1, tape);
+    let r3 = interfaces::interfaces(s, r2, tape);
+    let r4 = interfaces::named_types(s, r3, tape);
+    let r5 = tables::itabs(s, r4, tape);
+    let r6 = runtime_type::runtime_types(s, r5, tape);
+    let r7 = tables::well_known(s, r6, tape);
+    let r8 = tables::constants(s, r7, tape);
+    let r9 = tables::globals(s, r8, tape);
+    functions_on(s, r9, tape)
+}
+
+// The whole pack, up to the question of what comes after it.
+pub fn deserialize(s: &[u8], r: Step, tape: &mut [u32]) -> Step
+    requires { ⌜ Ready (now s) r ⌝ }
+    ensures { λ q. ⌜ Reader (packFormat settings) (now (s .entry)) r (now (tape .entry)) q (now (tape .exit)) ⌝ }
+{
+    let r1 = fields::field_magic(s, r, tape);
+    let r2 = fields::field_version(s, r1, tape);
+    sections(s, r2, tape)
+}
+
+// On to the artifacts of a pack that is taken.
+pub fn to_artifacts(s: &[u8], r: Step, tape: &mut [u32]) -> Step
+    requires { ⌜ Ready (now s) r ⌝ }
+    ensures { λ q. ⌜ Reaches (now (s .entry)) r q ⌝ }
+{
+    let r1 = fields::field_magic(s, r, tape);
+    let r2 = fields::field_version(s, r1, tape);
+    let r3 = fields::field_str(s, r2, tape);
+    let r4 = structs::structs(s, r3, tape);
+    let r5 = interfaces::interfaces(s, r4, tape);
+    let r6 = interfaces::named_types(s, r5, tape);
+    let r7 = tables::itabs(s, r6, tape);
+    let r8 = runtime_type::runtime_types(s, r7, tape);
+    let r9 = tables::well_known(s, r8, tape);
+    let r10 = tables::constants(s, r9, tape);
+    let r11 = tables::globals(s, r10, tape);
+    let r12 = functions::functions(s, r11, tape);
+    let r13 = tables::externs(s, r12, tape);
+    let r14 = tables::entry(s, r13, tape);
+    tables::island_init(s, r14, tape)
+}

@@ -1,0 +1,40 @@
+// Runs the readers of crate tables on parts of packs: itabs, well-known ids, constants, globals, externs, entry, island init and artifacts.
+// Prints a line for each part; stdout holds what the oracle answers.
+use reader::Step;
+ghost use Rattle.reader.specs.Contract.{Ready};
+
+fn read(which: u64, s: &[u8], r: Step, tape: &mut [u32]) -> Step
+    requires { ⌜ Ready (now s) r ⌝ }
+{
+    match which {
+        1 => tables::itabs(s, r, tape),
+        2 => tables::well_known(s, r, tape),
+        3 => tables::constants(s, r, tape),
+        4 => tables::globals(s, r, tape),
+        5 => tables::externs(s, r, tape),
+        6 => tables::entry(s, r, tape),
+        7 => tables::island_init(s, r, tape),
+        _ => tables::artifacts(s, r, tape),
+    }
+}
+
+fn part(h: &[u8], pack: &[u8], tape: &mut [u32]) {
+    let r = parts::start(h, pack);
+    let q = read(parts::which(h), pack, r, tape);
+    parts::show(q, tape);
+}
+
+fn main() {
+    let mut header = [0u8; 32];
+    let mut pack = [0u8; 2048];
+    let mut tape = [0u32; 2048];
+    // A proved loop has to end, and nothing says that the input does.
+    let mut turns = u64::MAX;
+    while turns > 0 {
+        if !parts::next(&mut header, &mut pack) {
+            return;
+        }
+        part(&header, parts::pack_of(&header, &pack), &mut tape);
+        turns -= 1;
+    }
+}
