@@ -54,7 +54,9 @@ static int print(const uint8_t *pack, size_t length, uint32_t *tape)
     if (whole.number != VOB_TAKEN)
         return refused(whole);
     /* The tape opens with the name: start and length. */
-    printf("%-20s %.*s\n", "name", (int)tape[1], (const char *)pack + tape[0]);
+    printf("%-20s ", "name");
+    fwrite(pack + tape[0], 1, tape[1], stdout);
+    putchar('\n');
 
     uint64_t place = VOB_FIRST_SECTION;
     uint64_t left = VOB_STARTING_BUDGET;

@@ -1,4 +1,4 @@
--- Every refusal has one of document 01's numbers, 1 to 27: 0 in an exported answer is taken or found, and nothing else.
+-- Every refusal has one of document 01's numbers, 1 to 27, so that 0 in an exported answer says taken or found, and nothing else.
 use Prim.Native.Nat.{ℕ, suc, zero, _+_, _-_, _%_, _≤_}
 use mathlib.Core.Path.{_≡_, refl}
 use mathlib.Core.List.{List, [], _∷_, _++_}
@@ -19,12 +19,16 @@ use Rattle.vob24.specs.Grammar as g
 use Rattle.vob24.specs.Grammar.{Section, name, structs, interfaces, namedTypes, itabs, runtimeTypes, wellKnown, constants, globals, functions, externs, entry, islandInit, artifacts, files, functionLocations, inlineSources}
 use Rattle.vob24.specs.Calls as vob
 use Rattle.vob24.specs.Cost.{partOf}
+use Rattle.exports.specs.Export.{numbersOf, foundNumbers}
+
+abbrev lastNumber : ℕ
+lastNumber = Refusals.noSuchArtifact
 
 pub record Listed (w : Wrong) : Type 0 where
   pub least : 1 ≤ w .number
-  pub most : w .number ≤ 27
+  pub most : w .number ≤ lastNumber
 
-listed : {w : Wrong} → leb 1 (w .number) ≡ true → leb (w .number) 27 ≡ true → Listed w
+listed : {w : Wrong} → leb 1 (w .number) ≡ true → leb (w .number) lastNumber ≡ true → Listed w
 listed a b = record { least = leb→le _ _ (rw a tt); most = leb→le _ _ (rw b tt) }
 
 -- A trace whose stops are listed.
@@ -74,7 +78,7 @@ ruled-free = record { why = λ n e. let no : _≡_ {A = ℕ} 0 1 = cc in absurd 
 ruled : {r : Rule} → ((n : ℕ) → Listed (r .why n)) → Ruled r
 ruled h = record { why = λ n _. h n }
 
-ruled-packed : (e : ℕ) → leb 1 e ≡ true → leb e 27 ≡ true → Ruled (packedWord e)
+ruled-packed : (e : ℕ) → leb 1 e ≡ true → leb e lastNumber ≡ true → Ruled (packedWord e)
 unfolding pick
 ruled-packed e h k = record { why = λ n _. go n (kindOk n) }
   where
@@ -349,3 +353,12 @@ module _ (set : Settings) where
       go : {r : Settled Value} → Settles r → Looked (vob.looking x r)
       go (refuses h) = missed h
       go (takes {v = v} {p = p} {l = l}) = looks x (entries (partOf artifacts v)) p l
+
+-- What 0 says in an exported answer.
+pub zero-taken : {a : vob.Answer} → Answered a → numbersOf a .number ≡ 0 → (w : ℕ) × (n : ℕ) × (c : ℕ) × (l : ℕ) × (a ≡ vob.Taken w n c l)
+zero-taken (taken {w = w} {n = n} {c = c} {l = l}) e = (w, n, c, l, refl)
+zero-taken (refused h) e = absurd (omega (arith, h .least, e))
+
+pub zero-found : {a : vob.Found} → Looked a → foundNumbers a .number ≡ 0 → (p : ℕ) × (n : ℕ) × (a ≡ vob.At p n)
+zero-found (found {p = p} {n = n}) e = (p, n, refl)
+zero-found (missed h) e = absurd (omega (arith, h .least, e))
