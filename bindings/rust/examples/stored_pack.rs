@@ -1,4 +1,4 @@
-//! stored_pack LIST: writes the longest pack that is taken in a list of stored answers to standard output.
+//! stored_pack LIST: of the packs that are taken in a list of stored answers, the one with the most words, to standard output.
 
 #[expect(dead_code)]
 #[path = "../tests/stored/mod.rs"]
@@ -10,11 +10,11 @@ use std::path::PathBuf;
 
 fn main() -> io::Result<()> {
     let list = env::args_os().nth(1).map(PathBuf::from).ok_or(io::Error::other("usage: stored_pack LIST"))?;
-    let mut longest = Vec::new();
+    let (mut pack, mut words) = (Vec::new(), 0);
     stored::each(&list, |record| {
-        if record.kind == stored::WHOLE && !record.refused && longest.len() < record.pack.len() {
-            longest = record.pack;
+        if record.kind == stored::WHOLE && words < record.count {
+            (pack, words) = (record.pack, record.count);
         }
     });
-    io::stdout().write_all(&longest)
+    io::stdout().write_all(&pack)
 }
