@@ -3,7 +3,7 @@
 use harness::answer::{self, Answer};
 
 /// An answer as the archive gives it. Taken: 0, words, bytes, charged, left, 0. Refused: number, c, d1, d2, place, left.
-/// A lookup's finding: 0, start, length, 0, 0, 0.
+/// Found: 0, start, length, 0, 0, 0.
 pub type Fields = [u64; 6];
 
 pub fn fields(answer: Answer) -> Fields {

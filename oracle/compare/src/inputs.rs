@@ -124,30 +124,8 @@ pub fn long() -> Vec<Vec<u8>> {
 /// Words at the ends of ranges that a question has.
 fn edge_word(chance: &mut Chance, left: u32) -> u32 {
     const EDGES: [u32; 24] = [
-        0,
-        1,
-        2,
-        3,
-        5,
-        6,
-        24,
-        25,
-        63,
-        64,
-        65,
-        127,
-        128,
-        129,
-        131_071,
-        131_072,
-        131_073,
-        16_777_216,
-        16_777_217,
-        0xFFFF_FE18,
-        0xFFFF_FF18,
-        0xFFFF_FF19,
-        0x7FFF_FFFF,
-        0xFFFF_FFFF,
+        0, 1, 2, 3, 5, 6, 24, 25, 63, 64, 65, 127, 128, 129, 131_071, 131_072, 131_073, 16_777_216, 16_777_217,
+        0xFFFFFE18, 0xFFFFFF18, 0xFFFFFF19, 0x7FFFFFFF, 0xFFFFFFFF,
     ];
     match chance.below(6) {
         0 => left,
@@ -442,7 +420,7 @@ pub fn families() -> Vec<Family> {
         }),
         Family::new(Class::Leaf, "packed words of each low byte in each of their kinds", 2_000, 4 * 4 * 256, |i| {
             let id = [0, 1, 0xFFFFFE, 0xFFFFFF][i as usize / 256 % 4];
-            packed_word(i as usize / 1024, id << 8 | i as u32 % 256)
+            packed_word(i as usize / 1024, (id << 8) | (i as u32 % 256))
         }),
     ]
 }
@@ -461,6 +439,6 @@ fn packed_word(kind: usize, word: u32) -> Vec<u8> {
     pack.extend([1, 0, 0, 0]);
     pack.extend(&words);
     pack.extend([0; 2]);
-    pack.resize(pack.len() + 112 - 80, 0);
+    pack.resize(pack.len() + BARE[10..].iter().sum::<usize>(), 0);
     pack
 }

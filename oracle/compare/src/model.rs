@@ -776,7 +776,8 @@ impl<'a> Cursor<'a> {
         let mut seen = BTreeMap::new();
         for (start, name) in names {
             let earlier = seen.get(&self.key(name)).copied();
-            if !self.is(Mistake::KeysFirst) && !(self.is(Mistake::KeySkipped) && earlier.is_some()) {
+            let skipped = self.is(Mistake::KeySkipped) && earlier.is_some();
+            if !skipped && !self.is(Mistake::KeysFirst) {
                 self.charge(4, name.len() as u64)?;
             }
             if let Some(earlier) = earlier {

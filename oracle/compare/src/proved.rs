@@ -14,7 +14,14 @@ macro_rules! archive {
             fn vob_read(pack: *const u8, length: usize, budget: u64, tape: *mut u32, room: usize) -> Answer;
             fn vob_find_artifact(pack: *const u8, length: usize, name: *const u8, name_length: usize) -> Answer;
             fn vob_charge_size(number: u64) -> u64;
-            $(fn $section(pack: *const u8, length: usize, place: u64, budget: u64, tape: *mut u32, room: usize) -> Answer;)*
+            $(fn $section(
+                pack: *const u8,
+                length: usize,
+                place: u64,
+                budget: u64,
+                tape: *mut u32,
+                room: usize,
+            ) -> Answer;)*
             fn vob_inline_sources(
                 pack: *const u8,
                 length: usize,

@@ -164,7 +164,7 @@ impl<'r> Round<'r> {
             let length = self.chance.below(pack.len() as u64) as usize;
             self.input(Class::Cut, &pack[..length], some)?;
         }
-        if turn % 16 == 0 {
+        if turn.is_multiple_of(16) {
             let pack = inputs::wide(&mut self.chance);
             let reading = self.input(Class::Written, &pack, Effort { lookups: 0, ..all })?;
             for _ in 0..4 {
@@ -333,7 +333,7 @@ impl<'r> Round<'r> {
 
     /// One case. Now and then the oracle is run on just this call, to check what was derived.
     fn case(&mut self, class: Class, pack: &[u8], call: Call, expected: Fields, words: &[u32]) -> Go {
-        if self.cases % RUN_AFTER == 0 && pack.len() <= LONGEST_RUN {
+        if self.cases.is_multiple_of(RUN_AFTER) && pack.len() <= LONGEST_RUN {
             let (answer, tape) = call.expected(pack);
             assert_eq!(answer, expected, "what was derived for {call} is not what the oracle says");
             assert!(answer[0] != 0 || tape == words, "the words of {call} are not what the oracle says");
@@ -345,7 +345,7 @@ impl<'r> Round<'r> {
         }
         self.counts[class as usize][expected[0] as usize] += 1;
         let late = || self.until.is_some_and(|until| Instant::now() >= until);
-        if self.cases >= self.most || (self.cases % 1024 == 0 && late()) {
+        if self.cases >= self.most || (self.cases.is_multiple_of(1024) && late()) {
             return Err(Stop::Enough);
         }
         Ok(())
