@@ -1,9 +1,11 @@
 -- What the exported calls return: document 01's answers as six numbers.
 use Prim.Native.Nat.{ℕ}
-use mathlib.Core.Path.{_≡_}
+use mathlib.Core.Path.{_≡_, refl}
 use mathlib.Core.List.{List}
+use native.Mathlib.Omega.{arith}
 use Rattle.format.specs.Trace.{Wrong}
 use Rattle.vob24.specs.Calls as vob
+use Rattle.vob24.specs.Numbered.{Answered, taken, refused, Looked, found, missed}
 use Rattle.exports.specs.declared.VobAnswer.{VobAnswer}
 
 abbrev refusedNumbers : Wrong → ℕ → ℕ → VobAnswer
@@ -23,3 +25,12 @@ foundNumbers (vob.Not w p l) = refusedNumbers w p l
 pub record Shows (o : vob.Outcome) (q : VobAnswer) (t′ : List ℕ) : Type 0 where
   pub answer : q ≡ numbersOf (o .answer)
   pub tape : t′ ≡ o .tape
+
+-- 0 says taken or found, and nothing else: no refusal has that number (vob24, Numbered).
+pub zero-taken : {a : vob.Answer} → Answered a → numbersOf a .number ≡ 0 → (w : ℕ) × (n : ℕ) × (c : ℕ) × (l : ℕ) × (a ≡ vob.Taken w n c l)
+zero-taken (taken {w = w} {n = n} {c = c} {l = l}) e = (w, n, c, l, refl)
+zero-taken (refused h) e = absurd (omega (arith, h .least, e))
+
+pub zero-found : {a : vob.Found} → Looked a → foundNumbers a .number ≡ 0 → (p : ℕ) × (n : ℕ) × (a ≡ vob.At p n)
+zero-found (found {p = p} {n = n}) e = (p, n, refl)
+zero-found (missed h) e = absurd (omega (arith, h .least, e))

@@ -1,2 +1,1 @@
 pub mod Export
-pub mod Numbered

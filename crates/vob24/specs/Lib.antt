@@ -23,3 +23,4 @@ pub mod Calling
 pub mod Theorems
 pub mod Lookup
 pub mod InTurn
+pub mod Numbered

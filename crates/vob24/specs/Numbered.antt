@@ -1,4 +1,4 @@
--- Every refusal has one of document 01's numbers, 1 to 27, so that 0 in an exported answer says taken or found, and nothing else.
+-- Demand 1: every refusal of a call has one of document 01's numbers, 1 to 27.
 use Prim.Native.Nat.{ℕ, suc, zero, _+_, _-_, _%_, _≤_}
 use mathlib.Core.Path.{_≡_, refl}
 use mathlib.Core.List.{List, [], _∷_, _++_}
@@ -11,15 +11,14 @@ use Rattle.format.specs.Trace as of
 use Rattle.format.specs.Format.{Value, number, start, content, first, second, Rule, Width, Ask, pay, deny, fixed, mark, packed, string, payload, count, ask, Format, empty, leaf, seq, _▸_, chain, entries}
 use Rattle.format.specs.Reading.{little, same, room, field, packedStep, tracePacked, traceAsk, traceLeaf, trace}
 use Rattle.format.specs.Record.{words}
 use Rattle.vob24.specs.Refusals
 use Rattle.vob24.specs.Settings.{Settings, startingBudget}
 use Rattle.vob24.specs.Leaves.{free, kindOk, packedWord, choose}
 use Rattle.vob24.specs.Questions
 use Rattle.vob24.specs.Grammar as g
 use Rattle.vob24.specs.Grammar.{Section, name, structs, interfaces, namedTypes, itabs, runtimeTypes, wellKnown, constants, globals, functions, externs, entry, islandInit, artifacts, files, functionLocations, inlineSources}
 use Rattle.vob24.specs.Calls as vob
 use Rattle.vob24.specs.Cost.{partOf}
-use Rattle.exports.specs.Export.{numbersOf, foundNumbers}
 
 abbrev lastNumber : ℕ
 lastNumber = Refusals.noSuchArtifact
@@ -353,12 +352,3 @@ module _ (set : Settings) where
       go : {r : Settled Value} → Settles r → Looked (vob.looking x r)
       go (refuses h) = missed h
       go (takes {v = v} {p = p} {l = l}) = looks x (entries (partOf artifacts v)) p l
-
--- What 0 says in an exported answer.
-pub zero-taken : {a : vob.Answer} → Answered a → numbersOf a .number ≡ 0 → (w : ℕ) × (n : ℕ) × (c : ℕ) × (l : ℕ) × (a ≡ vob.Taken w n c l)
-zero-taken (taken {w = w} {n = n} {c = c} {l = l}) e = (w, n, c, l, refl)
-zero-taken (refused h) e = absurd (omega (arith, h .least, e))
-
-pub zero-found : {a : vob.Found} → Looked a → foundNumbers a .number ≡ 0 → (p : ℕ) × (n : ℕ) × (a ≡ vob.At p n)
-zero-found (found {p = p} {n = n}) e = (p, n, refl)
-zero-found (missed h) e = absurd (omega (arith, h .least, e))
