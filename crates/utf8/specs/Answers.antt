@@ -1,9 +1,15 @@
 -- What the answers stand for in the definition of UTF-8.
+use Prim.Native.Nat.{ℕ, _-_, _≤_, _<_}
+use mathlib.Core.Path.{_≡_}
+use mathlib.Core.List.{List}
+use lib.ListN.{getD, take, drop}
 use Rattle.vob24.specs.Utf8 as def
 use Rattle.utf8.specs.declared.Next.{Next}
 use Rattle.utf8.specs.declared.Next.the-variants.{Bad, Want}
 use Rattle.utf8.specs.declared.Scanned.{Scanned}
 use Rattle.utf8.specs.declared.Scanned.the-variants.{IllFormed, Characters}
+use Rattle.utf8.specs.declared.Upto.{Upto}
+use Rattle.utf8.specs.declared.Upto.the-variants.{At, IllFormed as Fails}
 
 abbrev pub nextOf : Next → def.Next
 nextOf Bad = def.bad
@@ -12,3 +18,15 @@ nextOf (Want more lo hi) = def.want more lo hi
 abbrev pub scanOf : Scanned → def.Scan
 scanOf IllFormed = def.illFormed
 scanOf (Characters n) = def.characters n
+
+-- the bytes of s from i up to `to`, where a character starts, after n of them
+abbrev pub scanAt : List ℕ → ℕ → ℕ → ℕ → def.Scan
+scanAt s to n i = def.scanFrom n 0 0x80 0xbf (take (to - i) (drop i s))
+
+pub record Ascii (s : List ℕ) (from to : ℕ) : Type 0 where
+  pub low : (k : ℕ) → from ≤ k → k < to → getD s k 0 < 128
+
+-- The scan from i, after n characters, fails or comes down to that from a place at or past stop.
+pub data Scans (s : List ℕ) (to n i stop : ℕ) : Upto → Type 0 where
+  fails : scanAt s to n i ≡ def.illFormed → Scans s to n i stop Fails
+  reaches : {j m : ℕ} → stop ≤ j → j ≤ to → m ≤ j → scanAt s to n i ≡ scanAt s to m j → Scans s to n i stop (At j m)

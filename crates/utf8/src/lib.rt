@@ -1,12 +1,12 @@
 // UTF-8: are these bytes well-formed, and how many characters are they?
-// It ports what Rust's `String::from_utf8` asks in ByteReader's `read_string`, as Table 3-7 of the Unicode Standard has it.
+// It ports what Rust's `String::from_utf8` asks in ByteReader's `read_string`, as Table 3-7 of the Unicode Standard has it:
+// 32 bytes at once where they are ASCII, else character by character.
 ghost use mathlib.Core.Path.{_≡_};
-ghost use Prim.Native.Nat.{suc, _+_, _-_, _≤_, _<_};
-ghost use lib.Dec.{eqb};
+ghost use mathlib.Core.Bool.{true};
+ghost use Prim.Native.Nat.{_+_, _-_, _≤_, _<_};
 ghost use lib.ListN.{length, take, drop};
-ghost use Rattle.format.specs.Trace.{pick};
 ghost use Rattle.vob24.specs.Utf8 as Utf8;
-ghost use Rattle.utf8.specs.Answers.{nextOf, scanOf};
+ghost use Rattle.utf8.specs.Answers.{nextOf, scanOf, Ascii, Scans};
 
 // What may come after a byte: so many more of its sequence, the next of them from lo to hi.
 enum Next {
@@ -17,6 +17,12 @@ enum Next {
 pub enum Scanned {
     IllFormed,
     Characters(usize),
+}
+
+// Whole characters up to a place, and how many they are.
+enum Upto {
+    IllFormed,
+    At { place: usize, characters: usize },
 }
 
 // The rows of the table, by the first byte.
@@ -73,60 +79,117 @@ fn lead(b: u8) -> Next
     }
 }
 
-// A byte where so many more of a sequence are to come; where none, it is a first byte.
-fn step(more: u8, lo: u8, hi: u8, b: u8) -> Next
-    ensures { λ q. ⌜ nextOf q ≡ Utf8.next more lo hi b ⌝ }
+// One character, after n of them.
+fn char(s: &[u8], from: usize, to: usize, n: usize) -> Upto
+    requires { ⌜ (from < to) × (to ≤ length (now s)) × (n ≤ from) ⌝ }
+    ensures { λ q. ⌜ Scans (now (s .entry)) to n from (from + 1) q ⌝ }
 {
-    if more == 0 {
-        return lead(b);
+    let Next::Want {
+        more: m,
+        lo: l,
+        hi: h,
+    } = lead(s[from])
+    else {
+        return Upto::IllFormed;
+    };
+    let mut more = m;
+    let mut lo = l;
+    let mut hi = h;
+    let mut i = from + 1;
+    while 0 < more {
+        if to <= i {
+            return Upto::IllFormed;
+        }
+        let b = s[i];
+        if b < lo {
+            return Upto::IllFormed;
+        }
+        if hi < b {
+            return Upto::IllFormed;
+        }
+        more -= 1;
+        lo = 0x80;
+        hi = 0xbf;
+        i += 1;
     }
-    if b < lo {
-        return Next::Bad;
-    }
-    if hi < b {
-        return Next::Bad;
-    }
-    Next::Want {
-        more: more - 1,
-        lo: 0x80,
-        hi: 0xbf,
+    Upto::At {
+        place: i,
+        characters: n + 1,
     }
 }
 
-// A character is counted with its last byte.
-fn counted(n: usize, more: u8) -> usize
-    requires { ⌜ n < 18446744073709551615 ⌝ }
-    ensures { λ q. ⌜ (q ≡ pick (eqb more 0) (suc n) n) × (q ≤ n + 1) ⌝ }
+// Characters up to stop or past it.
+fn chars(s: &[u8], from: usize, stop: usize, to: usize, count: usize) -> Upto
+    requires { ⌜ (from ≤ to) × (stop ≤ to) × (to ≤ length (now s)) × (count ≤ from) ⌝ }
+    ensures { λ q. ⌜ Scans (now (s .entry)) to count from stop q ⌝ }
 {
-    if more == 0 { n + 1 } else { n }
+    let mut i = from;
+    let mut n = count;
+    while i < stop {
+        let Upto::At {
+            place: j,
+            characters: m,
+        } = char(s, i, to, n)
+        else {
+            return Upto::IllFormed;
+        };
+        i = j;
+        n = m;
+    }
+    Upto::At {
+        place: i,
+        characters: n,
+    }
+}
+
+// Are the 32 bytes at from all below 128? With no early exit the loop is compiled to vector code.
+fn ascii(s: &[u8], from: usize) -> bool
+    requires { ⌜ from + 32 ≤ length (now s) ⌝ }
+    ensures { λ q. ⌜ (q ≡ true → Ascii (now (s .entry)) from (from + 32)) ⌝ }
+{
+    let mut m: u8 = 0;
+    let mut k = from;
+    let end = from + 32;
+    while k < end {
+        m = m | s[k];
+        k += 1;
+    }
+    m < 128
+}
+
+// 32 bytes at once, or the characters of as many bytes.
+fn block(s: &[u8], from: usize, to: usize, n: usize) -> Upto
+    requires { ⌜ (from < to) × (to ≤ length (now s)) × (n ≤ from) ⌝ }
+    ensures { λ q. ⌜ Scans (now (s .entry)) to n from (from + 1) q ⌝ }
+{
+    if to - from < 32 {
+        return chars(s, from, to, to, n);
+    }
+    if ascii(s, from) {
+        return Upto::At {
+            place: from + 32,
+            characters: n + 32,
+        };
+    }
+    chars(s, from, from + 32, to, n)
 }
 
 pub fn scan(s: &[u8], from: usize, to: usize) -> Scanned
     requires { ⌜ (from ≤ to) × (to ≤ length (now s)) ⌝ }
     ensures { λ q. ⌜ scanOf q ≡ Utf8.scan (take (to - from) (drop from (now (s .entry)))) ⌝ }
 {
-    let mut n: usize = 0;
-    let mut more: u8 = 0;
-    let mut lo: u8 = 0x80;
-    let mut hi: u8 = 0xbf;
     let mut i = from;
+    let mut n: usize = 0;
     while i < to {
-        let Next::Want {
-            more: m,
-            lo: l,
-            hi: h,
-        } = step(more, lo, hi, s[i])
+        let Upto::At {
+            place: j,
+            characters: m,
+        } = block(s, i, to, n)
         else {
             return Scanned::IllFormed;
         };
-        n = counted(n, m);
-        more = m;
-        lo = l;
-        hi = h;
-        i += 1;
-    }
-    if more != 0 {
-        return Scanned::IllFormed;
+        i = j;
+        n = m;
     }
     Scanned::Characters(n)
 }

@@ -1,74 +1,40 @@
 use borrow.Author.Needs.{needs}
-use borrow.Author.Tests.{eq-eqb, ne-eqb}
+use Rattle.utf8.proofs.Laws.{Going, going-past, going-lost, going-whole, going}
+use Prim.Native.Nat.{_-_}
 use native.Mathlib.Omega.{arith}
-use Prim.Native.Nat.{_-_, _≤_}
-use mathlib.Core.Path.{_≡_, sym, ap, _∙_}
-use denote.Ref.{now}
-use lib.ListN.{take, drop}
-use Rattle.format.specs.Trace.{pick}
-use Rattle.vob24.specs.Utf8.{scanFrom}
-use Rattle.vob24.specs.Utf8 as Utf8
-use Rattle.utf8.specs.Answers.{nextOf}
-use Rattle.utf8.proofs.Turns.{turn-bad, turn-want}
+use mathlib.Core.Path.{sym}
 use Rattle.utf8.proofs.scan.Statement.{statement}
 use Rattle.utf8.proofs.scan.Tie as tie
 
 abbrev Inv-loop : tie.InvT-loop
-Inv-loop s from to n₀ more₀ lo₀ hi₀ i₀ n more lo hi i = (i ≤ to) × (n ≤ i) × (Utf8.scan (take (to - from) (drop from s)) ≡ scanFrom n more lo hi (take (to - i) (drop i s)))
+Inv-loop s from to i₀ n₀ i n = Going s to 0 from i n
 
 abbrev μ-loop : tie.MeasureT-loop
-μ-loop s from to n₀ more₀ lo₀ hi₀ i₀ n more lo hi i = to - i
+μ-loop s from to i₀ n₀ i n = to - i
 
 loop-holds : tie.Need-loop-holds Inv-loop μ-loop
-loop-holds c = search needs
+loop-holds c = search (needs, going)
 
-shared-slice-read-step : tie.Need-shared-slice-read-step Inv-loop μ-loop
-shared-slice-read-step c = search needs
+block-requires : tie.Need-block-requires Inv-loop μ-loop
+block-requires c κs = search (needs, going)
 
-step-requires : tie.Need-step-requires Inv-loop μ-loop
-step-requires c κs = search needs
-
-enum-known-m : tie.Need-enum-known-m Inv-loop μ-loop
-enum-known-m c = search needs
+enum-known-j : tie.Need-enum-known-j Inv-loop μ-loop
+enum-known-j c = search (needs, going)
 
 enum-told : tie.Need-enum-told Inv-loop μ-loop
-enum-told c = search needs
+enum-told c = search (needs, going)
 
 returns : tie.Need-returns Inv-loop μ-loop
-returns c =
-    let l = c .before .before .before .before .before .loop in
-    let a = c .before .before .before .before .before .before .before .args in
-    sym (l .inv .2 ∙ turn-bad (now (a .s)) (l .n) (l .more) (l .lo) (l .hi) (l .i) (a .to) (omega arith) (omega arith) (sym (c .before .before .step .ensures) ∙ ap nextOf (c .enum-told .given .1)))
-
-counted-requires : tie.Need-counted-requires Inv-loop μ-loop
-counted-requires c κs = search needs
-
-add-i : tie.Need-add-i Inv-loop μ-loop
-add-i c = search needs
+returns c = sym (going-lost (c .before .before .block .ensures) (c .enum-told .given .1) (c .before .before .before .before .loop .inv))
 
 loop-less : tie.Need-loop-less Inv-loop μ-loop
-loop-less c = search needs
+loop-less c = omega (arith, going-past (c .before .before .before .block .ensures) (c .before .j .given .1))
 
 loop-again : tie.Need-loop-again Inv-loop μ-loop
-loop-again c =
-    let l = c .before .before .before .before .before .before .before .loop in
-    let a = c .before .before .before .before .before .before .before .before .before .args in
-    let e = turn-want (now (a .s)) (l .n) (l .more) (l .lo) (l .hi) (l .i) (a .to) (omega arith) (omega arith) (sym (c .before .before .before .before .step .ensures) ∙ ap nextOf (c .before .before .m .given .1)) in
-    (omega arith, omega arith, l .inv .2 ∙ rw (c .counted .ensures .0) e)
+loop-again c = search (needs, going)
 
 returns-2 : tie.Need-returns-2 Inv-loop μ-loop
-unfolding pick
-returns-2 c =
-    let l = c .before .before .loop in
-    let e : c .before .before .before .before .args .to - l .i ≡ 0 = omega arith in
-    sym (l .inv .2 ∙ rw (e, ne-eqb (l .more) 0 (c .if1 .taken)))
-
-returns-3 : tie.Need-returns-3 Inv-loop μ-loop
-unfolding pick
-returns-3 c =
-    let l = c .before .before .loop in
-    let e : c .before .before .before .before .args .to - l .i ≡ 0 = omega arith in
-    sym (l .inv .2 ∙ rw (e, eq-eqb (l .more) 0 (c .if1 .left)))
+returns-2 c = sym (going-whole (c .loop-test .left) (c .before .loop .inv))
 
 pub scan-spec : {M : Type 1} → statement M
 scan-spec =
@@ -77,14 +43,10 @@ scan-spec =
     Inv-loop
     μ-loop
     loop-holds
-    shared-slice-read-step
-    step-requires
-    enum-known-m
+    block-requires
+    enum-known-j
     enum-told
     returns
-    counted-requires
-    add-i
     loop-less
     loop-again
-    returns-2
-    returns-3)
+    returns-2)
