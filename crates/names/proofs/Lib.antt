@@ -1,6 +1,8 @@
 pub mod Texts
 pub mod Places
 pub mod Repeats
+pub mod Hashes
+pub mod Filters
 pub mod Asking
 pub mod Orders
 pub mod Lists

@@ -21,12 +21,14 @@ use Rattle.reader.specs.declared.Step.the-variants.{Taken, Refused}
 use Rattle.reader.proofs.Asks.{asks-poor, asks-paid}
 use Rattle.names.specs.declared.Item.{Item}
 use Rattle.names.specs.declared.Item.the-variants.{StructField, NamedMethod}
+use Rattle.names.specs.declared.Table.the-variants.{Fields, Methods, Identities}
 use Rattle.names.specs.Walk.{valueAt, itemsAt, lastAt, items-snoc, items-length}
 use Rattle.names.specs.Items.{formatOf, nameOf, namesOf, contents}
-use Rattle.names.specs.Asking.{over, keyAsks, nameAsks, identityAsks, seenAt, methodAsks}
+use Rattle.names.specs.Tables.{keyOf}
+use Rattle.names.specs.Asking.{over, tableAsks, seenAt, methodAsks}
 use Rattle.names.specs.Contract.{WordIs, Items, Seen, After, Repeated, Named, ListBehind, ListAsked, MethodBehind, MethodAsked}
-use Rattle.names.proofs.Asking.{refuse-yes, refuse-no, among-is, repeat-told}
-use Rattle.names.proofs.Orders.{names-map, map-length, contents-snoc, names-over, keys-over, identities-over}
+use Rattle.names.proofs.Asking.{refuse-yes, refuse-no, repeat-told}
+use Rattle.names.proofs.Orders.{names-map, map-length, contents-snoc, plain-keys, names-over, keys-over, identities-over}
 
 apart : {X : Type 0} {r : Step} {c : Cursor} {x : Refusal} → r ≡ Taken c → r ≡ Refused x → X
 apart e i = let z : _≡_ {A = ℕ} 0 1 = cc in absurd (omega arith)
@@ -61,35 +63,35 @@ module _ {f : Format} {s : List ℕ} {r r₁ : Step} {c d : Cursor} (h : r ≡ T
 
 -- ---- 16
 module _ {s : List ℕ} {from n m z : ℕ} {c : Cursor} {y : Step} (i : Named StructField s from n m) (j : z ≡ sizeOf settings of.StringUsize) (p : Paid refusals.structFieldIndex (m * z) c y) where
-  index-is : fieldIndex settings (map (fieldName settings) (itemsAt (structField settings) n s from)) ≡ pay refusals.structFieldIndex (m * z) ∷ over (keyAsks StructField) [] (itemsAt (structField settings) n s from)
-  index-is = rw (i .is, j, keys-over StructField (itemsAt (structField settings) n s from))
+  index-is : fieldIndex settings (map (fieldName settings) (itemsAt (structField settings) n s from)) ≡ pay refusals.structFieldIndex (m * z) ∷ over (tableAsks Fields) [] (itemsAt (structField settings) n s from)
+  index-is = rw (i .is, j, keys-over (itemsAt (structField settings) n s from))
 
   pub index-poor : {x : Refusal} → y ≡ Refused x → Asks (fieldIndex settings (map (fieldName settings) (itemsAt (structField settings) n s from))) c y
   index-poor e = rw index-is (asks-poor p e)
 
-  pub index-then : {d : Cursor} {q : Step} → y ≡ Taken d → Asks (over (keyAsks StructField) [] (itemsAt (structField settings) n s from)) d q → Asks (fieldIndex settings (map (fieldName settings) (itemsAt (structField settings) n s from))) c q
+  pub index-then : {d : Cursor} {q : Step} → y ≡ Taken d → Asks (over (tableAsks Fields) [] (itemsAt (structField settings) n s from)) d q → Asks (fieldIndex settings (map (fieldName settings) (itemsAt (structField settings) n s from))) c q
   index-then e a = rw index-is (asks-paid p e a)
 
 -- ---- 17
 module _ (i : Item) {s : List ℕ} {from n z : ℕ} {c : Cursor} {y : Step} (h : Items (formatOf i) n s from) (j : z ≡ sizeOf settings of.Str) (p : Paid refusals.interfaceMethodSet (n * (2 * z)) c y) where
-  method-set-is : methodSet settings (namesOf i (itemsAt (formatOf i) n s from)) ≡ pay refusals.interfaceMethodSet (n * (2 * z)) ∷ over (nameAsks i) [] (itemsAt (formatOf i) n s from)
+  method-set-is : methodSet settings (namesOf i (itemsAt (formatOf i) n s from)) ≡ pay refusals.interfaceMethodSet (n * (2 * z)) ∷ over (tableAsks (Methods i)) [] (itemsAt (formatOf i) n s from)
   method-set-is = rw (j, names-map i (itemsAt (formatOf i) n s from), map-length (nameOf i) (itemsAt (formatOf i) n s from), items-length (formatOf i) n s from, names-over i (itemsAt (formatOf i) n s from))
 
   pub method-set-poor : {x : Refusal} → y ≡ Refused x → Asks (methodSet settings (namesOf i (itemsAt (formatOf i) n s from))) c y
   method-set-poor e = rw method-set-is (asks-poor p e)
 
-  pub method-set-then : {d : Cursor} {q : Step} → y ≡ Taken d → Asks (over (nameAsks i) [] (itemsAt (formatOf i) n s from)) d q → Asks (methodSet settings (namesOf i (itemsAt (formatOf i) n s from))) c q
+  pub method-set-then : {d : Cursor} {q : Step} → y ≡ Taken d → Asks (over (tableAsks (Methods i)) [] (itemsAt (formatOf i) n s from)) d q → Asks (methodSet settings (namesOf i (itemsAt (formatOf i) n s from))) c q
   method-set-then e a = rw method-set-is (asks-paid p e a)
 
 -- ---- 19
 module _ {s : List ℕ} {from n z : ℕ} {c : Cursor} {y : Step} (h : Items (runtimeField settings) n s from) (j : z ≡ sizeOf settings of.StrStr) (p : Paid refusals.runtimeStructFieldSet (n * (2 * z)) c y) where
-  field-set-is : fieldSet settings (map (identity settings) (itemsAt (runtimeField settings) n s from)) ≡ pay refusals.runtimeStructFieldSet (n * (2 * z)) ∷ over identityAsks [] (itemsAt (runtimeField settings) n s from)
+  field-set-is : fieldSet settings (map (identity settings) (itemsAt (runtimeField settings) n s from)) ≡ pay refusals.runtimeStructFieldSet (n * (2 * z)) ∷ over (tableAsks Identities) [] (itemsAt (runtimeField settings) n s from)
   field-set-is = rw (j, map-length (identity settings) (itemsAt (runtimeField settings) n s from), items-length (runtimeField settings) n s from, identities-over (itemsAt (runtimeField settings) n s from))
 
   pub field-set-poor : {x : Refusal} → y ≡ Refused x → Asks (fieldSet settings (map (identity settings) (itemsAt (runtimeField settings) n s from))) c y
   field-set-poor e = rw field-set-is (asks-poor p e)
 
-  pub field-set-then : {d : Cursor} {q : Step} → y ≡ Taken d → Asks (over identityAsks [] (itemsAt (runtimeField settings) n s from)) d q → Asks (fieldSet settings (map (identity settings) (itemsAt (runtimeField settings) n s from))) c q
+  pub field-set-then : {d : Cursor} {q : Step} → y ≡ Taken d → Asks (over (tableAsks Identities) [] (itemsAt (runtimeField settings) n s from)) d q → Asks (fieldSet settings (map (identity settings) (itemsAt (runtimeField settings) n s from))) c q
   field-set-then e a = rw field-set-is (asks-paid p e a)
 
 -- ---- 18
@@ -121,12 +123,12 @@ module _ {s : List ℕ} {from n : ℕ} {r r₁ : Step} where
       pub method-at : After (method settings) s from n (c .place)
       method-at = record { before = b .items; here = record { small = b .items .small; stands = b .comes c d h k } }
 
-      module _ {z : Bool} (w : Seen NamedMethod s from n (c .place) z) where
+      module _ {z : Bool} (w : Seen (Methods NamedMethod) s from n (c .place) z) where
         method-among : among (content (methodName settings (valueAt (method settings) s (c .place)))) (seenAt n s from) ≡ z
-        method-among = seen-methods _ n s from ∙ among-is method-at w
+        method-among = seen-methods _ n s from ∙ sym (plain-keys (keyOf (Methods NamedMethod)) (λ v. refl) (valueAt (method settings) s (c .place)) (itemsAt (method settings) n s from)) ∙ sym (w .is)
 
         pub method-again : {q : Step} → z ≡ true → Repeated s (c .place) d refusals.duplicateNamedMethod 0 q → MethodAsked s from n r r₁ q
-        method-again e t = method-asked (refuse-yes _ (method-among ∙ e) (repeat-told NamedMethod method-at t))
+        method-again e t = method-asked (refuse-yes _ (method-among ∙ e) (repeat-told NamedMethod (method-at .here) t))
 
         pub method-new : z ≡ false → MethodAsked s from n r r₁ (Taken d)
         method-new e = method-asked (refuse-no _ (method-among ∙ e))

@@ -14,8 +14,10 @@ use Rattle.vob24.specs.Questions.{refuseIf, among, blank, repeat, named, fieldK
 use Rattle.vob24.specs.Grammar.{identity}
 use Rattle.names.specs.declared.Item.{Item}
 use Rattle.names.specs.declared.Item.the-variants.{Name, StructField, InterfaceMethod, RuntimeMethod, NamedMethod, RuntimeField}
+use Rattle.names.specs.declared.Table.the-variants.{Fields, Methods, Identities}
 use Rattle.names.specs.Items.{nameOf, namesOf, contents}
-use Rattle.names.specs.Asking.{over, keyAsks, nameAsks, identityAsks}
+use Rattle.names.specs.Tables.{keyOf, repeats}
+use Rattle.names.specs.Asking.{over, tableAsks}
 
 pub names-map : (i : Item) (vs : List Value) → namesOf i vs ≡ map (nameOf i) vs
 names-map Name vs = all vs
@@ -51,51 +53,57 @@ among-snoc x y (z ∷ l) = go (same x z) (same x y) (among-snoc x y l)
 pub contents-snoc : (i : Item) (x : List ℕ) (before : List Value) (v : Value) → among x (contents i (before ++ (v ∷ []))) ≡ pick (same x (content (nameOf i v))) true (among x (contents i before))
 contents-snoc i x before v = ap (among x) (map-snoc (λ v. content (nameOf i v)) before v) ∙ among-snoc x (content (nameOf i v)) (contents i before)
 
+-- keys without a package are names
+pub plain-keys : (k : Value → Identity) → ((v : Value) → content (k v .0) ≡ []) → (v : Value) (vs : List Value) → amongIdentities (k v) (map k vs) ≡ among (content (k v .1)) (map (λ v. content (k v .1)) vs)
+unfolding amongIdentities among same pick
+plain-keys k h v [] = refl
+plain-keys k h v (w ∷ vs) = rw (h v, h w, plain-keys k h v vs)
+
 -- 17: every name is looked for among all before it
 abbrev Knows : Item → List (List ℕ) → List Value → Type 0
 Knows i seen before = (x : List ℕ) → among x seen ≡ among x (contents i before)
 
-names-from : (i : Item) (seen : List (List ℕ)) (before vs : List Value) → Knows i seen before → newNames seen (map (nameOf i) vs) ≡ over (nameAsks i) before vs
-unfolding over nameAsks newNames among
+names-from : (i : Item) (seen : List (List ℕ)) (before vs : List Value) → Knows i seen before → newNames seen (map (nameOf i) vs) ≡ over (tableAsks (Methods i)) before vs
+unfolding over tableAsks repeats newNames among pick
 names-from i seen before [] k = refl
-names-from i seen before (v ∷ vs) k = rw (k (content (nameOf i v)), names-from i (content (nameOf i v) ∷ seen) (before ++ (v ∷ [])) vs more)
+names-from i seen before (v ∷ vs) k = rw (k (content (nameOf i v)), ← plain-keys (keyOf (Methods i)) (λ v. refl) v before, names-from i (content (nameOf i v) ∷ seen) (before ++ (v ∷ [])) vs more)
   where
     more : Knows i (content (nameOf i v) ∷ seen) (before ++ (v ∷ []))
     more x = ap (λ b. pick (same x (content (nameOf i v))) true b) (k x) ∙ sym (contents-snoc i x before v)
 
-pub names-over : (i : Item) (vs : List Value) → newNames [] (map (nameOf i) vs) ≡ over (nameAsks i) [] vs
+pub names-over : (i : Item) (vs : List Value) → newNames [] (map (nameOf i) vs) ≡ over (tableAsks (Methods i)) [] vs
 names-over i vs = names-from i [] [] vs (λ x. refl)
 
 -- 16: a name other than "_" is looked for among all before it, for "_" is none of them
-abbrev KnowsNamed : Item → List (List ℕ) → List Value → Type 0
-KnowsNamed i seen before = (x : List ℕ) → same x (95 ∷ []) ≡ false → among x seen ≡ among x (contents i before)
+abbrev KnowsNamed : List (List ℕ) → List Value → Type 0
+KnowsNamed seen before = (x : List ℕ) → same x (95 ∷ []) ≡ false → among x seen ≡ among x (contents StructField before)
 
-keys-from : (i : Item) (seen : List (List ℕ)) (before vs : List Value) → KnowsNamed i seen before → fieldKeys seen (named (map (nameOf i) vs)) ≡ over (keyAsks i) before vs
-unfolding over keyAsks fieldKeys named among pick
-keys-from i seen before [] k = refl
-keys-from i seen before (v ∷ vs) k = go (blank (nameOf i v)) refl
-    (λ e. keys-from i seen (before ++ (v ∷ [])) vs (skip e))
-    (λ e. keys-from i (content (nameOf i v) ∷ seen) (before ++ (v ∷ [])) vs (keep e))
+keys-from : (seen : List (List ℕ)) (before vs : List Value) → KnowsNamed seen before → fieldKeys seen (named (map (nameOf StructField) vs)) ≡ over (tableAsks Fields) before vs
+unfolding over tableAsks repeats fieldKeys named among pick
+keys-from seen before [] k = refl
+keys-from seen before (v ∷ vs) k = go (blank (nameOf StructField v)) refl
+    (λ e. keys-from seen (before ++ (v ∷ [])) vs (skip e))
+    (λ e. keys-from (content (nameOf StructField v) ∷ seen) (before ++ (v ∷ [])) vs (keep e))
   where
-    skip : blank (nameOf i v) ≡ true → KnowsNamed i seen (before ++ (v ∷ []))
+    skip : blank (nameOf StructField v) ≡ true → KnowsNamed seen (before ++ (v ∷ []))
     skip e x j =
-        let c : content (nameOf i v) ≡ 95 ∷ [] = same-eq (content (nameOf i v)) (95 ∷ []) (rw e tt) in
-        let o : same x (content (nameOf i v)) ≡ false = rw c j in
-        k x j ∙ sym (contents-snoc i x before v ∙ rw o)
+        let c : content (nameOf StructField v) ≡ 95 ∷ [] = same-eq (content (nameOf StructField v)) (95 ∷ []) (rw e tt) in
+        let o : same x (content (nameOf StructField v)) ≡ false = rw c j in
+        k x j ∙ sym (contents-snoc StructField x before v ∙ rw o)
 
-    keep : blank (nameOf i v) ≡ false → KnowsNamed i (content (nameOf i v) ∷ seen) (before ++ (v ∷ []))
-    keep e x j = ap (λ b. pick (same x (content (nameOf i v))) true b) (k x j) ∙ sym (contents-snoc i x before v)
+    keep : blank (nameOf StructField v) ≡ false → KnowsNamed (content (nameOf StructField v) ∷ seen) (before ++ (v ∷ []))
+    keep e x j = ap (λ b. pick (same x (content (nameOf StructField v))) true b) (k x j) ∙ sym (contents-snoc StructField x before v)
 
-    go : (b : Bool) → blank (nameOf i v) ≡ b
-        → (blank (nameOf i v) ≡ true → fieldKeys seen (named (map (nameOf i) vs)) ≡ over (keyAsks i) (before ++ (v ∷ [])) vs)
-        → (blank (nameOf i v) ≡ false → fieldKeys (content (nameOf i v) ∷ seen) (named (map (nameOf i) vs)) ≡ over (keyAsks i) (before ++ (v ∷ [])) vs)
-        → fieldKeys seen (pick b (named (map (nameOf i) vs)) (nameOf i v ∷ named (map (nameOf i) vs)))
-        ≡ pick b [] (pay refusals.structFieldKey (length (content (nameOf i v))) ∷ refuseIf (among (content (nameOf i v)) (contents i before)) (repeat refusals.duplicateStructField 0 (nameOf i v))) ++ over (keyAsks i) (before ++ (v ∷ [])) vs
+    go : (b : Bool) → blank (nameOf StructField v) ≡ b
+        → (blank (nameOf StructField v) ≡ true → fieldKeys seen (named (map (nameOf StructField) vs)) ≡ over (tableAsks Fields) (before ++ (v ∷ [])) vs)
+        → (blank (nameOf StructField v) ≡ false → fieldKeys (content (nameOf StructField v) ∷ seen) (named (map (nameOf StructField) vs)) ≡ over (tableAsks Fields) (before ++ (v ∷ [])) vs)
+        → fieldKeys seen (pick b (named (map (nameOf StructField) vs)) (nameOf StructField v ∷ named (map (nameOf StructField) vs)))
+        ≡ (pick b [] (pay refusals.structFieldKey (length (content (nameOf StructField v))) ∷ []) ++ refuseIf (pick b false (amongIdentities (keyOf Fields v) (map (keyOf Fields) before))) (repeat refusals.duplicateStructField 0 (nameOf StructField v))) ++ over (tableAsks Fields) (before ++ (v ∷ [])) vs
     go true e o u = o e
-    go false e o u = rw (k (content (nameOf i v)) e, u e)
+    go false e o u = rw (k (content (nameOf StructField v)) e, ← plain-keys (keyOf Fields) (λ v. refl) v before, u e)
 
-pub keys-over : (i : Item) (vs : List Value) → fieldKeys [] (named (map (nameOf i) vs)) ≡ over (keyAsks i) [] vs
-keys-over i vs = keys-from i [] [] vs (λ x e. refl)
+pub keys-over : (vs : List Value) → fieldKeys [] (named (map (nameOf StructField) vs)) ≡ over (tableAsks Fields) [] vs
+keys-over vs = keys-from [] [] vs (λ x e. refl)
 
 -- 19: the same of a package and a name
 abbrev KnowsIdentities : List Identity → List Value → Type 0
@@ -119,8 +127,8 @@ identities-snoc x y (z ∷ l) = go (same (content (x .1)) (content (z .1))) (sam
     go false b true false e = e
     go false b false d e = e
 
-identities-from : (seen : List Identity) (before vs : List Value) → KnowsIdentities seen before → newIdentities seen (map (identity settings) vs) ≡ over identityAsks before vs
-unfolding over identityAsks newIdentities amongIdentities pick
+identities-from : (seen : List Identity) (before vs : List Value) → KnowsIdentities seen before → newIdentities seen (map (identity settings) vs) ≡ over (tableAsks Identities) before vs
+unfolding over tableAsks repeats newIdentities amongIdentities pick
 identities-from seen before [] k = refl
 identities-from seen before (v ∷ vs) k = go (blank (identity settings v .1)) refl
     (λ e. identities-from seen (before ++ (v ∷ [])) vs (skip e))
@@ -139,12 +147,12 @@ identities-from seen before (v ∷ vs) k = go (blank (identity settings v .1)) r
     keep e x j = ap (λ b. pick (same (content (x .1)) (content (identity settings v .1))) (pick (same (content (x .0)) (content (identity settings v .0))) true b) b) (k x j) ∙ sym (snoc x)
 
     go : (b : Bool) → blank (identity settings v .1) ≡ b
-        → (blank (identity settings v .1) ≡ true → newIdentities seen (map (identity settings) vs) ≡ over identityAsks (before ++ (v ∷ [])) vs)
-        → (blank (identity settings v .1) ≡ false → newIdentities (identity settings v ∷ seen) (map (identity settings) vs) ≡ over identityAsks (before ++ (v ∷ [])) vs)
+        → (blank (identity settings v .1) ≡ true → newIdentities seen (map (identity settings) vs) ≡ over (tableAsks Identities) (before ++ (v ∷ [])) vs)
+        → (blank (identity settings v .1) ≡ false → newIdentities (identity settings v ∷ seen) (map (identity settings) vs) ≡ over (tableAsks Identities) (before ++ (v ∷ [])) vs)
         → refuseIf (pick b false (amongIdentities (identity settings v) seen)) (repeat refusals.duplicateRuntimeStructField (Rattle.format.specs.Format.start (identity settings v .0)) (identity settings v .1)) ++ newIdentities (pick b seen (identity settings v ∷ seen)) (map (identity settings) vs)
-        ≡ pick b [] (refuseIf (amongIdentities (identity settings v) (map (identity settings) before)) (repeat refusals.duplicateRuntimeStructField (Rattle.format.specs.Format.start (identity settings v .0)) (identity settings v .1))) ++ over identityAsks (before ++ (v ∷ [])) vs
+        ≡ refuseIf (pick b false (amongIdentities (identity settings v) (map (identity settings) before))) (repeat refusals.duplicateRuntimeStructField (Rattle.format.specs.Format.start (identity settings v .0)) (identity settings v .1)) ++ over (tableAsks Identities) (before ++ (v ∷ [])) vs
     go true e o u = o e
     go false e o u = rw (k (identity settings v) e, u e)
 
-pub identities-over : (vs : List Value) → newIdentities [] (map (identity settings) vs) ≡ over identityAsks [] vs
+pub identities-over : (vs : List Value) → newIdentities [] (map (identity settings) vs) ≡ over (tableAsks Identities) [] vs
 identities-over vs = identities-from [] [] vs (λ x e. refl)

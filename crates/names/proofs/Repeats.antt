@@ -1,22 +1,28 @@
--- The laws of the loops that compare an item with those of a list.
+-- The laws of walks over items, and of the loops that compare an item with those of a list.
 use Prim.Native.Nat.{ℕ, _+_, _-_, _≤_, _<_}
 use mathlib.Core.Path.{_≡_, refl, ap, sym, _∙_}
 use mathlib.Core.List.{List, [], _∷_, map}
 use mathlib.Core.Bool.{Bool, true, false}
 use native.Mathlib.Omega.{arith}
+use native.Mathlib.Numerals.{add-one}
 use lib.ListN.{length}
+use lib.Dec.{ltb}
+use borrow.Author.Count.{below-more}
 use Rattle.format.specs.Trace.{pick}
 use Rattle.format.specs.Format.{text, content, Format}
 use Rattle.format.specs.Reading.{same}
 use Rattle.vob24.specs.Settings.{settings}
-use Rattle.vob24.specs.Questions.{among, named, Identity, amongIdentities}
-use Rattle.vob24.specs.Grammar.{runtimeField, identity}
+use Rattle.vob24.specs.Questions.{named, Identity, amongIdentities}
+use Rattle.vob24.specs.Grammar.{runtimeField}
 use Rattle.names.specs.declared.Item.{Item}
 use Rattle.names.specs.declared.Item.the-variants.{RuntimeField}
-use Rattle.names.specs.Walk.{Stands, valueAt, nextAt, itemsAt, items-more, items-none, stand-more}
-use Rattle.names.specs.Items.{formatOf, nameOf, contents, textAt, packageAt}
-use Rattle.names.specs.Contract.{TextAt, SameText, BlankIs, Placed, Past, PackageIs, Items, SeenAt, Seen, After, TwoPlaced, SameIdentity, SeenIdentity, Named}
-use Rattle.names.proofs.Places.{name-stands, item-name, runtime-stands, runtime-name, runtime-package}
+use Rattle.names.specs.declared.Table.{Table}
+use Rattle.names.specs.declared.Table.the-variants.{Fields, Methods, Identities}
+use Rattle.names.specs.Walk.{Stands, AllStand, valueAt, nextAt, itemsAt, lastAt, items-more, items-none, items-nil, stand-more, stand-snoc, last-snoc}
+use Rattle.names.specs.Items.{formatOf, nameOf, textAt, packageAt}
+use Rattle.names.specs.Tables.{itemOf, formatIn, packageOf, keyOf, packageText, exempt, repeats, repeatAt}
+use Rattle.names.specs.Contract.{TextAt, SameText, BlankIs, Placed, Past, PackageIs, Items, After, TwoPlaced, ExemptIs, SamePackage, SameKey, Seen, Standing, FirstRepeat, Named}
+use Rattle.names.proofs.Places.{name-stands, item-name, runtime-stands, runtime-package}
 
 -- one item more
 module _ {f : Format} {s : List ℕ} {p k : ℕ} (h : 0 < k) (i : Items f k s p) where
@@ -37,40 +43,185 @@ past-next = record { is = refl }
 pub name-content : (i : Item) {s : List ℕ} {p : ℕ} → Stands (formatOf i) s p → content (nameOf i (valueAt (formatOf i) s p)) ≡ textAt s p
 name-content i h = ap content (name-stands i h .value)
 
--- ---- the loop of `seen`: k names to look at
-pub record Looking (i : Item) (s : List ℕ) (from n p at k : ℕ) : Type 0 where
-  pub items : Items (formatOf i) k s at
-  pub text : TextAt s p
-  pub leads : among (textAt s p) (contents i (itemsAt (formatOf i) n s from)) ≡ among (textAt s p) (contents i (itemsAt (formatOf i) k s at))
+-- ---- a walk over n items: i of them before p, n - i from there on
+pub record Walking (f : Format) (s : List ℕ) (from n p i : ℕ) : Type 0 where
+  pub before : Items f i s from
+  pub here : p ≡ lastAt f i s from
+  pub after : Items f (n - i) s p
 
-module _ {i : Item} {s : List ℕ} {from n p : ℕ} where
-  pub looking-start : SeenAt i s from n p → Looking i s from n p from n
-  looking-start h = record { items = h .items; text = h .text; leads = refl }
+module _ {f : Format} {s : List ℕ} {from n : ℕ} where
+  pub walking-start : Items f n s from → Walking f s from n from 0
+  walking-start h =
+      let e : n - 0 ≡ n = omega arith in
+      let z = items-nil f s from in
+      record { before = record { small = h .small; all = z .1 }; here = sym (z .2); after = rw e h }
 
-  module _ {at k : ℕ} (h : 0 < k) (l : Looking i s from n p at k) where
-    pub looking-here : Placed (formatOf i) s at
+  module _ {p i : ℕ} (h : i < n) (l : Walking f s from n p i) where
+    pub walking-here : Placed f s p
+    walking-here = items-here {k = n - i} (omega arith) (l .after)
+
+    pub walking-at : After f s from i p
+    walking-at = record { before = l .before; here = walking-here }
+
+    pub walking-next : {z : ℕ} → Past f s p z → Walking f s from n z (i + 1)
+    walking-next {z} w =
+        let k : n - i - 1 ≡ n - (i + 1) = omega arith in
+        let st : Stands f s (lastAt f i s from) = rw (l .here) at (walking-here .stands) in
+        record {
+          before = record { small = l .before .small; all = rw (add-one i) (stand-snoc f i s from (l .before .all) st) };
+          here = w .is ∙ ap (nextAt f s) (l .here) ∙ sym (last-snoc f i s from) ∙ ap (λ m. lastAt f m s from) (sym (add-one i));
+          after = rw k at (items-next {k = n - i} (omega arith) (l .after) w);
+        }
+
+pub walking-stands : {t : Table} {s : List ℕ} {from n p i : ℕ} → i < n → Walking (formatIn t) s from n p i → Standing t s from i p
+walking-stands h l = record { after = walking-at h l; place = l .here }
+
+-- ---- keys
+
+-- a table that is told
+module _ {t u : Table} (e : t ≡ u) {s : List ℕ} where
+  pub placed-in : {p : ℕ} → Placed (formatIn t) s p → Placed (formatIn u) s p
+  placed-in h = rw e at h
+
+  pub past-in : {p q : ℕ} → Past (formatIn u) s p q → Past (formatIn t) s p q
+  past-in h = rw e h
+
+  pub placed-both : {a b : ℕ} → TwoPlaced (formatIn t) s a b → TwoPlaced (formatIn u) s a b
+  placed-both h = rw e at h
+
+pub key-text : {t : Table} {s : List ℕ} {from n p : ℕ} → Standing t s from n p → TextAt s p
+key-text {t} h = item-name (itemOf t) (h .after .here)
+
+pub both-texts : (t : Table) {s : List ℕ} {a b : ℕ} → TwoPlaced (formatIn t) s a b → TextAt s a × TextAt s b
+both-texts t h = (item-name (itemOf t) (h .fore), item-name (itemOf t) (h .back))
+
+-- the answers of `exempt`
+module _ {t : Table} {s : List ℕ} {p : ℕ} where
+  pub exempt-field : {q : Bool} → t ≡ Fields → BlankIs s p q → ExemptIs t s p q
+  exempt-field e h = rw e (record { is = h .is })
+
+  pub exempt-method : {i : Item} → t ≡ Methods i → ExemptIs t s p false
+  exempt-method e = rw e (record { is = refl })
+
+  pub exempt-identity : {q : Bool} → t ≡ Identities → BlankIs s p q → ExemptIs t s p q
+  exempt-identity e h = rw e (record { is = h .is })
+
+-- the answers of `same_package` and `same_key`
+pub same-packages : {s : List ℕ} {a b x y : ℕ} {q : Bool} → PackageIs s a x → PackageIs s b y → SameText s x y q → SamePackage Identities s a b q
+same-packages f g v = record { is = v .is ∙ rw (f .is, g .is) }
+
+module _ {t : Table} {s : List ℕ} {a b : ℕ} {n : Bool} (w : SameText s a b n) where
+  pub other-names : n ≡ false → SameKey t s a b false
+  unfolding pick
+  other-names e = record { is = rw (← w .is, e) }
+
+  module _ (e : n ≡ true) where
+    pub same-field : t ≡ Fields → SameKey t s a b true
+    unfolding pick same
+    same-field i = rw i (record { is = rw (← w .is, e) })
+
+    pub same-method : {i : Item} → t ≡ Methods i → SameKey t s a b true
+    unfolding pick same
+    same-method i = rw i (record { is = rw (← w .is, e) })
+
+    pub same-identity : {q : Bool} → t ≡ Identities → SamePackage Identities s a b q → SameKey t s a b q
+    unfolding pick
+    same-identity i v = rw i (record { is = rw (← w .is, e) (v .is) })
+
+-- the bytes of an item's key
+module _ (t : Table) {s : List ℕ} {p : ℕ} (h : Stands (formatIn t) s p) where
+  pub key-name : content (nameOf (itemOf t) (valueAt (formatIn t) s p)) ≡ textAt s p
+  key-name = name-content (itemOf t) h
+
+pub key-package : (t : Table) {s : List ℕ} {p : ℕ} → Stands (formatIn t) s p → content (packageOf t (valueAt (formatIn t) s p)) ≡ packageText t s p
+key-package Fields h = refl
+key-package (Methods i) h = refl
+key-package Identities h = ap content (runtime-stands h .value)
+
+-- ---- the loop of `seen`: k items to look at
+pub record Looking (t : Table) (s : List ℕ) (from n p at k : ℕ) : Type 0 where
+  pub items : Items (formatIn t) k s at
+  pub here : Placed (formatIn t) s p
+  pub leads : amongIdentities (keyOf t (valueAt (formatIn t) s p)) (map (keyOf t) (itemsAt (formatIn t) n s from))
+      ≡ amongIdentities (keyOf t (valueAt (formatIn t) s p)) (map (keyOf t) (itemsAt (formatIn t) k s at))
+
+among-step : (x y : Identity) (ys : List Identity) (q : Bool) → q ≡ pick (same (content (x .1)) (content (y .1))) (same (content (x .0)) (content (y .0))) false
+    → amongIdentities x (y ∷ ys) ≡ pick q true (amongIdentities x ys)
+unfolding amongIdentities pick
+among-step x y ys q e = rw e (go (same (content (x .1)) (content (y .1))) (same (content (x .0)) (content (y .0))) (amongIdentities x ys))
+  where
+    go : (n p r : Bool) → pick n (pick p true r) r ≡ pick (pick n p false) true r
+    go true p r = refl
+    go false p r = refl
+
+module _ {t : Table} {s : List ℕ} {from n p : ℕ} where
+  pub looking-start : After (formatIn t) s from n p → Looking t s from n p from n
+  looking-start h = record { items = h .before; here = h .here; leads = refl }
+
+  module _ {at k : ℕ} (h : 0 < k) (l : Looking t s from n p at k) where
+    pub looking-here : Placed (formatIn t) s at
     looking-here = items-here h (l .items)
 
-    pub looking-text : TextAt s at
-    looking-text = item-name i looking-here
+    pub looking-both : TwoPlaced (formatIn t) s p at
+    looking-both = record { fore = l .here; back = looking-here }
 
-    looking-step : {q : Bool} {z : ℕ} → SameText s p at q → Past (formatOf i) s at z
-        → among (textAt s p) (contents i (itemsAt (formatOf i) k s at)) ≡ pick q true (among (textAt s p) (contents i (itemsAt (formatOf i) (k - 1) s z)))
-    unfolding among
-    looking-step w v = ap (λ vs. among (textAt s p) (contents i vs)) (items-cons h (l .items) v) ∙ rw (name-content i (looking-here .stands), ← w .is)
+    looking-step : {q : Bool} {z : ℕ} → SameKey t s p at q → Past (formatIn t) s at z
+        → amongIdentities (keyOf t (valueAt (formatIn t) s p)) (map (keyOf t) (itemsAt (formatIn t) k s at))
+        ≡ pick q true (amongIdentities (keyOf t (valueAt (formatIn t) s p)) (map (keyOf t) (itemsAt (formatIn t) (k - 1) s z)))
+    looking-step {q} w v =
+        ap (λ vs. amongIdentities (keyOf t (valueAt (formatIn t) s p)) (map (keyOf t) vs)) (items-cons h (l .items) v)
+        ∙ among-step _ _ _ q (w .is ∙ sym (rw (key-name t (l .here .stands), key-name t (looking-here .stands), key-package t (l .here .stands), key-package t (looking-here .stands))))
 
-    module _ {q : Bool} (w : SameText s p at q) where
-      pub looking-more : {z : ℕ} → q ≡ false → Past (formatOf i) s at z → Looking i s from n p z (k - 1)
+    module _ {q : Bool} (w : SameKey t s p at q) where
+      pub looking-more : {z : ℕ} → q ≡ false → Past (formatIn t) s at z → Looking t s from n p z (k - 1)
       unfolding pick
-      looking-more e v = record { items = items-next h (l .items) v; text = l .text; leads = l .leads ∙ looking-step w v ∙ rw e }
+      looking-more e v = record { items = items-next h (l .items) v; here = l .here; leads = l .leads ∙ looking-step w v ∙ rw e }
 
-      pub looking-found : q ≡ true → Seen i s from n p true
+      pub looking-found : q ≡ true → Seen t s from n p true
       unfolding pick
       looking-found e = record { is = sym (l .leads ∙ looking-step w past-next ∙ rw e) }
 
-  pub looking-done : {at k : ℕ} → k ≤ 0 → Looking i s from n p at k → Seen i s from n p false
-  unfolding among
-  looking-done {at} {k} h l = record { is = sym (l .leads ∙ rw (items-none (formatOf i) k s at h)) }
+  pub looking-done : {at k : ℕ} → k ≤ 0 → Looking t s from n p at k → Seen t s from n p false
+  unfolding amongIdentities
+  looking-done {at} {k} h l = record { is = sym (l .leads ∙ rw (items-none (formatIn t) k s at h)) }
+
+-- ---- whether item i, which stands at p, repeats one before it
+module _ {t : Table} {s : List ℕ} {from i p : ℕ} (h : Standing t s from i p) where
+  pub repeat-is : repeatAt t s from i ≡ repeats t (itemsAt (formatIn t) i s from) (valueAt (formatIn t) s p)
+  unfolding repeatAt
+  repeat-is = rw (h .place)
+
+  module _ {b : Bool} (w : ExemptIs t s p b) where
+    exempt-is : exempt t (content (nameOf (itemOf t) (valueAt (formatIn t) s p))) ≡ b
+    exempt-is = ap (exempt t) (key-name t (h .after .here .stands)) ∙ sym (w .is)
+
+    pub repeat-exempt : b ≡ true → repeatAt t s from i ≡ false
+    unfolding repeats pick
+    repeat-exempt e = repeat-is ∙ rw (exempt-is, e)
+
+    pub repeat-seen : {q : Bool} → b ≡ false → Seen t s from i p q → repeatAt t s from i ≡ q
+    unfolding repeats pick
+    repeat-seen e v = repeat-is ∙ rw (exempt-is, e) (sym (v .is))
+
+-- ---- the loop of `scan`
+pub record Scanning (t : Table) (s : List ℕ) (from n p i : ℕ) : Type 0 where
+  pub walk : Walking (formatIn t) s from n p i
+  pub new : (k : ℕ) → k < i → repeatAt t s from k ≡ false
+
+module _ {t : Table} {s : List ℕ} {from n : ℕ} where
+  pub scanning-start : Items (formatIn t) n s from → Scanning t s from n from 0
+  scanning-start h = record { walk = walking-start h; new = λ k d. absurd (omega arith) }
+
+  module _ {p i : ℕ} (l : Scanning t s from n p i) where
+    pub scanning-done : n ≤ i → FirstRepeat t s from n n
+    scanning-done h = record { within = omega arith; new = λ k d. l .new k (omega arith); found = λ d. absurd (omega arith) }
+
+    module _ (h : i < n) {b : Bool} (e : b ≡ repeatAt t s from i) where
+      pub scanning-found : b ≡ true → FirstRepeat t s from n i
+      scanning-found r = record { within = omega arith; new = l .new; found = λ d. sym e ∙ r }
+
+      pub scanning-more : {z : ℕ} → b ≡ false → Past (formatIn t) s p z → Scanning t s from n z (i + 1)
+      scanning-more r w = record { walk = walking-next h (l .walk) w; new = below-more _ i (l .new) (sym e ∙ r) }
 
 -- ---- the loop of `named`
 pub record Counting (i : Item) (s : List ℕ) (from n at k m : ℕ) : Type 0 where
@@ -107,71 +258,4 @@ module _ {i : Item} {s : List ℕ} {from n : ℕ} where
   unfolding named
   counting-done {at} {k} {m} h l = record { is = sym (l .leads ∙ ap (λ vs. m + length (named (map (nameOf i) vs))) (items-none (formatOf i) k s at h) ∙ omega arith); most = omega (arith, l .most) }
 
--- ---- identities
-
--- the answers of `same_identity`
-module _ {s : List ℕ} {a b : ℕ} {n : Bool} (w : SameText s a b n) where
-  pub same-names : {x y : ℕ} {q : Bool} → n ≡ true → PackageIs s a x → PackageIs s b y → SameText s x y q → SameIdentity s a b q
-  unfolding pick
-  same-names {x} {y} {q} e f g v = record { is = v .is ∙ rw (f .is, g .is, ← w .is, e) }
-
-  pub other-names : n ≡ false → SameIdentity s a b false
-  unfolding pick
-  other-names e = record { is = rw (← w .is, e) }
-
--- the identity of a field
-module _ {s : List ℕ} {p : ℕ} (h : Stands (runtimeField settings) s p) where
-  pub identity-name : content (identity settings (valueAt (runtimeField settings) s p) .1) ≡ textAt s p
-  identity-name = name-content RuntimeField h
-
-  pub identity-package : content (identity settings (valueAt (runtimeField settings) s p) .0) ≡ textAt s (packageAt s p)
-  identity-package = ap content (runtime-stands h .value)
-
--- the loop of `seen_identity`
-pub record Matching (s : List ℕ) (from n p at k : ℕ) : Type 0 where
-  pub items : Items (runtimeField settings) k s at
-  pub here : Placed (runtimeField settings) s p
-  pub leads : amongIdentities (identity settings (valueAt (runtimeField settings) s p)) (map (identity settings) (itemsAt (runtimeField settings) n s from))
-      ≡ amongIdentities (identity settings (valueAt (runtimeField settings) s p)) (map (identity settings) (itemsAt (runtimeField settings) k s at))
-
-among-step : (x y : Identity) (ys : List Identity) (q : Bool) → q ≡ pick (same (content (x .1)) (content (y .1))) (same (content (x .0)) (content (y .0))) false
-    → amongIdentities x (y ∷ ys) ≡ pick q true (amongIdentities x ys)
-unfolding amongIdentities pick
-among-step x y ys q e = rw e (go (same (content (x .1)) (content (y .1))) (same (content (x .0)) (content (y .0))) (amongIdentities x ys))
-  where
-    go : (n p r : Bool) → pick n (pick p true r) r ≡ pick (pick n p false) true r
-    go true p r = refl
-    go false p r = refl
-
-module _ {s : List ℕ} {from n p : ℕ} where
-  pub matching-start : After (runtimeField settings) s from n p → Matching s from n p from n
-  matching-start h = record { items = h .before; here = h .here; leads = refl }
-
-  module _ {at k : ℕ} (h : 0 < k) (l : Matching s from n p at k) where
-    pub matching-here : Placed (runtimeField settings) s at
-    matching-here = items-here h (l .items)
-
-    pub matching-both : TwoPlaced (runtimeField settings) s p at
-    matching-both = record { fore = l .here; back = matching-here }
-
-    matching-step : {q : Bool} {z : ℕ} → SameIdentity s p at q → Past (runtimeField settings) s at z
-        → amongIdentities (identity settings (valueAt (runtimeField settings) s p)) (map (identity settings) (itemsAt (runtimeField settings) k s at))
-        ≡ pick q true (amongIdentities (identity settings (valueAt (runtimeField settings) s p)) (map (identity settings) (itemsAt (runtimeField settings) (k - 1) s z)))
-    matching-step {q} w v =
-        ap (λ vs. amongIdentities (identity settings (valueAt (runtimeField settings) s p)) (map (identity settings) vs)) (items-cons h (l .items) v)
-        ∙ among-step _ _ _ q (w .is ∙ sym (rw (identity-name (l .here .stands), identity-name (matching-here .stands), identity-package (l .here .stands), identity-package (matching-here .stands))))
-
-    module _ {q : Bool} (w : SameIdentity s p at q) where
-      pub matching-more : {z : ℕ} → q ≡ false → Past (runtimeField settings) s at z → Matching s from n p z (k - 1)
-      unfolding pick
-      matching-more e v = record { items = items-next h (l .items) v; here = l .here; leads = l .leads ∙ matching-step w v ∙ rw e }
-
-      pub matching-found : q ≡ true → SeenIdentity s from n p true
-      unfolding pick
-      matching-found e = record { is = sym (l .leads ∙ matching-step w past-next ∙ rw e) }
-
-  pub matching-done : {at k : ℕ} → k ≤ 0 → Matching s from n p at k → SeenIdentity s from n p false
-  unfolding amongIdentities
-  matching-done {at} {k} h l = record { is = sym (l .leads ∙ rw (items-none (runtimeField settings) k s at h)) }
-
-pub ruleset repeats = (items-here, items-next, looking-start, looking-here, looking-text, looking-more, looking-found, looking-done, counting-start, counting-here, counting-text, counting-more, counting-done, runtime-name, runtime-package, same-names, other-names, matching-start, matching-here, matching-both, matching-more, matching-found, matching-done)
+pub ruleset repeating = (items-here, walking-stands, exempt-field, exempt-method, exempt-identity, same-packages, other-names, same-field, same-method, same-identity, looking-start, looking-here, looking-both, looking-more, looking-found, looking-done, repeat-exempt, repeat-seen, scanning-start, scanning-done, scanning-found, scanning-more, counting-start, counting-here, counting-text, counting-more, counting-done, runtime-package)

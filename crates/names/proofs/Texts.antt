@@ -27,7 +27,7 @@ module _ {s : List ℕ} {p n : ℕ} (h : TextAt s p) (e : WordIs s p n) where
   pub text-room : p + 4 + n ≤ length s
   text-room = omega (arith, h .room, e .is)
 
-  text-part : textAt s p ≡ part s (p + 4) n
+  pub text-part : textAt s p ≡ part s (p + 4) n
   text-part = rw (← e .is)
 
   pub text-length : length (textAt s p) ≡ n
@@ -35,7 +35,7 @@ module _ {s : List ℕ} {p n : ℕ} (h : TextAt s p) (e : WordIs s p n) where
 
 -- ---- bytes compared
 
-piece : (s : List ℕ) (p k : ℕ) → 0 < k → p + k ≤ length s → part s p k ≡ getD s p 0 ∷ part s (p + 1) (k - 1)
+pub piece : (s : List ℕ) (p k : ℕ) → 0 < k → p + k ≤ length s → part s p k ≡ getD s p 0 ∷ part s (p + 1) (k - 1)
 piece s p zero h b = absurd (omega arith)
 piece s p (suc k) h b =
     let e : suc k - 1 ≡ k = omega arith in

@@ -1,38 +1,39 @@
 -- The questions on the items of a list one by one, each by the items before it.
 use Prim.Native.Nat.{ℕ, zero, suc, _+_}
-use mathlib.Core.List.{List, [], _∷_, _++_, map}
+use mathlib.Core.List.{List, [], _∷_, _++_}
 use lib.ListN.{length}
-use Rattle.format.specs.Trace.{pick}
+use Rattle.format.specs.Trace.{Wrong, pick}
 use Rattle.format.specs.Format.{Value, start, content, Ask, pay}
 use Rattle.vob24.specs.Refusals as refusals
 use Rattle.vob24.specs.Settings.{settings}
 use Rattle.vob24.specs.Leaves.{packedOk}
-use Rattle.vob24.specs.Questions.{refuseIf, refuseUnless, among, blank, repeat, amongIdentities, functionWrong}
+use Rattle.vob24.specs.Questions.{refuseIf, refuseUnless, among, blank, repeat, functionWrong}
 use Rattle.vob24.specs.Grammar.{method, methodName, identity, transferred}
-use Rattle.names.specs.declared.Item.{Item}
-use Rattle.names.specs.Items.{nameOf, contents}
+use Rattle.names.specs.declared.Item.the-variants.{StructField}
+use Rattle.names.specs.declared.Table.{Table}
+use Rattle.names.specs.declared.Table.the-variants.{Fields, Methods, Identities}
+use Rattle.names.specs.Items.{nameOf}
+use Rattle.names.specs.Tables.{repeats}
 use Rattle.names.specs.Walk.{valueAt, lastAt}
 
 unfoldable pub over : (List Value → Value → List Ask) → List Value → List Value → List Ask
 over ask before [] = []
 over ask before (v ∷ vs) = ask before v ++ over ask (before ++ (v ∷ [])) vs
 
--- 16: the key's charge, and that it is new; "_" is no key
-unfoldable pub keyAsks : Item → List Value → Value → List Ask
-keyAsks i before v =
-    pick (blank (nameOf i v)) []
-    (pay refusals.structFieldKey (length (content (nameOf i v)))
-    ∷ refuseIf (among (content (nameOf i v)) (contents i before)) (repeat refusals.duplicateStructField 0 (nameOf i v)))
+-- 16: a struct field's name is charged; "_" is no key
+abbrev pub charges : Table → Value → List Ask
+charges Fields v = pick (blank (nameOf StructField v)) [] (pay refusals.structFieldKey (length (content (nameOf StructField v))) ∷ [])
+charges (Methods i) v = []
+charges Identities v = []
 
--- 17
-unfoldable pub nameAsks : Item → List Value → Value → List Ask
-nameAsks i before v = refuseIf (among (content (nameOf i v)) (contents i before)) (repeat refusals.duplicateInterfaceMethod 0 (nameOf i v))
+abbrev pub wrongIn : Table → Value → Wrong
+wrongIn Fields v = repeat refusals.duplicateStructField 0 (nameOf StructField v)
+wrongIn (Methods i) v = repeat refusals.duplicateInterfaceMethod 0 (nameOf i v)
+wrongIn Identities v = repeat refusals.duplicateRuntimeStructField (start (identity settings v .0)) (identity settings v .1)
 
--- 19: "_" is exempt
-unfoldable pub identityAsks : List Value → Value → List Ask
-identityAsks before v =
-    pick (blank (identity settings v .1)) []
-    (refuseIf (amongIdentities (identity settings v) (map (identity settings) before)) (repeat refusals.duplicateRuntimeStructField (start (identity settings v .0)) (identity settings v .1)))
+-- 16, 17, 19: an item's charge, and that it repeats none before it
+unfoldable pub tableAsks : Table → List Value → Value → List Ask
+tableAsks t before v = charges t v ++ refuseIf (repeats t before v) (wrongIn t v)
 
 -- 20: the words meta and rttid of the entry numbered i; c is the context of the meta word
 unfoldable pub transferAsks : ℕ → ℕ → Value → List Ask

@@ -2,23 +2,25 @@
 use Prim.Native.Nat.{ℕ, _+_, _≤_, _<_}
 use mathlib.Core.Path.{_≡_}
 use mathlib.Core.List.{List, [], _∷_, map}
-use mathlib.Core.Bool.{Bool, false}
+use mathlib.Core.Bool.{Bool, true, false}
 use lib.ListN.{length}
 use Rattle.format.specs.Trace.{pick}
 use Rattle.format.specs.Format.{Value, Ask, Format}
 use Rattle.format.specs.Reading.{little, part, same}
 use Rattle.vob24.specs.Settings.{settings, maxPackBytes}
-use Rattle.vob24.specs.Questions.{among, named, amongIdentities}
-use Rattle.vob24.specs.Grammar.{method, runtimeField, identity, transfer}
+use Rattle.vob24.specs.Questions.{named, amongIdentities}
+use Rattle.vob24.specs.Grammar.{method, transfer}
 use Rattle.reader.specs.Contract.{refusal, Ready, Asks}
 use Rattle.reader.specs.declared.Cursor.{Cursor}
 use Rattle.reader.specs.declared.Refusal.{Refusal}
 use Rattle.reader.specs.declared.Step.{Step}
 use Rattle.reader.specs.declared.Step.the-variants.{Taken, Refused}
 use Rattle.names.specs.declared.Item.{Item}
-use Rattle.names.specs.Items.{formatOf, nameOf, contents, textAt, endOf, packageAt}
-use Rattle.names.specs.Asking.{seenAt, methodAsks}
-use Rattle.names.specs.Walk.{Stands, AllStand, valueAt, nextAt, itemsAt}
+use Rattle.names.specs.declared.Table.{Table}
+use Rattle.names.specs.Walk.{Stands, AllStand, valueAt, nextAt, itemsAt, lastAt}
+use Rattle.names.specs.Items.{formatOf, nameOf, textAt, endOf, packageAt}
+use Rattle.names.specs.Tables.{formatIn, keyOf, packageText, exempt, repeatAt}
+use Rattle.names.specs.Asking.{charges, wrongIn, seenAt, methodAsks}
 
 -- A text stands at p, in a pack that is not too long.
 pub record TextAt (s : List ℕ) (p : ℕ) : Type 0 where
@@ -58,14 +60,6 @@ pub record Items (f : Format) (n : ℕ) (s : List ℕ) (p : ℕ) : Type 0 where
   pub small : length s ≤ maxPackBytes
   pub all : AllStand f n s p
 
--- Whether the text at p stands among the names of the first n items.
-pub record SeenAt (i : Item) (s : List ℕ) (from n p : ℕ) : Type 0 where
-  pub items : Items (formatOf i) n s from
-  pub text : TextAt s p
-
-pub record Seen (i : Item) (s : List ℕ) (from n p : ℕ) (q : Bool) : Type 0 where
-  pub is : q ≡ among (textAt s p) (contents i (itemsAt (formatOf i) n s from))
-
 -- An item at p after n others.
 pub record After (f : Format) (s : List ℕ) (from n p : ℕ) : Type 0 where
   pub before : Items f n s from
@@ -75,15 +69,41 @@ pub record TwoPlaced (f : Format) (s : List ℕ) (a b : ℕ) : Type 0 where
   pub fore : Placed f s a
   pub back : Placed f s b
 
-pub record SameIdentity (s : List ℕ) (a b : ℕ) (q : Bool) : Type 0 where
-  pub is : q ≡ pick (same (textAt s a) (textAt s b)) (same (textAt s (packageAt s a)) (textAt s (packageAt s b))) false
+-- Keys, and whether they stand among those of the first n items.
+pub record ExemptIs (t : Table) (s : List ℕ) (p : ℕ) (q : Bool) : Type 0 where
+  pub is : q ≡ exempt t (textAt s p)
 
-pub record SeenIdentity (s : List ℕ) (from n p : ℕ) (q : Bool) : Type 0 where
-  pub is : q ≡ amongIdentities (identity settings (valueAt (runtimeField settings) s p)) (map (identity settings) (itemsAt (runtimeField settings) n s from))
+pub record SamePackage (t : Table) (s : List ℕ) (a b : ℕ) (q : Bool) : Type 0 where
+  pub is : q ≡ same (packageText t s a) (packageText t s b)
+
+pub record SameKey (t : Table) (s : List ℕ) (a b : ℕ) (q : Bool) : Type 0 where
+  pub is : q ≡ pick (same (textAt s a) (textAt s b)) (same (packageText t s a) (packageText t s b)) false
+
+pub record Seen (t : Table) (s : List ℕ) (from n p : ℕ) (q : Bool) : Type 0 where
+  pub is : q ≡ amongIdentities (keyOf t (valueAt (formatIn t) s p)) (map (keyOf t) (itemsAt (formatIn t) n s from))
+
+-- Item i, which stands at p.
+pub record Standing (t : Table) (s : List ℕ) (from i p : ℕ) : Type 0 where
+  pub after : After (formatIn t) s from i p
+  pub place : p ≡ lastAt (formatIn t) i s from
+
+-- q is the first of n items that repeats one before it, or n.
+pub record FirstRepeat (t : Table) (s : List ℕ) (from n q : ℕ) : Type 0 where
+  pub within : q ≤ n
+  pub new : (k : ℕ) → k < q → repeatAt t s from k ≡ false
+  pub found : q < n → repeatAt t s from q ≡ true
+
+-- The charge, at c, of the key of the item at p.
+pub record Charged (t : Table) (s : List ℕ) (p : ℕ) (c : Cursor) (q : Step) : Type 0 where
+  pub asks : Asks (charges t (valueAt (formatIn t) s p)) c q
 
 -- The refusal, at c, of the text at p: its start and its length.
 pub record Repeated (s : List ℕ) (p : ℕ) (c : Cursor) (number context : ℕ) (q : Step) : Type 0 where
   pub is : q ≡ Refused (refusal (record { number = number; context = context; detail1 = p + 4; detail2 = length (textAt s p) }) (c .place) (c .left))
+
+-- The refusal, at c, of the item at p, which repeats another.
+pub record RepeatTold (t : Table) (s : List ℕ) (p : ℕ) (c : Cursor) (q : Step) : Type 0 where
+  pub is : q ≡ Refused (refusal (wrongIn t (valueAt (formatIn t) s p)) (c .place) (c .left))
 
 -- How many of n items have a name other than "_".
 pub record Named (i : Item) (s : List ℕ) (from n q : ℕ) : Type 0 where

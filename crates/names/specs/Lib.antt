@@ -1,4 +1,6 @@
 pub mod Walk
 pub mod Items
+pub mod Tables
 pub mod Asking
 pub mod Contract
+pub mod Filter

@@ -1,11 +1,12 @@
 // Questions on the items of a list that was read: is a name new among those before it, is a transfer word valid?
 // Ports build_struct_field_index, validate_unique_interface_method_names, insert_named_method, and the checks of runtime struct fields and
-// transfer types of serialize.rs. There is no heap: a name is compared with all earlier ones, in file order, where they stand in the pack.
+// transfer types of serialize.rs. There is no heap: names are compared where they stand in the pack, and a filter says which need it.
 ghost use mathlib.Core.Path.{_≡_};
 ghost use Prim.Native.Nat.{_+_, _≤_, _<_};
 ghost use mathlib.Core.List.{[], map};
 ghost use lib.ListN.{length};
 ghost use Rattle.format.specs.Trace.{pick};
+ghost use Rattle.format.specs.Reading.{part};
 ghost use Rattle.vob24.specs.Settings.{settings};
 ghost use Rattle.vob24.specs.Leaves.{str, optional, packedOk};
 ghost use Rattle.vob24.specs.Questions.{functionWrong, transferWords};
@@ -13,8 +14,10 @@ ghost use Rattle.vob24.specs.Grammar.{structField, fieldName, fieldIndex, metho
 ghost use Rattle.reader.specs.Contract.{refusal, Asks};
 ghost use Rattle.names.specs.Walk.{valueAt, itemsAt};
 ghost use Rattle.names.specs.Items.{formatOf, namesOf};
-ghost use Rattle.names.specs.Asking.{over, keyAsks, nameAsks, identityAsks, transferAsks, transferOver};
-ghost use Rattle.names.specs.Contract.{TextAt, WordIs, EndIs, SameBytes, SameText, BlankIs, Placed, Past, PackageIs, Items, SeenAt, Seen, After, TwoPlaced, SameIdentity, SeenIdentity, Repeated, Named, TransferAt, ListBehind, ListAsked, MethodBehind, MethodAsked};
+ghost use Rattle.names.specs.Tables.{formatIn, repeatAt};
+ghost use Rattle.names.specs.Filter.{mixed, HashIs, TextHash, PackageHash, KeyHash, maskOf, Filter, Known, PassedOr, FirstOr};
+ghost use Rattle.names.specs.Asking.{over, tableAsks, transferAsks, transferOver};
+ghost use Rattle.names.specs.Contract.{TextAt, WordIs, EndIs, SameBytes, SameText, BlankIs, Placed, Past, PackageIs, Items, After, TwoPlaced, ExemptIs, SamePackage, SameKey, Seen, Standing, FirstRepeat, Charged, Repeated, RepeatTold, Named, TransferAt, ListBehind, ListAsked, MethodBehind, MethodAsked};
 use reader::Cursor;
 use reader::Refusal;
 use reader::Step;
@@ -29,6 +32,25 @@ pub enum Item {
     RuntimeMethod,
     NamedMethod,
     RuntimeField,
+}
+
+// The items of a table have different keys: names; packages and names in `Identities`. "_" is exempt in `Fields` and `Identities`.
+pub enum Table {
+    Fields,
+    Methods(Item),
+    Identities,
+}
+
+// An item's key was seen before; too many were compared in vain; or go on, with so many comparisons left.
+pub enum Told {
+    Old,
+    Stop,
+    On(usize),
+}
+
+pub enum Outcome {
+    Done(usize),
+    Tired,
 }
 
 // ---- texts
@@ -136,52 +158,295 @@ pub fn past(s: &[u8], item: Item, p: usize) -> usize
     }
 }
 
-// Does the text at p stand among the names of the first n items from `from` on?
-pub fn seen(s: &[u8], item: Item, from: usize, n: usize, p: usize) -> bool
-    requires { ⌜ SeenAt item (now s) from n p ⌝ }
-    ensures { λ q. ⌜ Seen item (now (s .entry)) from n p q ⌝ }
+// ---- tables of items: what tells them apart, and the first that repeats another
+
+fn past_item(s: &[u8], table: Table, p: usize) -> usize
+    requires { ⌜ Placed (formatIn table) (now s) p ⌝ }
+    ensures { λ q. ⌜ Past (formatIn table) (now (s .entry)) p q ⌝ }
 {
-    let mut at = from;
-    let mut k = n;
-    while 0 < k {
-        if same_text(s, p, at) {
-            return true;
-        }
-        at = past(s, item, at);
-        k -= 1;
+    match table {
+        Table::Fields => past(s, Item::StructField, p),
+        Table::Methods(item) => past(s, item, p),
+        Table::Identities => past(s, Item::RuntimeField, p),
     }
-    false
 }
 
-// Have the runtime struct's fields at a and at b the same package and name?
-fn same_identity(s: &[u8], a: usize, b: usize) -> bool
+// May the name at p be repeated?
+fn exempt(s: &[u8], table: Table, p: usize) -> bool
+    requires { ⌜ TextAt (now s) p ⌝ }
+    ensures { λ q. ⌜ ExemptIs table (now (s .entry)) p q ⌝ }
+{
+    match table {
+        Table::Fields => blank(s, p),
+        Table::Methods(_) => false,
+        Table::Identities => blank(s, p),
+    }
+}
+
+// Have the fields of a runtime struct at a and at b the same package?
+fn same_package(s: &[u8], a: usize, b: usize) -> bool
     requires { ⌜ TwoPlaced (runtimeField settings) (now s) a b ⌝ }
-    ensures { λ q. ⌜ SameIdentity (now (s .entry)) a b q ⌝ }
+    ensures { λ q. ⌜ SamePackage Table.Identities (now (s .entry)) a b q ⌝ }
+{
+    let package = package_at(s, a);
+    let other = package_at(s, b);
+    same_text(s, package, other)
+}
+
+// Have the items at a and at b the same key?
+fn same_key(s: &[u8], table: Table, a: usize, b: usize) -> bool
+    requires { ⌜ TwoPlaced (formatIn table) (now s) a b ⌝ }
+    ensures { λ q. ⌜ SameKey table (now (s .entry)) a b q ⌝ }
 {
     if same_text(s, a, b) {
-        let package = package_at(s, a);
-        let other = package_at(s, b);
-        return same_text(s, package, other);
+        return match table {
+            Table::Fields => true,
+            Table::Methods(_) => true,
+            Table::Identities => same_package(s, a, b),
+        };
     }
     false
 }
 
-// Does the identity of the field at p stand among those of the first n fields from `from` on?
-fn seen_identity(s: &[u8], from: usize, n: usize, p: usize) -> bool
-    requires { ⌜ After (runtimeField settings) (now s) from n p ⌝ }
-    ensures { λ q. ⌜ SeenIdentity (now (s .entry)) from n p q ⌝ }
+// Does the key of the item at p stand among those of the first n items from `from` on?
+fn seen(s: &[u8], table: Table, from: usize, n: usize, p: usize) -> bool
+    requires { ⌜ After (formatIn table) (now s) from n p ⌝ }
+    ensures { λ q. ⌜ Seen table (now (s .entry)) from n p q ⌝ }
 {
     let mut at = from;
     let mut k = n;
     while 0 < k {
-        if same_identity(s, p, at) {
+        if same_key(s, table, p, at) {
             return true;
         }
-        at = past(s, Item::RuntimeField, at);
+        at = past_item(s, table, at);
         k -= 1;
     }
     false
 }
+
+// Does the item at p repeat one of the i before it?
+fn repeats_one(s: &[u8], table: Table, from: usize, i: usize, p: usize) -> bool
+    requires { ⌜ Standing table (now s) from i p ⌝ }
+    ensures { λ q. ⌜ q ≡ repeatAt table (now (s .entry)) from i ⌝ }
+{
+    if exempt(s, table, p) {
+        return false;
+    }
+    seen(s, table, from, i, p)
+}
+
+// The first of the n items from `from` on that repeats one before it, or n: each is compared with all before it.
+fn scan(s: &[u8], table: Table, from: usize, n: usize) -> usize
+    requires { ⌜ Items (formatIn table) n (now s) from ⌝ }
+    ensures { λ q. ⌜ FirstRepeat table (now (s .entry)) from n q ⌝ }
+{
+    let mut p = from;
+    let mut i = 0;
+    while i < n {
+        if repeats_one(s, table, from, i, p) {
+            return i;
+        }
+        p = past_item(s, table, p);
+        i += 1;
+    }
+    n
+}
+
+// ---- a hash of an item's key, four bytes at a time
+
+fn wide(b: u8) -> u64
+    ensures { λ q. ⌜ (q ≡ b) × (q < 256) ⌝ }
+{
+    b as u64
+}
+
+fn mix(a: u64, h: u64, w: u64) -> u64
+    requires { ⌜ (a < 4294967296) × (w < 4294967296) ⌝ }
+    ensures { λ q. ⌜ q ≡ mixed a h w ⌝ }
+{
+    (h % 4294967296) * a + h / 4294967296 + w
+}
+
+// The hash h, and the len bytes at start.
+fn hash_bytes(s: &[u8], start: usize, len: usize, a: u64, h: u64) -> u64
+    requires { ⌜ (start + len ≤ length (now s)) × (a < 4294967296) ⌝ }
+    ensures { λ q. ⌜ HashIs a h (part (now (s .entry)) start len) q ⌝ }
+{
+    let mut g = h;
+    let mut p = start;
+    let mut k = len;
+    while 4 <= k {
+        g = mix(a, g, word_at(s, p) as u64);
+        p += 4;
+        k -= 4;
+    }
+    while 0 < k {
+        g = mix(a, g, wide(s[p]));
+        p += 1;
+        k -= 1;
+    }
+    g
+}
+
+// The hash h, and the text at p. Its length goes in too: a name and a package are told apart from another split of the same bytes.
+fn hash_text(s: &[u8], p: usize, a: u64, h: u64) -> u64
+    requires { ⌜ (TextAt (now s) p) × (a < 4294967296) ⌝ }
+    ensures { λ q. ⌜ TextHash a h (now (s .entry)) p q ⌝ }
+{
+    let n = word_at(s, p);
+    hash_bytes(s, p + 4, n, a, mix(a, h, n as u64))
+}
+
+fn hash_package(s: &[u8], table: Table, p: usize, a: u64, h: u64) -> u64
+    requires { ⌜ (Placed (formatIn table) (now s) p) × (a < 4294967296) ⌝ }
+    ensures { λ q. ⌜ PackageHash a h table (now (s .entry)) p q ⌝ }
+{
+    match table {
+        Table::Fields => mix(a, h, 0),
+        Table::Methods(_) => mix(a, h, 0),
+        Table::Identities => {
+            let package = package_at(s, p);
+            hash_text(s, package, a, h)
+        }
+    }
+}
+
+fn hash_key(s: &[u8], table: Table, p: usize, a: u64) -> u64
+    requires { ⌜ (Placed (formatIn table) (now s) p) × (a < 4294967296) ⌝ }
+    ensures { λ q. ⌜ KeyHash a table (now (s .entry)) p q ⌝ }
+{
+    let h = hash_package(s, table, p, a, hash_text(s, p, a, 0));
+    mix(a, mix(a, h, 0), 0)
+}
+
+// ---- the filter: a name that was seen has left four bits in one of its words
+
+fn mask(h: u64) -> u64
+    ensures { λ q. ⌜ q ≡ maskOf h ⌝ }
+{
+    (1 << (h / 32768 % 64))
+        | (1 << (h / 2097152 % 64))
+        | (1 << (h / 134217728 % 64))
+        | (1 << (h / 8589934592 % 64))
+}
+
+// Does the item at p repeat one of the i before it? Asked where its class is from lo to hi. At most `left` items are compared with all before them in vain.
+fn known(
+    s: &[u8],
+    table: Table,
+    from: usize,
+    i: usize,
+    p: usize,
+    lo: u64,
+    hi: u64,
+    a: u64,
+    left: usize,
+    f: &mut [u64; 32768],
+) -> Told
+    requires { ⌜ (Standing table (now s) from i p) × (Filter a table (now s) from i lo hi (now f)) × (a < 4294967296) ⌝ }
+    ensures { λ q. ⌜ Known a table (now (s .entry)) from i lo hi (now (f .exit)) q ⌝ }
+{
+    let h = hash_key(s, table, p, a);
+    let class = h / 281474976710656 % 65536;
+    if class < lo {
+        return Told::On(left);
+    }
+    if hi <= class {
+        return Told::On(left);
+    }
+    let k = (h % 32768) as usize;
+    let m = mask(h);
+    let w = f[k];
+    f[k] = w | m;
+    let x = w & m;
+    if x != m {
+        return Told::On(left);
+    }
+    if exempt(s, table, p) {
+        return Told::On(left);
+    }
+    if left == 0 {
+        return Told::Stop;
+    }
+    if seen(s, table, from, i, p) {
+        return Told::Old;
+    }
+    Told::On(left - 1)
+}
+
+// The first repeat, of the items whose class is from lo to hi.
+fn pass(
+    s: &[u8],
+    table: Table,
+    from: usize,
+    n: usize,
+    lo: u64,
+    hi: u64,
+    a: u64,
+    most: usize,
+) -> Outcome
+    requires { ⌜ (Items (formatIn table) n (now s) from) × (a < 4294967296) ⌝ }
+    ensures { λ q. ⌜ PassedOr a table (now (s .entry)) from n lo hi q ⌝ }
+{
+    let mut f = [0u64; 32768];
+    let mut left = most;
+    let mut p = from;
+    let mut i = 0;
+    while i < n {
+        match known(s, table, from, i, p, lo, hi, a, left, &mut f) {
+            Told::Old => {
+                return Outcome::Done(i);
+            }
+            Told::Stop => {
+                return Outcome::Tired;
+            }
+            Told::On(l) => {
+                left = l;
+            }
+        }
+        p = past_item(s, table, p);
+        i += 1;
+    }
+    Outcome::Done(n)
+}
+
+// The first repeat by the key a: a pass for each 32768 items.
+fn filtered(s: &[u8], table: Table, from: usize, n: usize, a: u64) -> Outcome
+    requires { ⌜ (Items (formatIn table) n (now s) from) × (a < 4294967296) ⌝ }
+    ensures { λ q. ⌜ FirstOr table (now (s .entry)) from n q ⌝ }
+{
+    let parts = n / 32768 + 1;
+    let classes = 65536 / (parts as u64) + 1;
+    let mut lim = n;
+    let mut lo: u64 = 0;
+    while lo < 65536 {
+        let hi = lo + classes;
+        let Outcome::Done(q) = pass(s, table, from, lim, lo, hi, a, 100) else {
+            return Outcome::Tired;
+        };
+        lim = q;
+        lo = hi;
+    }
+    Outcome::Done(lim)
+}
+
+// The first of the n items from `from` on that repeats one before it, or n.
+fn first_repeat(s: &[u8], table: Table, from: usize, n: usize) -> usize
+    requires { ⌜ Items (formatIn table) n (now s) from ⌝ }
+    ensures { λ q. ⌜ FirstRepeat table (now (s .entry)) from n q ⌝ }
+{
+    if n < 40 {
+        return scan(s, table, from, n);
+    }
+    let found = filtered(s, table, from, n, 2654435761);
+    let Outcome::Done(lim) = found else {
+        return scan(s, table, from, n);
+    };
+    lim
+}
+
+// ---- their refusals
 
 // The refusal of a repeat: where it starts, and its length.
 fn repeated(s: &[u8], p: usize, c: Cursor, number: u64, context: u64) -> Step
@@ -197,6 +462,74 @@ fn repeated(s: &[u8], p: usize, c: Cursor, number: u64, context: u64) -> Step
         place: c.place,
         left: c.left,
     })
+}
+
+// The refusal, at c, of the item at p.
+fn refuse_repeat(s: &[u8], table: Table, p: usize, c: Cursor) -> Step
+    requires { ⌜ Placed (formatIn table) (now s) p ⌝ }
+    ensures { λ q. ⌜ RepeatTold table (now (s .entry)) p c q ⌝ }
+{
+    match table {
+        Table::Fields => repeated(s, p, c, numbers::DUPLICATE_STRUCT_FIELD, 0),
+        Table::Methods(_) => repeated(s, p, c, numbers::DUPLICATE_INTERFACE_METHOD, 0),
+        Table::Identities => {
+            let package = package_at(s, p);
+            repeated(
+                s,
+                p,
+                c,
+                numbers::DUPLICATE_RUNTIME_STRUCT_FIELD,
+                (package + 4) as u64,
+            )
+        }
+    }
+}
+
+// A struct field's name is charged; "_" is no key.
+fn charge_field(s: &[u8], p: usize, c: Cursor) -> Step
+    requires { ⌜ Placed (structField settings) (now s) p ⌝ }
+    ensures { λ q. ⌜ Charged Table.Fields (now (s .entry)) p c q ⌝ }
+{
+    if blank(s, p) {
+        return Step::Taken(c);
+    }
+    let len = word_at(s, p);
+    reader::charge_allocation(c, numbers::STRUCT_FIELD_KEY, len as u64)
+}
+
+fn charge_key(s: &[u8], table: Table, p: usize, c: Cursor) -> Step
+    requires { ⌜ Placed (formatIn table) (now s) p ⌝ }
+    ensures { λ q. ⌜ Charged table (now (s .entry)) p c q ⌝ }
+{
+    match table {
+        Table::Fields => charge_field(s, p, c),
+        Table::Methods(_) => Step::Taken(c),
+        Table::Identities => Step::Taken(c),
+    }
+}
+
+// The questions on n items, one by one: an item's key is charged just before it is compared.
+fn distinct(s: &[u8], table: Table, from: usize, n: usize, c: Cursor) -> Step
+    requires { ⌜ Items (formatIn table) n (now s) from ⌝ }
+    ensures { λ q. ⌜ Asks (over (tableAsks table) [] (itemsAt (formatIn table) n (now (s .entry)) from)) c q ⌝ }
+{
+    let lim = first_repeat(s, table, from, n);
+    let mut p = from;
+    let mut i = 0;
+    let mut here = c;
+    while i < n {
+        let paid = charge_key(s, table, p, here);
+        let Step::Taken(d) = paid else {
+            return paid;
+        };
+        if i == lim {
+            return refuse_repeat(s, table, p, d);
+        }
+        here = d;
+        p = past_item(s, table, p);
+        i += 1;
+    }
+    Step::Taken(here)
 }
 
 // ---- 16: the fields of a struct
@@ -223,44 +556,6 @@ fn named(s: &[u8], from: usize, n: usize) -> u64
     m
 }
 
-// The field at p, after i others: its name is charged just before it is compared.
-fn key(s: &[u8], from: usize, i: usize, p: usize, c: Cursor) -> Step
-    requires { ⌜ After (structField settings) (now s) from i p ⌝ }
-    ensures { λ q. ⌜ Asks (keyAsks Item.StructField (itemsAt (structField settings) i (now (s .entry)) from) (valueAt (structField settings) (now (s .entry)) p)) c q ⌝ }
-{
-    if blank(s, p) {
-        return Step::Taken(c);
-    }
-    let len = word_at(s, p);
-    let paid = reader::charge_allocation(c, numbers::STRUCT_FIELD_KEY, len as u64);
-    let Step::Taken(d) = paid else {
-        return paid;
-    };
-    if seen(s, Item::StructField, from, i, p) {
-        return repeated(s, p, d, numbers::DUPLICATE_STRUCT_FIELD, 0);
-    }
-    paid
-}
-
-fn keys(s: &[u8], from: usize, n: usize, c: Cursor) -> Step
-    requires { ⌜ Items (structField settings) n (now s) from ⌝ }
-    ensures { λ q. ⌜ Asks (over (keyAsks Item.StructField) [] (itemsAt (structField settings) n (now (s .entry)) from)) c q ⌝ }
-{
-    let mut p = from;
-    let mut i = 0;
-    let mut here = c;
-    while i < n {
-        let step = key(s, from, i, p, here);
-        let Step::Taken(d) = step else {
-            return step;
-        };
-        here = d;
-        p = past(s, Item::StructField, p);
-        i += 1;
-    }
-    Step::Taken(here)
-}
-
 // The index of the fields whose list was read at r, asked at r1.
 pub fn field_index(s: &[u8], r: Step, r1: Step) -> Step
     requires { ⌜ ListBehind (structField settings) (now s) r r1 ⌝ }
@@ -280,39 +575,10 @@ pub fn field_index(s: &[u8], r: Step, r1: Step) -> Step
     let Step::Taken(e) = paid else {
         return paid;
     };
-    keys(s, from, n, e)
+    distinct(s, Table::Fields, from, n, e)
 }
 
 // ---- 17: the methods of an interface
-
-fn new_name(s: &[u8], item: Item, from: usize, i: usize, p: usize, c: Cursor) -> Step
-    requires { ⌜ After (formatOf item) (now s) from i p ⌝ }
-    ensures { λ q. ⌜ Asks (nameAsks item (itemsAt (formatOf item) i (now (s .entry)) from) (valueAt (formatOf item) (now (s .entry)) p)) c q ⌝ }
-{
-    if seen(s, item, from, i, p) {
-        return repeated(s, p, c, numbers::DUPLICATE_INTERFACE_METHOD, 0);
-    }
-    Step::Taken(c)
-}
-
-fn new_names(s: &[u8], item: Item, from: usize, n: usize, c: Cursor) -> Step
-    requires { ⌜ Items (formatOf item) n (now s) from ⌝ }
-    ensures { λ q. ⌜ Asks (over (nameAsks item) [] (itemsAt (formatOf item) n (now (s .entry)) from)) c q ⌝ }
-{
-    let mut p = from;
-    let mut i = 0;
-    let mut here = c;
-    while i < n {
-        let step = new_name(s, item, from, i, p, here);
-        let Step::Taken(d) = step else {
-            return step;
-        };
-        here = d;
-        p = past(s, item, p);
-        i += 1;
-    }
-    Step::Taken(here)
-}
 
 // The set of the names whose list was read at r, asked at r1.
 pub fn method_set(s: &[u8], item: Item, r: Step, r1: Step) -> Step
@@ -332,7 +598,7 @@ pub fn method_set(s: &[u8], item: Item, r: Step, r1: Step) -> Step
     let Step::Taken(e) = paid else {
         return paid;
     };
-    new_names(s, item, place + 4, n, e)
+    distinct(s, Table::Methods(item), place + 4, n, e)
 }
 
 // ---- 18: the methods of a named type
@@ -349,52 +615,13 @@ pub fn new_method(s: &[u8], from: usize, n: usize, r: Step, r1: Step) -> Step
         return r1;
     };
     let place = c.place;
-    if seen(s, Item::NamedMethod, from, n, place) {
+    if seen(s, Table::Methods(Item::NamedMethod), from, n, place) {
         return repeated(s, place, d, numbers::DUPLICATE_NAMED_METHOD, 0);
     }
     r1
 }
 
 // ---- 19: the fields of a runtime struct
-
-fn new_identity(s: &[u8], from: usize, i: usize, p: usize, c: Cursor) -> Step
-    requires { ⌜ After (runtimeField settings) (now s) from i p ⌝ }
-    ensures { λ q. ⌜ Asks (identityAsks (itemsAt (runtimeField settings) i (now (s .entry)) from) (valueAt (runtimeField settings) (now (s .entry)) p)) c q ⌝ }
-{
-    if blank(s, p) {
-        return Step::Taken(c);
-    }
-    if seen_identity(s, from, i, p) {
-        let package = package_at(s, p);
-        return repeated(
-            s,
-            p,
-            c,
-            numbers::DUPLICATE_RUNTIME_STRUCT_FIELD,
-            (package + 4) as u64,
-        );
-    }
-    Step::Taken(c)
-}
-
-fn new_identities(s: &[u8], from: usize, n: usize, c: Cursor) -> Step
-    requires { ⌜ Items (runtimeField settings) n (now s) from ⌝ }
-    ensures { λ q. ⌜ Asks (over identityAsks [] (itemsAt (runtimeField settings) n (now (s .entry)) from)) c q ⌝ }
-{
-    let mut p = from;
-    let mut i = 0;
-    let mut here = c;
-    while i < n {
-        let step = new_identity(s, from, i, p, here);
-        let Step::Taken(d) = step else {
-            return step;
-        };
-        here = d;
-        p = past(s, Item::RuntimeField, p);
-        i += 1;
-    }
-    Step::Taken(here)
-}
 
 // The set of the fields whose list was read at r, asked at r1; "_" is charged too.
 pub fn field_set(s: &[u8], r: Step, r1: Step) -> Step
@@ -414,7 +641,7 @@ pub fn field_set(s: &[u8], r: Step, r1: Step) -> Step
     let Step::Taken(e) = paid else {
         return paid;
     };
-    new_identities(s, place + 4, n, e)
+    distinct(s, Table::Identities, place + 4, n, e)
 }
 
 // ---- 20: transfer words

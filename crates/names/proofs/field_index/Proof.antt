@@ -50,11 +50,11 @@ enum-told-3 c = search needs
 returns-3 : tie.Need-returns-3
 returns-3 c = list-asked ((c .before .before .before .before .before .before .before .r) .given .1) ((c .before .before .before .before .before .before .before .before .before .before .r1) .given .1) ((c .before .before .before .before .before .word-at) .ensures) (index-poor ((c .before .before .before .before .named) .ensures) ((c .before .before .before .size) .ensures .0) ((c .before .before .charge-allocation) .ensures) ((c .enum-told3) .given .1))
 
-keys-requires : tie.Need-keys-requires
-keys-requires c κs = list-items ((c .before .before .before .before .before .before .before .before .r) .given .1) ((c .before .before .before .before .before .before .before .before .before .before .before .r1) .given .1) (c .before .before .before .before .before .before .before .before .before .before .before .before .before .before .pre) ((c .before .before .before .before .before .before .word-at) .ensures)
+distinct-requires : tie.Need-distinct-requires
+distinct-requires c κs = list-items ((c .before .before .before .before .before .before .before .before .r) .given .1) ((c .before .before .before .before .before .before .before .before .before .before .before .r1) .given .1) (c .before .before .before .before .before .before .before .before .before .before .before .before .before .before .pre) ((c .before .before .before .before .before .before .word-at) .ensures)
 
 returns-4 : tie.Need-returns-4
-returns-4 c = list-asked ((c .before .before .before .before .before .before .before .before .before .r) .given .1) ((c .before .before .before .before .before .before .before .before .before .before .before .before .r1) .given .1) ((c .before .before .before .before .before .before .before .word-at) .ensures) (index-then ((c .before .before .before .before .before .before .named) .ensures) ((c .before .before .before .before .before .size) .ensures .0) ((c .before .before .before .before .charge-allocation) .ensures) ((c .before .before .paid) .given .1) ((c .keys) .ensures))
+returns-4 c = list-asked ((c .before .before .before .before .before .before .before .before .before .r) .given .1) ((c .before .before .before .before .before .before .before .before .before .before .before .before .r1) .given .1) ((c .before .before .before .before .before .before .before .word-at) .ensures) (index-then ((c .before .before .before .before .before .before .named) .ensures) ((c .before .before .before .before .before .size) .ensures .0) ((c .before .before .before .before .charge-allocation) .ensures) ((c .before .before .paid) .given .1) ((c .distinct) .ensures))
 
 pub field-index-spec : {M : Type 1} → statement M
 field-index-spec =
@@ -75,5 +75,5 @@ field-index-spec =
     enum-known-paid
     enum-told-3
     returns-3
-    keys-requires
+    distinct-requires
     returns-4)

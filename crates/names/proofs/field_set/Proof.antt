@@ -47,14 +47,14 @@ enum-told-3 c = search needs
 returns-3 : tie.Need-returns-3
 returns-3 c = list-asked ((c .before .before .before .before .before .before .r) .given .1) ((c .before .before .before .before .before .before .before .before .before .r1) .given .1) ((c .before .before .before .before .word-at) .ensures) (field-set-poor (list-items ((c .before .before .before .before .before .before .r) .given .1) ((c .before .before .before .before .before .before .before .before .before .r1) .given .1) (c .before .before .before .before .before .before .before .before .before .before .before .before .pre) ((c .before .before .before .before .word-at) .ensures)) ((c .before .before .before .size) .ensures .0) ((c .before .before .charge-allocation) .ensures) ((c .enum-told3) .given .1))
 
-add-new-identities : tie.Need-add-new-identities
-add-new-identities c = omega (arith, list-room ((c .before .before .before .before .before .before .before .r) .given .1) ((c .before .before .before .before .before .before .before .before .before .before .r1) .given .1) (c .before .before .before .before .before .before .before .before .before .before .before .before .before .pre), list-small ((c .before .before .before .before .before .before .before .r) .given .1) ((c .before .before .before .before .before .before .before .before .before .before .r1) .given .1) (c .before .before .before .before .before .before .before .before .before .before .before .before .before .pre))
+add-distinct : tie.Need-add-distinct
+add-distinct c = omega (arith, list-room ((c .before .before .before .before .before .before .before .r) .given .1) ((c .before .before .before .before .before .before .before .before .before .before .r1) .given .1) (c .before .before .before .before .before .before .before .before .before .before .before .before .before .pre), list-small ((c .before .before .before .before .before .before .before .r) .given .1) ((c .before .before .before .before .before .before .before .before .before .before .r1) .given .1) (c .before .before .before .before .before .before .before .before .before .before .before .before .before .pre))
 
-new-identities-requires : tie.Need-new-identities-requires
-new-identities-requires c κs = list-items ((c .before .before .before .before .before .before .before .r) .given .1) ((c .before .before .before .before .before .before .before .before .before .before .r1) .given .1) (c .before .before .before .before .before .before .before .before .before .before .before .before .before .pre) ((c .before .before .before .before .before .word-at) .ensures)
+distinct-requires : tie.Need-distinct-requires
+distinct-requires c κs = list-items ((c .before .before .before .before .before .before .before .r) .given .1) ((c .before .before .before .before .before .before .before .before .before .before .r1) .given .1) (c .before .before .before .before .before .before .before .before .before .before .before .before .before .pre) ((c .before .before .before .before .before .word-at) .ensures)
 
 returns-4 : tie.Need-returns-4
-returns-4 c = list-asked ((c .before .before .before .before .before .before .before .before .r) .given .1) ((c .before .before .before .before .before .before .before .before .before .before .before .r1) .given .1) ((c .before .before .before .before .before .before .word-at) .ensures) (field-set-then (list-items ((c .before .before .before .before .before .before .before .before .r) .given .1) ((c .before .before .before .before .before .before .before .before .before .before .before .r1) .given .1) (c .before .before .before .before .before .before .before .before .before .before .before .before .before .before .pre) ((c .before .before .before .before .before .before .word-at) .ensures)) ((c .before .before .before .before .before .size) .ensures .0) ((c .before .before .before .before .charge-allocation) .ensures) ((c .before .before .paid) .given .1) ((c .new-identities) .ensures))
+returns-4 c = list-asked ((c .before .before .before .before .before .before .before .before .r) .given .1) ((c .before .before .before .before .before .before .before .before .before .before .before .r1) .given .1) ((c .before .before .before .before .before .before .word-at) .ensures) (field-set-then (list-items ((c .before .before .before .before .before .before .before .before .r) .given .1) ((c .before .before .before .before .before .before .before .before .before .before .before .r1) .given .1) (c .before .before .before .before .before .before .before .before .before .before .before .before .before .before .pre) ((c .before .before .before .before .before .before .word-at) .ensures)) ((c .before .before .before .before .before .size) .ensures .0) ((c .before .before .before .before .charge-allocation) .ensures) ((c .before .before .paid) .given .1) ((c .distinct) .ensures))
 
 pub field-set-spec : {M : Type 1} → statement M
 field-set-spec =
@@ -74,6 +74,6 @@ field-set-spec =
     enum-known-paid
     enum-told-3
     returns-3
-    add-new-identities
-    new-identities-requires
+    add-distinct
+    distinct-requires
     returns-4)

@@ -47,14 +47,14 @@ enum-told-3 c = search needs
 returns-3 : tie.Need-returns-3
 returns-3 c = list-asked ((c .before .before .before .before .before .before .r) .given .1) ((c .before .before .before .before .before .before .before .before .before .r1) .given .1) ((c .before .before .before .before .word-at) .ensures) (method-set-poor ((c .before .before .before .before .before .before .before .before .before .before .before .before .args) .item) (list-items ((c .before .before .before .before .before .before .r) .given .1) ((c .before .before .before .before .before .before .before .before .before .r1) .given .1) (c .before .before .before .before .before .before .before .before .before .before .before .before .pre) ((c .before .before .before .before .word-at) .ensures)) ((c .before .before .before .size) .ensures .0) ((c .before .before .charge-allocation) .ensures) ((c .enum-told3) .given .1))
 
-add-new-names : tie.Need-add-new-names
-add-new-names c = omega (arith, list-room ((c .before .before .before .before .before .before .before .r) .given .1) ((c .before .before .before .before .before .before .before .before .before .before .r1) .given .1) (c .before .before .before .before .before .before .before .before .before .before .before .before .before .pre), list-small ((c .before .before .before .before .before .before .before .r) .given .1) ((c .before .before .before .before .before .before .before .before .before .before .r1) .given .1) (c .before .before .before .before .before .before .before .before .before .before .before .before .before .pre))
+add-distinct : tie.Need-add-distinct
+add-distinct c = omega (arith, list-room ((c .before .before .before .before .before .before .before .r) .given .1) ((c .before .before .before .before .before .before .before .before .before .before .r1) .given .1) (c .before .before .before .before .before .before .before .before .before .before .before .before .before .pre), list-small ((c .before .before .before .before .before .before .before .r) .given .1) ((c .before .before .before .before .before .before .before .before .before .before .r1) .given .1) (c .before .before .before .before .before .before .before .before .before .before .before .before .before .pre))
 
-new-names-requires : tie.Need-new-names-requires
-new-names-requires c κs = list-items ((c .before .before .before .before .before .before .before .r) .given .1) ((c .before .before .before .before .before .before .before .before .before .before .r1) .given .1) (c .before .before .before .before .before .before .before .before .before .before .before .before .before .pre) ((c .before .before .before .before .before .word-at) .ensures)
+distinct-requires : tie.Need-distinct-requires
+distinct-requires c κs = list-items ((c .before .before .before .before .before .before .before .r) .given .1) ((c .before .before .before .before .before .before .before .before .before .before .r1) .given .1) (c .before .before .before .before .before .before .before .before .before .before .before .before .before .pre) ((c .before .before .before .before .before .word-at) .ensures)
 
 returns-4 : tie.Need-returns-4
-returns-4 c = list-asked ((c .before .before .before .before .before .before .before .before .r) .given .1) ((c .before .before .before .before .before .before .before .before .before .before .before .r1) .given .1) ((c .before .before .before .before .before .before .word-at) .ensures) (method-set-then ((c .before .before .before .before .before .before .before .before .before .before .before .before .before .before .args) .item) (list-items ((c .before .before .before .before .before .before .before .before .r) .given .1) ((c .before .before .before .before .before .before .before .before .before .before .before .r1) .given .1) (c .before .before .before .before .before .before .before .before .before .before .before .before .before .before .pre) ((c .before .before .before .before .before .before .word-at) .ensures)) ((c .before .before .before .before .before .size) .ensures .0) ((c .before .before .before .before .charge-allocation) .ensures) ((c .before .before .paid) .given .1) ((c .new-names) .ensures))
+returns-4 c = list-asked ((c .before .before .before .before .before .before .before .before .r) .given .1) ((c .before .before .before .before .before .before .before .before .before .before .before .r1) .given .1) ((c .before .before .before .before .before .before .word-at) .ensures) (method-set-then ((c .before .before .before .before .before .before .before .before .before .before .before .before .before .before .args) .item) (list-items ((c .before .before .before .before .before .before .before .before .r) .given .1) ((c .before .before .before .before .before .before .before .before .before .before .before .r1) .given .1) (c .before .before .before .before .before .before .before .before .before .before .before .before .before .before .pre) ((c .before .before .before .before .before .before .word-at) .ensures)) ((c .before .before .before .before .before .size) .ensures .0) ((c .before .before .before .before .charge-allocation) .ensures) ((c .before .before .paid) .given .1) ((c .distinct) .ensures))
 
 pub method-set-spec : {M : Type 1} → statement M
 method-set-spec =
@@ -74,6 +74,6 @@ method-set-spec =
     enum-known-paid
     enum-told-3
     returns-3
-    add-new-names
-    new-names-requires
+    add-distinct
+    distinct-requires
     returns-4)

@@ -1,5 +1,5 @@
 use borrow.Author.Needs.{needs}
-use Rattle.names.proofs.Repeats.{repeats}
+use Rattle.names.proofs.Repeats.{repeating}
 use Rattle.names.proofs.Repeats.{Counting}
 use Rattle.names.specs.declared.Item.the-variants.{StructField}
 use Rattle.names.proofs.named.Statement.{statement}
@@ -12,31 +12,31 @@ abbrev μ-loop : tie.MeasureT-loop
 μ-loop s from n at₀ k₀ m₀ at k m = k
 
 loop-holds : tie.Need-loop-holds Inv-loop μ-loop
-loop-holds c = search (needs, repeats)
+loop-holds c = search (needs, repeating)
 
 blank-requires : tie.Need-blank-requires Inv-loop μ-loop
-blank-requires c κs = search (needs, repeats)
+blank-requires c κs = search (needs, repeating)
 
 one-unless-requires : tie.Need-one-unless-requires Inv-loop μ-loop
-one-unless-requires c κs = search (needs, repeats)
+one-unless-requires c κs = search (needs, repeating)
 
 add-m : tie.Need-add-m Inv-loop μ-loop
-add-m c = search (needs, repeats)
+add-m c = search (needs, repeating)
 
 past-requires : tie.Need-past-requires Inv-loop μ-loop
-past-requires c κs = search (needs, repeats)
+past-requires c κs = search (needs, repeating)
 
 sub-k : tie.Need-sub-k Inv-loop μ-loop
-sub-k c = search (needs, repeats)
+sub-k c = search (needs, repeating)
 
 loop-less : tie.Need-loop-less Inv-loop μ-loop
-loop-less c = search (needs, repeats)
+loop-less c = search (needs, repeating)
 
 loop-again : tie.Need-loop-again Inv-loop μ-loop
-loop-again c = search (needs, repeats)
+loop-again c = search (needs, repeating)
 
 returns : tie.Need-returns Inv-loop μ-loop
-returns c = search (needs, repeats)
+returns c = search (needs, repeating)
 
 pub named-spec : {M : Type 1} → statement M
 named-spec =

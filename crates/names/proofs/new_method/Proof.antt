@@ -1,5 +1,5 @@
 use Rattle.names.specs.declared.Item.the-variants.{NamedMethod}
-use Rattle.names.proofs.Asking.{seen-at, after-text}
+use Rattle.names.proofs.Places.{item-name}
 use Rattle.names.proofs.Lists.{method-refused, method-skipped, method-at, method-again, method-new}
 use borrow.Author.Needs.{needs}
 use Rattle.names.proofs.new_method.Statement.{statement}
@@ -24,10 +24,10 @@ returns-2 : tie.Need-returns-2
 returns-2 c = method-skipped ((c .enum-told2) .given .1) ((c .before .before .before .r1) .given .1)
 
 seen-requires : tie.Need-seen-requires
-seen-requires c κs = seen-at (method-at ((c .before .r) .given .1) ((c .before .before .before .before .r1) .given .1) (c .before .before .before .before .before .before .before .pre))
+seen-requires c κs = method-at ((c .before .r) .given .1) ((c .before .before .before .before .r1) .given .1) (c .before .before .before .before .before .before .before .pre)
 
 repeated-requires : tie.Need-repeated-requires
-repeated-requires c κs = after-text NamedMethod (method-at ((c .before .before .before .r) .given .1) ((c .before .before .before .before .before .before .r1) .given .1) (c .before .before .before .before .before .before .before .before .before .pre))
+repeated-requires c κs = item-name NamedMethod (method-at ((c .before .before .before .r) .given .1) ((c .before .before .before .before .before .before .r1) .given .1) (c .before .before .before .before .before .before .before .before .before .pre) .here)
 
 returns-3 : tie.Need-returns-3
 returns-3 c = method-again ((c .before .before .before .before .r) .given .1) ((c .before .before .before .before .before .before .before .r1) .given .1) (c .before .before .before .before .before .before .before .before .before .before .pre) ((c .before .before .seen) .ensures) ((c .before .if1) .taken) ((c .repeated) .ensures)

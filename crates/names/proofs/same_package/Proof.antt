@@ -1,0 +1,20 @@
+use Rattle.names.proofs.Repeats.{repeating}
+use borrow.Author.Needs.{needs}
+use Rattle.names.proofs.same_package.Statement.{statement}
+use Rattle.names.proofs.same_package.Tie as tie
+
+package-at-requires : tie.Need-package-at-requires
+package-at-requires c κs = search needs
+
+package-at-requires-2 : tie.Need-package-at-requires-2
+package-at-requires-2 c κs = search needs
+
+same-text-requires : tie.Need-same-text-requires
+same-text-requires c κs = search (needs, repeating)
+
+returns : tie.Need-returns
+returns c = search (needs, repeating)
+
+pub same-package-spec : {M : Type 1} → statement M
+same-package-spec =
+    tie.close (tie.spec package-at-requires package-at-requires-2 same-text-requires returns)
