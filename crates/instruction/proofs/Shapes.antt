@@ -7,10 +7,11 @@ use native.Mathlib.Omega.{arith}
 use lib.Dec.{T, leb, eqb, leb→le}
 use lib.ListN.{getD}
 use borrow.Author.Tests.{lt-leb}
-use Rattle.format.specs.Format.{number, counted, Format, empty}
+use Rattle.format.specs.Format.{number, counted, byte, Format, empty}
 use Rattle.format.specs.Trace.{pick}
+use Rattle.vob24.specs.Refusals.{invalidSlotType}
 use Rattle.vob24.specs.Settings.{settings}
-use Rattle.vob24.specs.Leaves.{u16, u32, bool}
+use Rattle.vob24.specs.Leaves.{atMost, u16, u32, bool}
 use Rattle.vob24.specs.Grammar.{slotTypes, assertKind, metadata, metadataVariants, selectCase, selectVariants}
 use Rattle.fields.specs.Fields.{selectTag, metadataTagged}
 use Rattle.reader.specs.Contract.{NumberOf}
@@ -36,7 +37,7 @@ itemsOf p n = record { start = p + 4; count = n }
 
 -- slot types take one byte each
 slots-place : {s : List ℕ} {c d : Cursor} {q : Number} {n : ℕ} {t t₁ : List ℕ} → q ≡ Got n d → NumberOf (slotTypes settings) counted s c t q t₁ → d .place ≡ c .place + 4 + n
-slots-place e h = omega (arith, list-place e h)
+slots-place e h = omega (arith, list-place byte (atMost 5 invalidSlotType) e h)
 
 -- one list
 pub oneLayout : {f : Format} {k : Metadata} {s : List ℕ} {c d : Cursor} {q : Number} {n : ℕ} {i : Items} {t t₁ : List ℕ} → q ≡ Got n d → NumberOf f counted s c t q t₁ → i ≡ itemsOf (c .place) n → Recorded f (oneOf k) s c t (Taken d) (record { kind = k; first = i; second = noItems }) t₁

@@ -136,9 +136,9 @@ fixed-end w ρ (suc n) s p h =
     omega (arith, e, i, suc-mul n (size w))
 
 -- the place after a list of them
-pub list-place : {w : Width} {ρ ρ′ : Rule} {z : ℕ} {s : List ℕ} {c d : Cursor} {q : Number} {n : ℕ} {t t₁ : List ℕ} → q ≡ Got n d → NumberOf (listOf ρ z (leaf (fixed w ρ′))) counted s c t q t₁ → d .place ≡ c .place + 4 + n * size w
+pub list-place : (w : Width) (ρ′ : Rule) {ρ : Rule} {z : ℕ} {s : List ℕ} {c d : Cursor} {q : Number} {n : ℕ} {t t₁ : List ℕ} → q ≡ Got n d → NumberOf (listOf ρ z (leaf (fixed w ρ′))) counted s c t q t₁ → d .place ≡ c .place + 4 + n * size w
 unfolding trace
-list-place {w} {ρ} {ρ′} {z} {s} {c} {d} {q} {n} e h =
+list-place w ρ′ {ρ} {z} {s} {c} {d} {q} {n} e h =
     let g = got-of e h in
     let b = seq-ends (leaf (count ρ 1 vector z)) (λ v. times (leaf (fixed w ρ′)) (number v)) s (c .place) (takes-ends (g .takes)) in
     let l = leaf-ends (count ρ 1 vector z) s (c .place) (b .fore) in

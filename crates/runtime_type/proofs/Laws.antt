@@ -4,9 +4,10 @@ use mathlib.Core.Path.{_≡_, refl, _∙_}
 use mathlib.Core.List.{List}
 use native.Mathlib.Omega.{arith}
 use native.Mathlib.Nat.{le-antisymm}
-use Rattle.format.specs.Format.{Value, first, entries, counted, Rule, Ask, ask, Format, leaf, seq}
+use Rattle.format.specs.Format.{Value, first, entries, counted, Rule, word, Ask, ask, Format, leaf, seq}
+use Rattle.vob24.specs.Refusals.{invalidPackedValueRttid}
 use Rattle.vob24.specs.Settings.{settings}
-use Rattle.vob24.specs.Leaves.{listOf}
+use Rattle.vob24.specs.Leaves.{packedWord, listOf}
 use Rattle.vob24.specs.Grammar.{rttids}
 use Rattle.reader.specs.Contract.{numberOf, Ready, ReadyAt, Reads, takes, refuses, Reader, got, NumberOf, Follows}
 use Rattle.reader.specs.declared.Cursor.{Cursor}
@@ -33,7 +34,7 @@ use Rattle.runtime_type.specs.Contract.{typeStep, TypeReader}
 
 -- rttids take four bytes each
 pub rttids-place : {s : List ℕ} {c d : Cursor} {q : Number} {n : ℕ} {t t₁ : List ℕ} → q ≡ Got n d → NumberOf (rttids settings) counted s c t q t₁ → d .place ≡ c .place + 4 + 4 * n
-rttids-place e h = omega (arith, list-place e h)
+rttids-place e h = omega (arith, list-place word (packedWord invalidPackedValueRttid) e h)
 
 -- ---- the records of lists
 
@@ -78,12 +79,12 @@ module _ {ρ : Rule} {z : ℕ} {s : List ℕ} {c d : Cursor} {q : Number} {n : �
 
 -- ---- an item of the list that is refused
 
-module _ {item : RuntimeTypeRead} {r : Step} (i : r ≡ typeStep item) where
+module _ {item : RuntimeTypeRead} {x : Refusal} {r : Step} (e : item ≡ RuntimeTypeRead.Not x) (i : r ≡ typeStep item) where
   pub typeRefused : {f : Format} {of : ℕ → Value → RuntimeTypeRecord} {s t t₁ : List ℕ} {b : Cursor} → TypeReader f of s b t item t₁ → Reader f s (Taken b) t r t₁
   typeRefused h = rw i (h .reader)
 
-  pub refused-as : {x : Refusal} → item ≡ RuntimeTypeRead.Not x → r ≡ Refused x
-  refused-as e = i ∙ rw e
+  pub refused-as : r ≡ Refused x
+  refused-as = i ∙ rw e
 
 -- ---- answers by their cases
 

@@ -63,7 +63,7 @@ same-length-2 : tie.Need-same-length-2 Inv-loop μ-loop
 same-length-2 c = search (needs, reading)
 
 returns-3 : tie.Need-returns-3 Inv-loop μ-loop
-returns-3 c = list-refused ((c .before .before .before .before .before .before .before .before .before .before .before .before .before .before .before .before .before .r) .given .1) ((c .before .before .before .before .before .before .before .before .before .before .q) .given .1) ((c .before .before .before .before .before .before .before .before .before .before .before .before .before .before .number-count) .ensures) ((c .before .before .before .before .before .before .before .loop-test) .taken) ((c .before .before .before .before .before .before .before .before .loop) .inv) (typeRefused ((c .type-refused) .ensures) ((c .before .before .before .before .before .runtime-type) .ensures)) (refused-as ((c .type-refused) .ensures) ((c .before .enum-told3) .given .1))
+returns-3 c = list-refused ((c .before .before .before .before .before .before .before .before .before .before .before .before .before .before .before .before .before .r) .given .1) ((c .before .before .before .before .before .before .before .before .before .before .q) .given .1) ((c .before .before .before .before .before .before .before .before .before .before .before .before .before .before .number-count) .ensures) ((c .before .before .before .before .before .before .before .loop-test) .taken) ((c .before .before .before .before .before .before .before .before .loop) .inv) (typeRefused ((c .before .enum-told3) .given .1) ((c .type-refused) .ensures) ((c .before .before .before .before .before .runtime-type) .ensures)) (refused-as ((c .before .enum-told3) .given .1) ((c .type-refused) .ensures))
 
 sub-k : tie.Need-sub-k Inv-loop μ-loop
 sub-k c = search (needs, reading)

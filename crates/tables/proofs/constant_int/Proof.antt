@@ -1,4 +1,3 @@
-use Rattle.reader.proofs.Reading.{reading}
 use Rattle.tables.proofs.Laws.{constants}
 use borrow.Author.Needs.{needs}
 use Rattle.tables.proofs.constant_int.Statement.{statement}
@@ -20,16 +19,16 @@ refused-constant-requires : tie.Need-refused-constant-requires
 refused-constant-requires c κs = search needs
 
 returns : tie.Need-returns
-returns c = search (needs, reading, constants)
+returns c = search (needs, constants)
 
 keep-pair-requires : tie.Need-keep-pair-requires
-keep-pair-requires c κs = search (needs, reading, constants)
+keep-pair-requires c κs = search (needs, constants)
 
 same-length : tie.Need-same-length
 same-length c = search needs
 
 returns-2 : tie.Need-returns-2
-returns-2 c = search (needs, reading, constants)
+returns-2 c = search (needs, constants)
 
 pub constant-int-spec : {M : Type 1} → statement M
 constant-int-spec =

@@ -1,4 +1,3 @@
-use Rattle.reader.proofs.Reading.{reading}
 use Rattle.tables.proofs.Laws.{constants}
 use borrow.Author.Needs.{needs}
 use Rattle.tables.proofs.constant_text.Statement.{statement}
@@ -23,13 +22,13 @@ same-length : tie.Need-same-length
 same-length c = search needs
 
 returns : tie.Need-returns
-returns c = search (needs, reading, constants)
+returns c = search (needs, constants)
 
 same-length-2 : tie.Need-same-length-2
 same-length-2 c = search needs
 
 returns-2 : tie.Need-returns-2
-returns-2 c = search (needs, reading, constants)
+returns-2 c = search (needs, constants)
 
 pub constant-text-spec : {M : Type 1} → statement M
 constant-text-spec =
