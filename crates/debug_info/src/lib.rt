@@ -2,9 +2,10 @@
 // Ports what Module::deserialize and read_inline_sources of serialize.rs read into the records of debug_info.rs and debug_info/inline.rs.
 ghost use mathlib.Core.Path.{_≡_};
 ghost use Prim.Native.Nat.{min};
-ghost use Rattle.vob24.specs.Leaves.{optional};
+ghost use Rattle.format.specs.Format.{times};
+ghost use Rattle.vob24.specs.Leaves.{optional, sourceU32};
 ghost use Rattle.reader.specs.Contract.{Ready, ReadyAt, Reader, NumberOf};
-ghost use Rattle.debug_info.specs.DebugInfo.{fileList, locationFormat, locationList, functionLocations, spanFormat, frameFormat, frameList, entryFormat, functionFormat, entriesOf, functionList, inlineFormat};
+ghost use Rattle.debug_info.specs.DebugInfo.{fileList, locationList, functionLocations, spanFormat, frameFormat, frameList, entryFormat, functionFormat, entriesOf, functionList, inlineFormat};
 use reader::Cursor;
 use reader::Number;
 use reader::Step;
@@ -37,18 +38,24 @@ pub fn files(s: &[u8], r: Step, tape: &mut [u32]) -> Step
     here
 }
 
-pub fn location(s: &[u8], r: Step, tape: &mut [u32]) -> Step
+// n packed numbers, one after the other.
+fn source_numbers(s: &[u8], r: Step, n: u64, tape: &mut [u32]) -> Step
     requires { ⌜ Ready (now s) r ⌝ }
-    ensures { λ q. ⌜ Reader locationFormat (now (s .entry)) r (now (tape .entry)) q (now (tape .exit)) ⌝ }
+    ensures { λ q. ⌜ Reader (times sourceU32 n) (now (s .entry)) r (now (tape .entry)) q (now (tape .exit)) ⌝ }
 {
-    let pc = fields::field_source_u32(s, r, tape);
-    let file_id = fields::field_source_u32(s, pc, tape);
-    let line = fields::field_source_u32(s, file_id, tape);
-    let col = fields::field_source_u32(s, line, tape);
-    fields::field_source_u32(s, col, tape)
+    let mut k = n;
+    let mut here = r;
+    while 0 < k {
+        here = fields::field_source_u32(s, here, tape);
+        let Step::Taken(_) = here else {
+            return here;
+        };
+        k -= 1;
+    }
+    here
 }
 
-// One function's.
+// One function's: pc, file_id, line, col and len of each, all packed. They are read as one run of numbers, which keeps the loop tight.
 pub fn locations(s: &[u8], r: Step, tape: &mut [u32]) -> Step
     requires { ⌜ Ready (now s) r ⌝ }
     ensures { λ q. ⌜ Reader locationList (now (s .entry)) r (now (tape .entry)) q (now (tape .exit)) ⌝ }
@@ -60,16 +67,7 @@ pub fn locations(s: &[u8], r: Step, tape: &mut [u32]) -> Step
     let Number::Got(n, d) = q else {
         return reader::refused(q);
     };
-    let mut k = n;
-    let mut here = Step::Taken(d);
-    while 0 < k {
-        here = location(s, here, tape);
-        let Step::Taken(_) = here else {
-            return here;
-        };
-        k -= 1;
-    }
-    here
+    source_numbers(s, Step::Taken(d), n * 5, tape)
 }
 
 pub fn function_locations(s: &[u8], r: Step, tape: &mut [u32]) -> Step
