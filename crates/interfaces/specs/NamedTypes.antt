@@ -1,8 +1,21 @@
 -- The formats of the named-type section under the Rust's settings.
-use Rattle.format.specs.Format.{Format}
+use Prim.Native.Nat.{ℕ, _≤_, _<_}
+use mathlib.Core.Path.{_≡_}
+use mathlib.Core.List.{List, []}
+use mathlib.Core.Bool.{true, false}
+use Rattle.format.specs.Format.{Format, chain}
 use Rattle.vob24.specs.Settings as of
 use Rattle.vob24.specs.Settings.{settings}
 use Rattle.vob24.specs.Grammar as vob
+use Rattle.reader.specs.Contract.{Reader}
+use Rattle.reader.specs.declared.Cursor.{Cursor}
+use Rattle.reader.specs.declared.Refusal.{Refusal}
+use Rattle.reader.specs.declared.Step.{Step}
+use Rattle.reader.specs.declared.Step.the-variants.{Taken, Refused}
+use Rattle.names.specs.declared.Item.the-variants.{NamedMethod}
+use Rattle.names.specs.declared.Table.the-variants.{Methods}
+use Rattle.names.specs.Tables.{repeatAt}
+use Rattle.names.specs.Contract.{Items}
 
 abbrev pub namedMethod : Format
 namedMethod = vob.method settings
@@ -16,3 +29,19 @@ namedFormat = vob.namedType settings
 -- the section
 abbrev pub namedList : Format
 namedList = vob.list settings of.NamedTypeMeta (vob.namedType settings)
+
+-- n methods, each new among those before it
+abbrev pub newMethods : ℕ → Format
+newMethods n = chain (vob.newMethod settings) (vob.alsoSeen settings) [] n
+
+-- none of the first m methods repeats one before it
+pub record AllNew (s : List ℕ) (from m : ℕ) : Type 0 where
+  pub new : (k : ℕ) → k < m → repeatAt (Methods NamedMethod) s from k ≡ false
+
+-- Of n methods m were read, up to the one numbered lim; the answer stands if these are all new, and lim is a repeat.
+pub record MethodsRead (s : List ℕ) (d : Cursor) (n lim : ℕ) (t : List ℕ) (m : ℕ) (q : Step) (t′ : List ℕ) : Type 0 where
+  pub within : m ≤ n
+  pub below : m ≤ lim
+  pub items : Items namedMethod m s (d .place)
+  pub reads : AllNew s (d .place) m → (lim < n → repeatAt (Methods NamedMethod) s (d .place) lim ≡ true) → Reader (newMethods n) s (Taken d) t q t′
+  pub stops : AllNew s (d .place) m → lim < n → repeatAt (Methods NamedMethod) s (d .place) lim ≡ true → (x : Refusal) × (q ≡ Refused x)

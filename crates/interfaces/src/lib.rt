@@ -1,10 +1,12 @@
 // The interface section: each interface's method names and methods, then a set of each list's names.
 // The named-type section: each named type's methods, whose names are new one by one.
 // Ports what Module::deserialize of serialize.rs reads into InterfaceMeta, InterfaceMethodMeta, NamedTypeMeta and MethodInfo of bytecode.rs.
-ghost use Rattle.reader.specs.Contract.{Ready, Reader};
+ghost use Rattle.reader.specs.Contract.{Ready, ReadyAt, Reader};
 ghost use Rattle.interfaces.specs.Interfaces.{nameList, methodFormat, methodList, interfaceFormat, interfaceList};
-ghost use Rattle.interfaces.specs.NamedTypes.{namedMethod, namedMethods, namedFormat, namedList};
+ghost use Rattle.interfaces.specs.NamedTypes.{namedMethod, namedMethods, namedFormat, namedList, MethodsRead};
 use names::Item;
+use names::Table;
+use reader::Cursor;
 use reader::Number;
 use reader::Step;
 use reader::sizes;
@@ -113,7 +115,42 @@ pub fn method(s: &[u8], r: Step, tape: &mut [u32]) -> Step
     fields::field_u32(s, receiver_is_iface_boxed, tape)
 }
 
-// A method's name is compared with those before it once its whole record was read; the first stands at `from`.
+// How many methods were read, and the answer past them.
+pub struct Run {
+    pub count: usize,
+    pub step: Step,
+}
+
+// Up to n methods, one after the other. Method lim is compared with those before it, once its whole record was read, and ends the run.
+fn read_methods(s: &[u8], d: Cursor, n: usize, lim: usize, tape: &mut [u32]) -> Run
+    requires { ⌜ ReadyAt (now s) d ⌝ }
+    ensures { λ q. ⌜ MethodsRead (now (s .entry)) d n lim (now (tape .entry)) (q .count) (q .step) (now (tape .exit)) ⌝ }
+{
+    let from = d.place;
+    let mut i = 0;
+    let mut here = Step::Taken(d);
+    while i < n {
+        let read = method(s, here, tape);
+        if i == lim {
+            let step = names::new_method(s, from, i, here, read);
+            return Run { count: i, step };
+        }
+        here = read;
+        let Step::Taken(_) = here else {
+            return Run {
+                count: i,
+                step: here,
+            };
+        };
+        i += 1;
+    }
+    Run {
+        count: n,
+        step: here,
+    }
+}
+
+// The methods are read, and then the first repeat among those that were read is looked for; it is judged where it comes, by a second run.
 pub fn methods(s: &[u8], r: Step, tape: &mut [u32]) -> Step
     requires { ⌜ Ready (now s) r ⌝ }
     ensures { λ q. ⌜ Reader namedMethods (now (s .entry)) r (now (tape .entry)) q (now (tape .exit)) ⌝ }
@@ -125,19 +162,14 @@ pub fn methods(s: &[u8], r: Step, tape: &mut [u32]) -> Step
     let Number::Got(n, d) = q else {
         return reader::refused(q);
     };
-    let from = d.place;
     let count = n as usize;
-    let mut i = 0;
-    let mut here = Step::Taken(d);
-    while i < count {
-        let read = method(s, here, tape);
-        here = names::new_method(s, from, i, here, read);
-        let Step::Taken(_) = here else {
-            return here;
-        };
-        i += 1;
+    let run = read_methods(s, d, count, count, tape);
+    let lim = names::first_repeat(s, Table::Methods(Item::NamedMethod), d.place, run.count);
+    if lim == run.count {
+        return run.step;
     }
-    here
+    let again = read_methods(s, d, count, lim, tape);
+    again.step
 }
 
 pub fn named_type(s: &[u8], r: Step, tape: &mut [u32]) -> Step

@@ -24,7 +24,7 @@ use Rattle.names.specs.declared.Item.the-variants.{StructField, NamedMet
 use Rattle.names.specs.declared.Table.the-variants.{Fields, Methods, Identities}
 use Rattle.names.specs.Walk.{valueAt, itemsAt, lastAt, items-snoc, items-length}
 use Rattle.names.specs.Items.{formatOf, nameOf, namesOf, contents}
-use Rattle.names.specs.Tables.{keyOf}
+use Rattle.names.specs.Tables.{keyOf, repeats, repeatAt}
 use Rattle.names.specs.Asking.{over, tableAsks, seenAt, methodAsks}
 use Rattle.names.specs.Contract.{WordIs, Items, Seen, After, Repeated, Named, ListBehind, ListAsked, MethodBehind, MethodAsked}
 use Rattle.names.proofs.Asking.{refuse-yes, refuse-no, repeat-told}
@@ -104,6 +104,10 @@ seen-methods x (suc n) s from =
     let v = valueAt (method settings) s (lastAt (method settings) n s from) in
     ap (λ b. pick (same x (content (methodName settings v))) true b) (seen-methods x n s from)
     ∙ sym (ap (λ vs. among x (contents NamedMethod vs)) (items-snoc (method settings) n s from) ∙ contents-snoc NamedMethod x (itemsAt (method settings) n s from) v)
+
+pub method-repeat : (n : ℕ) (s : List ℕ) (from : ℕ) → among (content (methodName settings (valueAt (method settings) s (lastAt (method settings) n s from)))) (seenAt n s from) ≡ repeatAt (Methods NamedMethod) s from n
+unfolding repeatAt repeats pick
+method-repeat n s from = seen-methods _ n s from ∙ sym (plain-keys (keyOf (Methods NamedMethod)) (λ v. refl) (valueAt (method settings) s (lastAt (method settings) n s from)) (itemsAt (method settings) n s from))
 
 module _ {s : List ℕ} {from n : ℕ} {r r₁ : Step} where
   pub method-refused : {x : Refusal} → r₁ ≡ Refused x → MethodAsked s from n r r₁ r₁

@@ -432,7 +432,7 @@ fn filtered(s: &[u8], table: Table, from: usize, n: usize, a: u64) -> Outcome
 }
 
 // The first of the n items from `from` on that repeats one before it, or n.
-fn first_repeat(s: &[u8], table: Table, from: usize, n: usize) -> usize
+pub fn first_repeat(s: &[u8], table: Table, from: usize, n: usize) -> usize
     requires { ⌜ Items (formatIn table) n (now s) from ⌝ }
     ensures { λ q. ⌜ FirstRepeat table (now (s .entry)) from n q ⌝ }
 {
