@@ -431,19 +431,26 @@ fn filtered(s: &[u8], table: Table, from: usize, n: usize, a: u64) -> Outcome
     Outcome::Done(lim)
 }
 
-// The first of the n items from `from` on that repeats one before it, or n.
+// The first of the n items from `from` on that repeats one before it, or n. Few names are compared directly; names that were made to have
+// the same hash under one key are told apart under another.
 pub fn first_repeat(s: &[u8], table: Table, from: usize, n: usize) -> usize
     requires { ⌜ Items (formatIn table) n (now s) from ⌝ }
     ensures { λ q. ⌜ FirstRepeat table (now (s .entry)) from n q ⌝ }
 {
-    if n < 40 {
-        return scan(s, table, from, n);
+    if 40 <= n {
+        let mut a: u64 = 2654435761;
+        while a < 4000000000 {
+            match filtered(s, table, from, n, a) {
+                Outcome::Done(lim) => {
+                    return lim;
+                }
+                Outcome::Tired => {
+                    a += 20000003;
+                }
+            }
+        }
     }
-    let found = filtered(s, table, from, n, 2654435761);
-    let Outcome::Done(lim) = found else {
-        return scan(s, table, from, n);
-    };
-    lim
+    scan(s, table, from, n)
 }
 
 // ---- their refusals

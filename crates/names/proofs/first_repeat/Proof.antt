@@ -1,31 +1,44 @@
 use borrow.Author.Needs.{needs}
 use Rattle.names.proofs.Filters.{firsts}
+use Prim.Native.Nat.{_-_, _<_}
 use Rattle.names.proofs.first_repeat.Statement.{statement}
 use Rattle.names.proofs.first_repeat.Tie as tie
 
-scan-requires : tie.Need-scan-requires
-scan-requires c κs = search (needs, firsts)
+abbrev Inv-loop : tie.InvT-loop
+Inv-loop s table from n a₀ a = a < 4200000000
 
-returns : tie.Need-returns
-returns c = search (needs, firsts)
+abbrev μ-loop : tie.MeasureT-loop
+μ-loop s table from n a₀ a = 4200000000 - a
 
-filtered-requires : tie.Need-filtered-requires
+loop-holds : tie.Need-loop-holds Inv-loop μ-loop
+loop-holds c = search (needs, firsts)
+
+filtered-requires : tie.Need-filtered-requires Inv-loop μ-loop
 filtered-requires c κs = search (needs, firsts)
 
-enum-known-found : tie.Need-enum-known-found
-enum-known-found c = search (needs, firsts)
+enum-known-lim : tie.Need-enum-known-lim Inv-loop μ-loop
+enum-known-lim c = search (needs, firsts)
 
-enum-told : tie.Need-enum-told
+returns : tie.Need-returns Inv-loop μ-loop
+returns c = search (needs, firsts)
+
+enum-told : tie.Need-enum-told Inv-loop μ-loop
 enum-told c = search (needs, firsts)
 
-scan-requires-2 : tie.Need-scan-requires-2
-scan-requires-2 c κs = search (needs, firsts)
+add-a : tie.Need-add-a Inv-loop μ-loop
+add-a c = search (needs, firsts)
 
-returns-2 : tie.Need-returns-2
+loop-less : tie.Need-loop-less Inv-loop μ-loop
+loop-less c = search (needs, firsts)
+
+loop-again : tie.Need-loop-again Inv-loop μ-loop
+loop-again c = search (needs, firsts)
+
+scan-requires : tie.Need-scan-requires Inv-loop μ-loop
+scan-requires c κs = search (needs, firsts)
+
+returns-2 : tie.Need-returns-2 Inv-loop μ-loop
 returns-2 c = search (needs, firsts)
 
-returns-3 : tie.Need-returns-3
-returns-3 c = search (needs, firsts)
-
 pub first-repeat-spec : {M : Type 1} → statement M
-first-repeat-spec = tie.close (tie.spec scan-requires returns filtered-requires enum-known-found enum-told scan-requires-2 returns-2 returns-3)
+first-repeat-spec = tie.close (tie.spec Inv-loop μ-loop loop-holds filtered-requires enum-known-lim returns enum-told add-a loop-less loop-again scan-requires returns-2)
