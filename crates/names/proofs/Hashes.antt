@@ -21,25 +21,21 @@ use Rattle.names.proofs.Texts.{piece, text-length, text-part}
 product-fits : (x a : ℕ) → x < 4294967296 → a < 4294967296 → x * a ≤ 4294967295 * 4294967295
 product-fits x a h k = mul-le-mul {n₁ = x} {m₁ = a} {n₂ = 4294967295} {m₂ = 4294967295} (omega arith) (omega arith)
 
-module _ (a h : ℕ) (k : a < 4294967296) where
-  low-fits : h % 4294967296 * a ≤ 18446744065119617025
-  low-fits = product-fits (h % 4294967296) a (omega arith) k
+module _ (a x : ℕ) (k : a < 4294967296) where
+  low-fits : x % 4294967296 * a ≤ 18446744065119617025
+  low-fits = product-fits (x % 4294967296) a (omega arith) k
 
-  pub product-small : h % 4294967296 * a < 2 ^ 64
+  pub product-small : x % 4294967296 * a < 2 ^ 64
   product-small = go _ low-fits
     where
       go : (m : ℕ) → m ≤ 18446744065119617025 → m < 2 ^ 64
       go m a = omega arith
 
-  module _ (f : h < 2 ^ 64) where
-    high-fits : h / 4294967296 < 4294967296
-    high-fits = omega arith
-
-    pub mixed-small : (w : ℕ) → w < 4294967296 → mixed a h w < 2 ^ 64
-    mixed-small w g = go _ _ w low-fits high-fits g
-      where
-        go : (m q w : ℕ) → m ≤ 18446744065119617025 → q < 4294967296 → w < 4294967296 → m + q + w < 2 ^ 64
-        go m q w a b c = omega arith
+  pub mixed-small : x < 2 ^ 64 → x % 4294967296 * a + x / 4294967296 < 2 ^ 64
+  mixed-small f = go _ _ low-fits (omega arith)
+    where
+      go : (m q : ℕ) → m ≤ 18446744065119617025 → q < 4294967296 → m + q < 2 ^ 64
+      go m q a b = omega arith
 
 -- ---- the loops of `hash_bytes`: of n bytes at start, k from p on are left
 pub record Hashing (a h : ℕ) (s : List ℕ) (start n g p k : ℕ) : Type 0 where
@@ -113,6 +109,6 @@ module _ {t : Table} {a h q : ℕ} {s : List ℕ} {p : ℕ} where
 
 pub hash-key : {t : Table} {a n h g q : ℕ} {s : List ℕ} {p : ℕ} → TextHash a 0 s p n → PackageHash a n t s p h → g ≡ mixed a h 0 → q ≡ mixed a g 0 → KeyHash a t s p q
 unfolding keyHash
-hash-key {t} {a} i j k l = record { is = l ∙ ap (λ x. mixed a x 0) (k ∙ ap (λ x. mixed a x 0) (j .is ∙ rw (i .is))) }
+hash-key i j k l = record { is = l ∙ rw (k, j .is, i .is) }
 
 pub ruleset hashing = (hashing-start, hashing-four, hashing-one, hashing-ends, hashing-done, text-hash, hash-field, hash-method, hash-identity, hash-key)

@@ -4,7 +4,7 @@ use mathlib.Core.Path.{_≡_}
 use mathlib.Core.List.{List, [], _∷_}
 use mathlib.Core.Bool.{true, false}
 use lib.ListN.{length, getD}
-use lib.Bits.{bitAnd, bitOr}
+use lib.Bits.{bitAnd, bitOr, bitXor}
 use Rattle.format.specs.Reading.{little}
 use Rattle.names.specs.declared.Table.{Table}
 use Rattle.names.specs.declared.Told.{Told}
@@ -16,9 +16,9 @@ use Rattle.names.specs.Items.{textAt}
 use Rattle.names.specs.Tables.{formatIn, packageText, repeatAt}
 use Rattle.names.specs.Contract.{FirstRepeat}
 
--- ---- the hash, under a key a: modulo a * 2 ^ 32 - 1 it is h * a + w
+-- ---- the hash, under a key a
 abbrev pub mixed : ℕ → ℕ → ℕ → ℕ
-mixed a h w = h % 4294967296 * a + h / 4294967296 + w
+mixed a h w = bitXor h w % 4294967296 * a + bitXor h w / 4294967296
 
 unfoldable pub bytesHash : ℕ → ℕ → List ℕ → ℕ
 bytesHash a h [] = h

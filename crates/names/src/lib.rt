@@ -262,10 +262,11 @@ fn wide(b: u8) -> u64
 }
 
 fn mix(a: u64, h: u64, w: u64) -> u64
-    requires { ⌜ (a < 4294967296) × (w < 4294967296) ⌝ }
+    requires { ⌜ a < 4294967296 ⌝ }
     ensures { λ q. ⌜ q ≡ mixed a h w ⌝ }
 {
-    (h % 4294967296) * a + h / 4294967296 + w
+    let x = h ^ w;
+    (x % 4294967296) * a + x / 4294967296
 }
 
 // The hash h, and the len bytes at start.
@@ -431,23 +432,41 @@ fn filtered(s: &[u8], table: Table, from: usize, n: usize, a: u64) -> Outcome
     Outcome::Done(lim)
 }
 
-// The first of the n items from `from` on that repeats one before it, or n. Few names are compared directly; names that were made to have
-// the same hash under one key are told apart under another.
+// A key that hangs on every name of the table, so that no name can be made to fit it.
+fn fresh_key(s: &[u8], table: Table, from: usize, n: usize, a: u64) -> u64
+    requires { ⌜ (Items (formatIn table) n (now s) from) × (a < 4294967296) ⌝ }
+    ensures { λ q. ⌜ q < 4294967296 ⌝ }
+{
+    let mut h: u64 = 0;
+    let mut p = from;
+    let mut i = 0;
+    while i < n {
+        h = mix(a, h, hash_key(s, table, p, a));
+        p = past_item(s, table, p);
+        i += 1;
+    }
+    2147483649 + h % 1073741824 * 2
+}
+
+// The first of the n items from `from` on that repeats one before it, or n. A few of them are compared directly. Names that were made to
+// have the same hash under one key are told apart under the next.
 pub fn first_repeat(s: &[u8], table: Table, from: usize, n: usize) -> usize
     requires { ⌜ Items (formatIn table) n (now s) from ⌝ }
     ensures { λ q. ⌜ FirstRepeat table (now (s .entry)) from n q ⌝ }
 {
     if 40 <= n {
         let mut a: u64 = 2654435761;
-        while a < 4000000000 {
+        let mut k: usize = 0;
+        while k < 16 {
             match filtered(s, table, from, n, a) {
                 Outcome::Done(lim) => {
                     return lim;
                 }
                 Outcome::Tired => {
-                    a += 20000003;
+                    a = fresh_key(s, table, from, n, a);
                 }
             }
+            k += 1;
         }
     }
     scan(s, table, from, n)

@@ -5,10 +5,10 @@ use Rattle.names.proofs.first_repeat.Statement.{statement}
 use Rattle.names.proofs.first_repeat.Tie as tie
 
 abbrev Inv-loop : tie.InvT-loop
-Inv-loop s table from n a₀ a = a < 4200000000
+Inv-loop s table from n a₀ k₀ a k = a < 4294967296
 
 abbrev μ-loop : tie.MeasureT-loop
-μ-loop s table from n a₀ a = 4200000000 - a
+μ-loop s table from n a₀ k₀ a k = 16 - k
 
 loop-holds : tie.Need-loop-holds Inv-loop μ-loop
 loop-holds c = search (needs, firsts)
@@ -25,8 +25,11 @@ returns c = search (needs, firsts)
 enum-told : tie.Need-enum-told Inv-loop μ-loop
 enum-told c = search (needs, firsts)
 
-add-a : tie.Need-add-a Inv-loop μ-loop
-add-a c = search (needs, firsts)
+fresh-key-requires : tie.Need-fresh-key-requires Inv-loop μ-loop
+fresh-key-requires c κs = search (needs, firsts)
+
+add-k : tie.Need-add-k Inv-loop μ-loop
+add-k c = search (needs, firsts)
 
 loop-less : tie.Need-loop-less Inv-loop μ-loop
 loop-less c = search (needs, firsts)
@@ -41,4 +44,4 @@ returns-2 : tie.Need-returns-2 Inv-loop μ-loop
 returns-2 c = search (needs, firsts)
 
 pub first-repeat-spec : {M : Type 1} → statement M
-first-repeat-spec = tie.close (tie.spec Inv-loop μ-loop loop-holds filtered-requires enum-known-lim returns enum-told add-a loop-less loop-again scan-requires returns-2)
+first-repeat-spec = tie.close (tie.spec Inv-loop μ-loop loop-holds filtered-requires enum-known-lim returns enum-told fresh-key-requires add-k loop-less loop-again scan-requires returns-2)

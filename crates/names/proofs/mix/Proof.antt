@@ -1,20 +1,17 @@
-use native.Mathlib.Omega.{arith}
-use Rattle.names.proofs.Hashes.{product-small, mixed-small}
 use borrow.Author.Needs.{needs}
+use lib.Bits.{bitXor, xor-lt}
+use Rattle.names.proofs.Hashes.{product-small, mixed-small}
 use Rattle.names.proofs.mix.Statement.{statement}
 use Rattle.names.proofs.mix.Tie as tie
 
 mul-result : tie.Need-mul-result
-mul-result c = record { fits = product-small (c .args .a) (c .args .h) (c .pre .0) }
+mul-result c = record { fits = product-small (c .args .a) (bitXor (c .args .h) (c .args .w)) (c .pre) }
 
 add-result : tie.Need-add-result
-add-result c = record { fits = omega (arith, mixed-small (c .args .a) (c .args .h) (c .pre .0) (c .fits .h .fits) 0 (omega arith)) }
-
-add-result-2 : tie.Need-add-result-2
-add-result-2 c = record { fits = mixed-small (c .args .a) (c .args .h) (c .pre .0) (c .fits .h .fits) (c .args .w) (c .pre .1) }
+add-result c = record { fits = mixed-small (c .args .a) (bitXor (c .args .h) (c .args .w)) (c .pre) (xor-lt 64 (c .args .h) (c .args .w) (c .fits .h .fits) (c .fits .w .fits)) }
 
 returns : tie.Need-returns
 returns c = search needs
 
 pub mix-spec : {M : Type 1} → statement M
-mix-spec = tie.close (tie.spec mul-result add-result add-result-2 returns)
+mix-spec = tie.close (tie.spec mul-result add-result returns)
