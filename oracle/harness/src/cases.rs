@@ -78,6 +78,10 @@ pub fn marked() -> Vec<Vec<u8>> {
         b"\xF0\x90\x80\x80",
         b"\xF0\x90\x80",
         b"\xF0\x90\x80\x7F",
+        b"\xF1\x80\x80\x80",
+        b"\xF1\x7F\x80\x80",
+        b"\xF3\xBF\xBF\xBF",
+        b"\xF3\xBF\xBF\xC0",
         b"\xF4\x8F\xBF\xC0",
         b"\xF5\x80\x80\x80",
         b"\xFF",
@@ -100,6 +104,13 @@ pub fn marked() -> Vec<Vec<u8>> {
     ] {
         let fields = [&text(b"")[..], &meta.to_le_bytes(), &u32::to_le_bytes(rttid), &[0; 4]].concat();
         out.push(with_section(4, 4, &[&[1, 0, 0, 0][..], &fields].concat()));
+    }
+    // Metadata tags beside those that there are, in a function with one instruction.
+    let opening = opening_part(11, 1);
+    let (before, after) = opening.split_at(opening.len() - 20);
+    for tag in [6, 7, 8, 19] {
+        let lists = [&[1, 0, 0, 0][..], &[0; 8], &[1, 0, 0, 0, tag], &after[8..]].concat();
+        out.push([before, &lists, &[0; 32]].concat());
     }
     out
 }
