@@ -1,4 +1,4 @@
-use Rattle.reader.proofs.Laws.{reading}
+use Rattle.reader.proofs.Reading.{reading}
 use borrow.Author.Needs.{needs}
 use Rattle.instruction_test.proofs.part.Statement.{statement}
 use Rattle.instruction_test.proofs.part.Tie as tie
