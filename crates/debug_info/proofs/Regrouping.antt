@@ -49,7 +49,7 @@ module _ (f : Format) (g : Value → Format) (s : List ℕ) (c : Cursor) (t : Li
               let m = rw y at (h .moves) in
               let w = rw y at (h .writes) in
               let k : Takes (g a) s (record { place = p; left = l; at = c .at + length (words f a) }) (sets t (c .at) (words f a)) b d t′ =
-                  record { settles = rw (← i, ← j) e′; moves = m ∙ omega (arith, length-append (words f a) (words (g a) b)); writes = w ∙ sets-append t (c .at) (words f a) (words (g a) b) } in
+              record { settles = rw (← i, ← j) e′; moves = m ∙ omega (arith, length-append (words f a) (words (g a) b)); writes = w ∙ sets-append t (c .at) (words f a) (words (g a) b) } in
               goes (first-taken e) (takes k)
 
   parted-refused : {x : Refusal} {t′ : List ℕ} → Refuses (seq f g) s c x → Parted f g s c t (Refused x) t′

@@ -109,16 +109,7 @@ fn heap_ret_slots(s: &[u8], r: Step, tape: &mut [u32]) -> Step
     let Number::Got(n, d) = q else {
         return reader::refused(q);
     };
-    let mut k = n;
-    let mut here = Step::Taken(d);
-    while 0 < k {
-        here = fields::field_u16(s, here, tape);
-        let Step::Taken(_) = here else {
-            return here;
-        };
-        k -= 1;
-    }
-    here
+    lists::u16s(s, d, n, tape)
 }
 
 // ret_slots, ret_slot_types, recv_slots, heap_ret_gcref_count, heap_ret_gcref_start, heap_ret_slots

@@ -1,2 +1,3 @@
+pub mod Copying
 pub mod Answers
 pub mod Shapes

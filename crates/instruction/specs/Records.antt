@@ -20,6 +20,10 @@ use Rattle.instruction.specs.declared.SelectCase.the-variants.{Send, Rec
 abbrev pub instructionFormat : Format
 instructionFormat = vob.instruction settings
 
+-- op, flags, a, b, c
+abbrev pub instructionWidths : List ℕ
+instructionWidths = 1 ∷ 1 ∷ 2 ∷ 2 ∷ 2 ∷ []
+
 abbrev pub instructionList : Format
 instructionList = vob.list settings of.Instruction instructionFormat
 

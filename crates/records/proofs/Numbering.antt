@@ -34,7 +34,7 @@ numberedNot {f} {g} {of} {of′} {s} {c} {q} {x} {t} {t₁} {t₂} e h = rw e (g
 
 module _ {ρ : Rule} {z : ℕ} {s : List ℕ} {c d : Cursor} {q : Number} {n : ℕ} {t t₁ : List ℕ} (e : q ≡ Got n d) (h : NumberOf (leaf (count ρ 1 vector z)) number s c t q t₁) where
   -- its items
-  numberedItems : (f : Format) {r : Step} {p : Number} {t₂ : List ℕ} → Reader (times f n) s (Taken d) t₁ r t₂ → p ≡ numberOf n r → NumberOf (listOf ρ z f) counted s c t p t₂
+  pub numberedItems : (f : Format) {r : Step} {p : Number} {t₂ : List ℕ} → Reader (times f n) s (Taken d) t₁ r t₂ → p ≡ numberOf n r → NumberOf (listOf ρ z f) counted s c t p t₂
   numberedItems f {r} {p} {t₂} a i = rw i (go r (a .reads) (a .ready))
     where
       go : (r : Step) → Reads (times f n) s (Taken d) t₁ r t₂ → Ready s r → NumberOf (listOf ρ z f) counted s c t (numberOf n r) t₂

@@ -18,16 +18,7 @@ pub fn number_slot_types(s: &[u8], c: Cursor, tape: &mut [u32]) -> Number
     let Number::Got(n, d) = q else {
         return q;
     };
-    let mut k = n;
-    let mut here = Step::Taken(d);
-    while 0 < k {
-        here = fields::field_slot_type(s, here, tape);
-        let Step::Taken(_) = here else {
-            return reader::with(n, here);
-        };
-        k -= 1;
-    }
-    reader::with(n, here)
+    reader::with(n, lists::slot_types(s, d, n, tape))
 }
 
 pub fn slot_types(s: &[u8], r: Step, tape: &mut [u32]) -> Step

@@ -30,16 +30,7 @@ pub fn itab_methods(s: &[u8], r: Step, tape: &mut [u32]) -> Step
     let Number::Got(n, d) = q else {
         return reader::refused(q);
     };
-    let mut k = n;
-    let mut here = Step::Taken(d);
-    while 0 < k {
-        here = fields::field_u32(s, here, tape);
-        let Step::Taken(_) = here else {
-            return here;
-        };
-        k -= 1;
-    }
-    here
+    lists::u32s(s, d, n, tape)
 }
 
 pub fn itab(s: &[u8], r: Step, tape: &mut [u32]) -> Step

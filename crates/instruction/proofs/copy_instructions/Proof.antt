@@ -1,0 +1,61 @@
+use borrow.Author.Needs.{needs}
+use Rattle.lists.proofs.Copying.{Copying, copying-more, copying}
+use Rattle.instruction.specs.Records.{instructionWidths}
+use native.Mathlib.Omega.{arith}
+use Prim.Native.Nat.{_+_, _*_, _≤_}
+use lib.ListN.{length}
+use Rattle.instruction.proofs.copy_instructions.Statement.{statement}
+use Rattle.instruction.proofs.copy_instructions.Tie as tie
+
+abbrev Inv-loop : tie.InvT-loop
+Inv-loop s from n tape₀ at p₀ t₀ k₀ tape p t k = (Copying instructionWidths n s from tape₀ at tape p t k) × (p + 8 * k ≤ length s)
+
+abbrev μ-loop : tie.MeasureT-loop
+μ-loop s from n tape₀ at p₀ t₀ k₀ tape p t k = k
+
+returns : tie.Need-returns Inv-loop μ-loop
+returns c = search (needs, copying)
+
+loop-holds : tie.Need-loop-holds Inv-loop μ-loop
+loop-holds c = search (needs, copying)
+
+put-instruction-requires : tie.Need-put-instruction-requires Inv-loop μ-loop
+put-instruction-requires c κs = search (needs, copying)
+
+add-p : tie.Need-add-p Inv-loop μ-loop
+add-p c = search (needs, copying)
+
+add-t : tie.Need-add-t Inv-loop μ-loop
+add-t c = search (needs, copying)
+
+sub-k : tie.Need-sub-k Inv-loop μ-loop
+sub-k c = search (needs, copying)
+
+loop-less : tie.Need-loop-less Inv-loop μ-loop
+loop-less c = search (needs, copying)
+
+loop-again : tie.Need-loop-again Inv-loop μ-loop
+loop-again c = (copying-more (c .before .before .before .before .loop-test .taken) (c .before .before .put-instruction .ensures) (c .before .before .before .before .before .loop .inv .0), omega arith)
+
+same-length : tie.Need-same-length Inv-loop μ-loop
+same-length c = search (needs, copying)
+
+returns-2 : tie.Need-returns-2 Inv-loop μ-loop
+returns-2 c = search (needs, copying)
+
+pub copy-instructions-spec : {M : Type 1} → statement M
+copy-instructions-spec =
+    tie.close
+    (tie.spec
+    Inv-loop
+    μ-loop
+    returns
+    loop-holds
+    put-instruction-requires
+    add-p
+    add-t
+    sub-k
+    loop-less
+    loop-again
+    same-length
+    returns-2)

@@ -1,0 +1,68 @@
+use borrow.Author.Needs.{needs}
+use Rattle.reader.proofs.Laws.{Turns}
+use Rattle.reader.proofs.Reading.{reading}
+use Rattle.instruction.specs.Records.{instructionFormat}
+use Rattle.lists.proofs.Items.{run-done, run-refused}
+use Rattle.instruction.proofs.instructions.Statement.{statement}
+use Rattle.instruction.proofs.instructions.Tie as tie
+
+abbrev Inv-loop : tie.InvT-loop
+Inv-loop s n tape₀ k₀ here₀ tape k here = Turns instructionFormat s tape₀ here₀ k₀ tape here k
+
+abbrev μ-loop : tie.MeasureT-loop
+μ-loop s n tape₀ k₀ here₀ tape k here = k
+
+instruction-run-requires : tie.Need-instruction-run-requires Inv-loop μ-loop
+instruction-run-requires c κs = search (needs, reading)
+
+loop-holds : tie.Need-loop-holds Inv-loop μ-loop
+loop-holds c = search (needs, reading)
+
+instruction-requires : tie.Need-instruction-requires Inv-loop μ-loop
+instruction-requires c κs = search (needs, reading)
+
+enum-told : tie.Need-enum-told Inv-loop μ-loop
+enum-told c = search (needs, reading)
+
+enum-told-2 : tie.Need-enum-told-2 Inv-loop μ-loop
+enum-told-2 c = search (needs, reading)
+
+same-length : tie.Need-same-length Inv-loop μ-loop
+same-length c = search (needs, reading)
+
+returns : tie.Need-returns Inv-loop μ-loop
+returns c = run-refused (c .before .before .before .before .before .before .before .before .before .before .before .instruction-run .ensures) (c .before .before .before .before .before .before .loop-test .taken) (c .before .before .before .before .before .before .before .loop .inv) (c .before .before .before .before .instruction .ensures) (c .enum-told2 .given .1)
+
+sub-k : tie.Need-sub-k Inv-loop μ-loop
+sub-k c = search (needs, reading)
+
+loop-less : tie.Need-loop-less Inv-loop μ-loop
+loop-less c = search (needs, reading)
+
+loop-again : tie.Need-loop-again Inv-loop μ-loop
+loop-again c = search (needs, reading)
+
+same-length-2 : tie.Need-same-length-2 Inv-loop μ-loop
+same-length-2 c = search (needs, reading)
+
+returns-2 : tie.Need-returns-2 Inv-loop μ-loop
+returns-2 c = run-done (c .before .before .before .before .before .instruction-run .ensures) (c .loop-test .left) (c .before .loop .inv)
+
+pub instructions-spec : {M : Type 1} → statement M
+instructions-spec =
+    tie.close
+    (tie.spec
+    Inv-loop
+    μ-loop
+    instruction-run-requires
+    loop-holds
+    instruction-requires
+    enum-told
+    enum-told-2
+    same-length
+    returns
+    sub-k
+    loop-less
+    loop-again
+    same-length-2
+    returns-2)

@@ -1,0 +1,43 @@
+use native.Mathlib.Omega.{arith}
+use Rattle.reader.proofs.Leaves.{narrow-half}
+use Rattle.lists.proofs.Items.{flat-one, runs-flat}
+use borrow.Author.Needs.{needs}
+use Rattle.lists.proofs.u16_run.Statement.{statement}
+use Rattle.lists.proofs.u16_run.Tie as tie
+
+sub-fewer : tie.Need-sub-fewer
+sub-fewer c = search needs
+
+fewer-requires : tie.Need-fewer-requires
+fewer-requires c κs = search needs
+
+fitting-requires : tie.Need-fitting-requires
+fitting-requires c κs = search needs
+
+copy-halves-requires : tie.Need-copy-halves-requires
+copy-halves-requires c κs = search needs
+
+mul-remaining : tie.Need-mul-remaining
+mul-remaining c = search needs
+
+remaining-requires : tie.Need-remaining-requires
+remaining-requires c κs = search needs
+
+same-length : tie.Need-same-length
+same-length c = search needs
+
+returns : tie.Need-returns
+returns c = runs-flat (flat-one narrow-half) (c .before .before .before .before .before .before .before .before .before .pre) (omega arith) (omega arith) (c .before .before .before .copy-halves .ensures) (omega arith) (omega arith) (c .remaining .ensures)
+
+pub u16-run-spec : {M : Type 1} → statement M
+u16-run-spec =
+    tie.close
+    (tie.spec
+    sub-fewer
+    fewer-requires
+    fitting-requires
+    copy-halves-requires
+    mul-remaining
+    remaining-requires
+    same-length
+    returns)

@@ -1,0 +1,284 @@
+// The items of lists of u16, u32 and slot types, after the count: as many as can be are read at once, as a run.
+// Ports the loops of `read_vec` in serialize.rs over them. A run stops before an item that is refused, or of whose words the
+// tape has no room for all; the rest is read item by item.
+ghost use mathlib.Core.Path.{_≡_};
+ghost use mathlib.Core.Bool.{true};
+ghost use mathlib.Core.List.{[], _∷_};
+ghost use Prim.Native.Nat.{_+_, _-_, _*_, _≤_, _<_};
+ghost use lib.ListN.{length};
+ghost use Rattle.format.specs.Reading.{little, part};
+ghost use Rattle.vob24.specs.Leaves.{u16, u32, slotType};
+ghost use Rattle.reader.specs.Contract.{ReadyAt};
+ghost use Rattle.lists.specs.Runs.{moved, Runs, ItemsReader, Copied, Fits, Low, LowUpto};
+use reader::Cursor;
+use reader::Step;
+
+// What a run leaves of a list: so many items, from the cursor on.
+pub struct Rest {
+    pub items: u64,
+    pub at: Cursor,
+}
+
+// ---- how many items
+
+// The items of the count that so many bytes can hold.
+pub fn fewer(n: u64, most: usize) -> usize
+    ensures { λ q. ⌜ (q ≤ n) × (q ≤ most) ⌝ }
+{
+    if n < (most as u64) { n as usize } else { most }
+}
+
+// The items of so many words each that the tape has room for; all, where it has ended.
+pub fn fitting(n: usize, words: usize, at: usize, length: usize) -> usize
+    requires { ⌜ 0 < words ⌝ }
+    ensures { λ q. ⌜ (q ≤ n) × Fits words q at length ⌝ }
+{
+    if length <= at {
+        return n;
+    }
+    let room = (length - at) / words;
+    if room < n { room } else { n }
+}
+
+// The rest of n items after k of them, in so many bytes and words.
+pub fn remaining(c: Cursor, n: u64, k: usize, bytes: usize, words: usize) -> Rest
+    requires { ⌜ (k ≤ n) × (c .place + bytes < 18446744073709551616) × (c .at + words < 18446744073709551616) ⌝ }
+    ensures { λ q. ⌜ q ≡ record { items = n - k; at = moved c bytes words } ⌝ }
+{
+    Rest {
+        items: n - (k as u64),
+        at: Cursor {
+            place: c.place + bytes,
+            left: c.left,
+            at: c.at + words,
+        },
+    }
+}
+
+// ---- numbers
+
+pub fn wide(b: u8) -> u32
+    ensures { λ q. ⌜ (q ≡ b) × (q < 256) ⌝ }
+{
+    b as u32
+}
+
+pub fn half(s: &[u8], p: usize) -> u32
+    requires { ⌜ p + 2 ≤ length (now s) ⌝ }
+    ensures { λ q. ⌜ q ≡ little (part (now (s .entry)) p 2) ⌝ }
+{
+    let p1 = p + 1;
+    wide(s[p]) + 256 * wide(s[p1])
+}
+
+fn word(s: &[u8], p: usize) -> u32
+    requires { ⌜ p + 4 ≤ length (now s) ⌝ }
+    ensures { λ q. ⌜ q ≡ little (part (now (s .entry)) p 4) ⌝ }
+{
+    let p1 = p + 1;
+    let p2 = p + 2;
+    let p3 = p + 3;
+    wide(s[p]) + 256 * (wide(s[p1]) + 256 * (wide(s[p2]) + 256 * wide(s[p3])))
+}
+
+// ---- copies to the tape
+
+fn copy_bytes(s: &[u8], from: usize, n: usize, tape: &mut [u32], at: usize)
+    requires { ⌜ (from + n ≤ length (now s)) × Fits 1 n at (length (now tape)) ⌝ }
+    ensures { λ q. ⌜ Copied (1 ∷ []) n (now (s .entry)) from (now (tape .entry)) at (now (tape .exit)) ⌝ }
+{
+    if tape.len() <= at {
+        return;
+    }
+    let mut p = from;
+    let mut t = at;
+    let mut k = n;
+    while 0 < k {
+        tape[t] = wide(s[p]);
+        p += 1;
+        t += 1;
+        k -= 1;
+    }
+}
+
+fn copy_halves(s: &[u8], from: usize, n: usize, tape: &mut [u32], at: usize)
+    requires { ⌜ (from + 2 * n ≤ length (now s)) × Fits 1 n at (length (now tape)) ⌝ }
+    ensures { λ q. ⌜ Copied (2 ∷ []) n (now (s .entry)) from (now (tape .entry)) at (now (tape .exit)) ⌝ }
+{
+    if tape.len() <= at {
+        return;
+    }
+    let mut p = from;
+    let mut t = at;
+    let mut k = n;
+    while 0 < k {
+        tape[t] = half(s, p);
+        p += 2;
+        t += 1;
+        k -= 1;
+    }
+}
+
+fn copy_words(s: &[u8], from: usize, n: usize, tape: &mut [u32], at: usize)
+    requires { ⌜ (from + 4 * n ≤ length (now s)) × Fits 1 n at (length (now tape)) ⌝ }
+    ensures { λ q. ⌜ Copied (4 ∷ []) n (now (s .entry)) from (now (tape .entry)) at (now (tape .exit)) ⌝ }
+{
+    if tape.len() <= at {
+        return;
+    }
+    let mut p = from;
+    let mut t = at;
+    let mut k = n;
+    while 0 < k {
+        tape[t] = word(s, p);
+        p += 4;
+        t += 1;
+        k -= 1;
+    }
+}
+
+// ---- small bytes
+
+fn larger(a: u8, b: u8) -> u8
+    ensures { λ q. ⌜ (a ≤ q) × (b ≤ q) ⌝ }
+{
+    if a < b { b } else { a }
+}
+
+// Are the 32 bytes at from at most `most`? With no early exit the loop is compiled to vector code.
+fn low_block(s: &[u8], from: usize, most: u8) -> bool
+    requires { ⌜ from + 32 ≤ length (now s) ⌝ }
+    ensures { λ q. ⌜ (q ≡ true → Low (now (s .entry)) from (from + 32) most) ⌝ }
+{
+    let mut m: u8 = 0;
+    let mut k = from;
+    let end = from + 32;
+    while k < end {
+        m = larger(m, s[k]);
+        k += 1;
+    }
+    m <= most
+}
+
+fn low_each(s: &[u8], from: usize, to: usize, most: u8) -> usize
+    requires { ⌜ (from ≤ to) × (to ≤ length (now s)) ⌝ }
+    ensures { λ q. ⌜ LowUpto (now (s .entry)) from to most q ⌝ }
+{
+    let mut i = from;
+    while i < to {
+        if most < s[i] {
+            return i;
+        }
+        i += 1;
+    }
+    i
+}
+
+// The place of the first byte above `most`, or the end.
+fn low_upto(s: &[u8], from: usize, to: usize, most: u8) -> usize
+    requires { ⌜ (from ≤ to) × (to ≤ length (now s)) ⌝ }
+    ensures { λ q. ⌜ LowUpto (now (s .entry)) from to most q ⌝ }
+{
+    let mut i = from;
+    while 32 <= to - i {
+        if low_block(s, i, most) {
+            i += 32;
+        } else {
+            return low_each(s, i, to, most);
+        }
+    }
+    low_each(s, i, to, most)
+}
+
+// ---- lists
+
+fn slot_type_run(s: &[u8], c: Cursor, n: u64, tape: &mut [u32]) -> Rest
+    requires { ⌜ ReadyAt (now s) c ⌝ }
+    ensures { λ q. ⌜ Runs slotType (now (s .entry)) c (now (tape .entry)) n q (now (tape .exit)) ⌝ }
+{
+    let place = c.place;
+    let at = c.at;
+    let there = fewer(n, s.len() - place);
+    let low = low_upto(s, place, place + there, 5) - place;
+    let k = fitting(low, 1, at, tape.len());
+    copy_bytes(s, place, k, tape, at);
+    remaining(c, n, k, k, k)
+}
+
+pub fn slot_types(s: &[u8], c: Cursor, n: u64, tape: &mut [u32]) -> Step
+    requires { ⌜ ReadyAt (now s) c ⌝ }
+    ensures { λ q. ⌜ ItemsReader slotType n (now (s .entry)) c (now (tape .entry)) q (now (tape .exit)) ⌝ }
+{
+    let run = slot_type_run(s, c, n, tape);
+    let next = run.at;
+    let mut k = run.items;
+    let mut here = Step::Taken(next);
+    while 0 < k {
+        here = fields::field_slot_type(s, here, tape);
+        let Step::Taken(_) = here else {
+            return here;
+        };
+        k -= 1;
+    }
+    here
+}
+
+fn u16_run(s: &[u8], c: Cursor, n: u64, tape: &mut [u32]) -> Rest
+    requires { ⌜ ReadyAt (now s) c ⌝ }
+    ensures { λ q. ⌜ Runs u16 (now (s .entry)) c (now (tape .entry)) n q (now (tape .exit)) ⌝ }
+{
+    let place = c.place;
+    let at = c.at;
+    let there = fewer(n, (s.len() - place) / 2);
+    let k = fitting(there, 1, at, tape.len());
+    copy_halves(s, place, k, tape, at);
+    remaining(c, n, k, 2 * k, k)
+}
+
+pub fn u16s(s: &[u8], c: Cursor, n: u64, tape: &mut [u32]) -> Step
+    requires { ⌜ ReadyAt (now s) c ⌝ }
+    ensures { λ q. ⌜ ItemsReader u16 n (now (s .entry)) c (now (tape .entry)) q (now (tape .exit)) ⌝ }
+{
+    let run = u16_run(s, c, n, tape);
+    let next = run.at;
+    let mut k = run.items;
+    let mut here = Step::Taken(next);
+    while 0 < k {
+        here = fields::field_u16(s, here, tape);
+        let Step::Taken(_) = here else {
+            return here;
+        };
+        k -= 1;
+    }
+    here
+}
+
+fn u32_run(s: &[u8], c: Cursor, n: u64, tape: &mut [u32]) -> Rest
+    requires { ⌜ ReadyAt (now s) c ⌝ }
+    ensures { λ q. ⌜ Runs u32 (now (s .entry)) c (now (tape .entry)) n q (now (tape .exit)) ⌝ }
+{
+    let place = c.place;
+    let at = c.at;
+    let there = fewer(n, (s.len() - place) / 4);
+    let k = fitting(there, 1, at, tape.len());
+    copy_words(s, place, k, tape, at);
+    remaining(c, n, k, 4 * k, k)
+}
+
+pub fn u32s(s: &[u8], c: Cursor, n: u64, tape: &mut [u32]) -> Step
+    requires { ⌜ ReadyAt (now s) c ⌝ }
+    ensures { λ q. ⌜ ItemsReader u32 n (now (s .entry)) c (now (tape .entry)) q (now (tape .exit)) ⌝ }
+{
+    let run = u32_run(s, c, n, tape);
+    let next = run.at;
+    let mut k = run.items;
+    let mut here = Step::Taken(next);
+    while 0 < k {
+        here = fields::field_u32(s, here, tape);
+        let Step::Taken(_) = here else {
+            return here;
+        };
+        k -= 1;
+    }
+    here
+}
