@@ -1,17 +1,16 @@
 -- The laws of a named type's methods: their count, the loop that reads them, and the first repeat among them.
-use Prim.Native.Nat.{ℕ, _+_, _-_, _≤_, _<_}
+use Prim.Native.Nat.{ℕ, _+_, _≤_, _<_}
 use mathlib.Core.Path.{_≡_, refl, ap, sym, _∙_}
 use mathlib.Core.List.{List, [], _∷_}
-use mathlib.Core.Bool.{Bool, true, false}
+use mathlib.Core.Bool.{true, false}
 use native.Mathlib.Omega.{arith}
 use native.Mathlib.Numerals.{add-one}
 use lib.ListN.{length}
 use Rattle.format.specs.Trace.{Wrong, pick, settle}
 use Rattle.format.specs.Reading.{traceAsk}
-use Rattle.format.specs.Format.{Value, number, content, Ask, deny, chain}
+use Rattle.format.specs.Format.{number, Ask, deny, chain}
 use Rattle.vob24.specs.Settings.{settings}
-use Rattle.vob24.specs.Questions.{among}
-use Rattle.vob24.specs.Grammar.{methods, method, methodName, newMethod, alsoSeen}
+use Rattle.vob24.specs.Grammar.{methods, newMethod, alsoSeen}
 use Rattle.fields.specs.Fields.{methodCount}
 use Rattle.reader.specs.Contract.{Ready, ReadyAt, Reads, takes, refuses, skips, Reader, NumberOf, Asks, passes, denies}
 use Rattle.reader.specs.declared.Cursor.{Cursor}
@@ -24,9 +23,8 @@ use Rattle.reader.proofs.Laws.{at-step, numberThen, takes-ends}
 use Rattle.reader.proofs.Asks.{asks-none, behind}
 use Rattle.names.specs.declared.Item.the-variants.{NamedMethod}
 use Rattle.names.specs.declared.Table.the-variants.{Methods as methodTable}
-use Rattle.names.specs.Walk.{valueAt, nextAt, lastAt, stand, items-nil, stand-snoc, last-snoc}
+use Rattle.names.specs.Walk.{nextAt, lastAt, stand, items-nil, stand-snoc, last-snoc}
 use Rattle.names.specs.Tables.{repeatAt}
-use Rattle.names.specs.Asking.{seenAt, methodAsks}
 use Rattle.names.specs.Contract.{Items, FirstRepeat, MethodBehind, MethodAsked}
 use Rattle.names.proofs.Lists.{method-repeat, method-refused}
 use Rattle.names.proofs.Following.{Methods, methods-start, methods-more, methods-refused, methods-done}

@@ -1,7 +1,7 @@
 -- The laws of the questions on items: one item's answers, and the loop over a list's.
 use Prim.Native.Nat.{ℕ, _+_, _-_, _≤_, _<_}
 use mathlib.Core.Path.{_≡_, refl, ap, sym, _∙_}
-use mathlib.Core.List.{List, [], _∷_, _++_, map}
+use mathlib.Core.List.{List, [], _∷_, _++_}
 use mathlib.Core.Bool.{Bool, true, false}
 use native.Mathlib.Omega.{arith}
 use native.Mathlib.Numerals.{add-one}
@@ -23,11 +23,11 @@ use Rattle.names.specs.declared.Item.{Item}
 use Rattle.names.specs.declared.Item.the-variants.{StructField, RuntimeField}
 use Rattle.names.specs.declared.Table.{Table}
 use Rattle.names.specs.declared.Table.the-variants.{Fields, Methods, Identities}
-use Rattle.names.specs.Walk.{Stands, valueAt, nextAt, itemsAt, items-none, items-snoc, items-nil}
+use Rattle.names.specs.Walk.{valueAt, nextAt, itemsAt, items-none, items-snoc, items-nil}
 use Rattle.names.specs.Items.{formatOf, nameOf, textAt}
 use Rattle.names.specs.Tables.{formatIn, repeats, repeatAt}
-use Rattle.names.specs.Asking.{over, charges, wrongIn, tableAsks}
-use Rattle.names.specs.Contract.{TextAt, WordIs, BlankIs, Placed, Past, PackageIs, Items, FirstRepeat, Charged, Repeated, RepeatTold}
+use Rattle.names.specs.Asking.{over, wrongIn, tableAsks}
+use Rattle.names.specs.Contract.{WordIs, BlankIs, Placed, Past, PackageIs, Items, FirstRepeat, Charged, Repeated, RepeatTold}
 use Rattle.names.proofs.Texts.{text-length}
 use Rattle.names.proofs.Places.{name-stands, item-name, runtime-stands}
 use Rattle.names.proofs.Repeats.{items-cons, name-content, Walking, walking-start, walking-here, walking-next, walking-stands, repeat-is}

@@ -1,7 +1,7 @@
 -- The laws of the filter: what is not in it was not seen, so the first repeat that the passes find is the first of all.
-use Prim.Native.Nat.{ℕ, suc, zero, _+_, _-_, _/_, _%_, _≤_, _<_, min, max}
+use Prim.Native.Nat.{ℕ, suc, zero, _+_, _/_, _%_, _≤_, _<_, min, max}
 use mathlib.Core.Path.{_≡_, refl, ap, sym, _∙_}
-use mathlib.Core.List.{List, [], _∷_, map}
+use mathlib.Core.List.{List, _∷_, map}
 use mathlib.Core.Bool.{Bool, true, false}
 use native.Mathlib.Omega.{arith}
 use native.Mathlib.Nat.{min-le-left, min-le-right, le-max-left, le-min, max-le, le-antisymm}
@@ -13,7 +13,7 @@ use lib.Dec.{eqb, ltb}
 use borrow.Author.Count.{below-more}
 use borrow.Author.Tests.{eqb-true, eqb-false, ltb-true, ltb-false}
 use Rattle.format.specs.Trace.{pick}
-use Rattle.format.specs.Format.{Value, content}
+use Rattle.format.specs.Format.{content}
 use Rattle.format.specs.Reading.{same}
 use Rattle.format.specs.Laying.{same-eq}
 use Rattle.vob24.specs.Questions.{Identity, amongIdentities}
@@ -24,7 +24,7 @@ use Rattle.names.specs.declared.Outcome.{Outcome}
 use Rattle.names.specs.declared.Outcome.the-variants.{Done, Tired}
 use Rattle.names.specs.Walk.{AllStand, valueAt, nextAt, itemsAt, lastAt}
 use Rattle.names.specs.Items.{nameOf, textAt}
-use Rattle.names.specs.Tables.{itemOf, formatIn, keyOf, packageOf, packageText, exempt, repeats, repeatAt}
+use Rattle.names.specs.Tables.{itemOf, formatIn, keyOf, packageText, exempt, repeats, repeatAt}
 use Rattle.names.specs.Contract.{Past, Items, ExemptIs, Seen, Standing, FirstRepeat}
 use Rattle.names.specs.Filter.{keyHash, KeyHash, hashAt, class, spot, maskOf, Classed, Filter, Known, isOld, isStop, isOn, Passed, PassedOr, done, tired, FirstOr, first, none}
 use Rattle.names.proofs.Repeats.{Walking, walking-start, walking-next, walking-stands, key-name, key-package, repeat-is, repeat-exempt, repeat-seen}

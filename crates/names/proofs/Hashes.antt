@@ -1,6 +1,6 @@
 -- The laws of the hash: the loop of words, then the loop of bytes.
 use Prim.Native.Nat.{ℕ, suc, zero, _+_, _-_, _*_, _/_, _%_, _^_, _≤_, _<_}
-use mathlib.Core.Path.{_≡_, refl, ap, sym, _∙_}
+use mathlib.Core.Path.{_≡_, refl, sym, _∙_}
 use mathlib.Core.List.{List, [], _∷_}
 use native.Mathlib.Omega.{arith}
 use native.Mathlib.Nat.{mul-le-mul}
@@ -10,8 +10,6 @@ use Rattle.format.specs.Ending.{part-length}
 use Rattle.names.specs.declared.Item.{Item}
 use Rattle.names.specs.declared.Table.{Table}
 use Rattle.names.specs.declared.Table.the-variants.{Fields, Methods, Identities}
-use Rattle.names.specs.Items.{textAt}
-use Rattle.names.specs.Tables.{packageText}
 use Rattle.names.specs.Contract.{TextAt, WordIs, PackageIs}
 use Rattle.names.specs.Filter.{mixed, bytesHash, HashIs, textHash, TextHash, PackageHash, keyHash, KeyHash}
 use Rattle.names.proofs.Texts.{piece, text-length, text-part}

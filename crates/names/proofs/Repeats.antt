@@ -6,23 +6,19 @@ use mathlib.Core.Bool.{Bool, true, false}
 use native.Mathlib.Omega.{arith}
 use native.Mathlib.Numerals.{add-one}
 use lib.ListN.{length}
-use lib.Dec.{ltb}
 use borrow.Author.Count.{below-more}
 use Rattle.format.specs.Trace.{pick}
-use Rattle.format.specs.Format.{text, content, Format}
+use Rattle.format.specs.Format.{content, Format}
 use Rattle.format.specs.Reading.{same}
-use Rattle.vob24.specs.Settings.{settings}
 use Rattle.vob24.specs.Questions.{named, Identity, amongIdentities}
-use Rattle.vob24.specs.Grammar.{runtimeField}
 use Rattle.names.specs.declared.Item.{Item}
-use Rattle.names.specs.declared.Item.the-variants.{RuntimeField}
 use Rattle.names.specs.declared.Table.{Table}
 use Rattle.names.specs.declared.Table.the-variants.{Fields, Methods, Identities}
-use Rattle.names.specs.Walk.{Stands, AllStand, valueAt, nextAt, itemsAt, lastAt, items-more, items-none, items-nil, stand-more, stand-snoc, last-snoc}
-use Rattle.names.specs.Items.{formatOf, nameOf, textAt, packageAt}
+use Rattle.names.specs.Walk.{Stands, valueAt, nextAt, itemsAt, lastAt, items-more, items-none, items-nil, stand-more, stand-snoc, last-snoc}
+use Rattle.names.specs.Items.{formatOf, nameOf, textAt}
 use Rattle.names.specs.Tables.{itemOf, formatIn, packageOf, keyOf, packageText, exempt, repeats, repeatAt}
 use Rattle.names.specs.Contract.{TextAt, SameText, BlankIs, Placed, Past, PackageIs, Items, After, TwoPlaced, ExemptIs, SamePackage, SameKey, Seen, Standing, FirstRepeat, Named}
-use Rattle.names.proofs.Places.{name-stands, item-name, runtime-stands, runtime-package}
+use Rattle.names.proofs.Places.{name-stands, item-name, runtime-stands, runtime-name, runtime-package}
 
 -- one item more
 module _ {f : Format} {s : List ℕ} {p k : ℕ} (h : 0 < k) (i : Items f k s p) where
@@ -258,4 +254,4 @@ module _ {i : Item} {s : List ℕ} {from n : ℕ} where
   unfolding named
   counting-done {at} {k} {m} h l = record { is = sym (l .leads ∙ ap (λ vs. m + length (named (map (nameOf i) vs))) (items-none (formatOf i) k s at h) ∙ omega arith); most = omega (arith, l .most) }
 
-pub ruleset repeating = (items-here, walking-stands, exempt-field, exempt-method, exempt-identity, same-packages, other-names, same-field, same-method, same-identity, looking-start, looking-here, looking-both, looking-more, looking-found, looking-done, repeat-exempt, repeat-seen, scanning-start, scanning-done, scanning-found, scanning-more, counting-start, counting-here, counting-text, counting-more, counting-done, runtime-package)
+pub ruleset repeating = (items-here, walking-stands, exempt-field, exempt-method, exempt-identity, same-packages, other-names, same-field, same-method, same-identity, looking-start, looking-here, looking-both, looking-more, looking-found, looking-done, repeat-exempt, repeat-seen, scanning-start, scanning-done, scanning-found, scanning-more, counting-start, counting-here, counting-text, counting-more, counting-done, runtime-name, runtime-package)

@@ -269,7 +269,7 @@ fn mix(a: u64, h: u64, w: u64) -> u64
     (x % 4294967296) * a + x / 4294967296
 }
 
-// The hash h, and the len bytes at start.
+// The hash h taken on over the len bytes at start.
 fn hash_bytes(s: &[u8], start: usize, len: usize, a: u64, h: u64) -> u64
     requires { ⌜ (start + len ≤ length (now s)) × (a < 4294967296) ⌝ }
     ensures { λ q. ⌜ HashIs a h (part (now (s .entry)) start len) q ⌝ }
@@ -290,7 +290,7 @@ fn hash_bytes(s: &[u8], start: usize, len: usize, a: u64, h: u64) -> u64
     g
 }
 
-// The hash h, and the text at p. Its length goes in too: a name and a package are told apart from another split of the same bytes.
+// The hash h taken on over the text at p. Its length goes in too, or a name and a package would have the hash of each other split of their bytes.
 fn hash_text(s: &[u8], p: usize, a: u64, h: u64) -> u64
     requires { ⌜ (TextAt (now s) p) × (a < 4294967296) ⌝ }
     ensures { λ q. ⌜ TextHash a h (now (s .entry)) p q ⌝ }
@@ -321,7 +321,7 @@ fn hash_key(s: &[u8], table: Table, p: usize, a: u64) -> u64
     mix(a, mix(a, h, 0), 0)
 }
 
-// ---- the filter: a name that was seen has left four bits in one of its words
+// ---- the filter: a key that was seen has left four bits in one of its words
 
 fn mask(h: u64) -> u64
     ensures { λ q. ⌜ q ≡ maskOf h ⌝ }
@@ -332,7 +332,8 @@ fn mask(h: u64) -> u64
         | (1 << (h / 8589934592 % 64))
 }
 
-// Does the item at p repeat one of the i before it? Asked where its class is from lo to hi. At most `left` items are compared with all before them in vain.
+// Does the item at p repeat one of the i before it? Asked where its class is from lo to hi. At most `left` items are still to be compared
+// with all before them in vain.
 fn known(
     s: &[u8],
     table: Table,
@@ -423,7 +424,7 @@ fn filtered(s: &[u8], table: Table, from: usize, n: usize, a: u64) -> Outcome
     let mut lo: u64 = 0;
     while lo < 65536 {
         let hi = lo + classes;
-        let Outcome::Done(q) = pass(s, table, from, lim, lo, hi, a, 100) else {
+        let Outcome::Done(q) = pass(s, table, from, lim, lo, hi, a, 32) else {
             return Outcome::Tired;
         };
         lim = q;
@@ -432,7 +433,7 @@ fn filtered(s: &[u8], table: Table, from: usize, n: usize, a: u64) -> Outcome
     Outcome::Done(lim)
 }
 
-// A key that hangs on every name of the table, so that no name can be made to fit it.
+// A key that depends on every name of the table: names can't be made to collide under it without changing it.
 fn fresh_key(s: &[u8], table: Table, from: usize, n: usize, a: u64) -> u64
     requires { ⌜ (Items (formatIn table) n (now s) from) × (a < 4294967296) ⌝ }
     ensures { λ q. ⌜ q < 4294967296 ⌝ }

@@ -1,7 +1,7 @@
 use borrow.Author.Needs.{needs}
 use Rattle.names.proofs.Repeats.{repeating}
 use Rattle.names.proofs.Repeats.{key-text, repeat-exempt, repeat-seen}
-use mathlib.Core.Path.{sym, _∙_}
+use mathlib.Core.Path.{sym}
 use Rattle.names.proofs.repeats_one.Statement.{statement}
 use Rattle.names.proofs.repeats_one.Tie as tie
 
