@@ -133,9 +133,12 @@ runs-low {m} {to = to} {most = most} {y = y} {s = s} {c = c} r l h i k a e = run
 
 -- ---- the items after a run
 
-module _ {f : Format} {s : List ℕ} {c : Cursor} {n k : ℕ} {q : Rest} {t t₁ t₂ : List ℕ} {r : Step} (h : Runs f s c t n q t₁) where
-  pub run-done : k ≤ 0 → Turns f s t₁ (Taken (q .at)) (q .items) t₂ r k → Reader (times f n) s (Taken c) t r t₂
-  run-done i l = let a = turns-done i l in record { reads = h .leads (a .reads); ready = a .ready }
+module _ {f : Format} {s : List ℕ} {c : Cursor} {n : ℕ} {q : Rest} {t t₁ : List ℕ} (h : Runs f s c t n q t₁) where
+  run-then : {r : Step} {t₂ : List ℕ} → Reader (times f (q .items)) s (Taken (q .at)) t₁ r t₂ → Reader (times f n) s (Taken c) t r t₂
+  run-then a = record { reads = h .leads (a .reads); ready = a .ready }
 
-  pub run-refused : {r₁ : Step} {t₃ : List ℕ} {x : Refusal} → 0 < k → Turns f s t₁ (Taken (q .at)) (q .items) t₂ r k → Reader f s r t₂ r₁ t₃ → r₁ ≡ Refused x → Reader (times f n) s (Taken c) t r₁ t₃
-  run-refused i l b e = let a = turns-refused i l b e in record { reads = h .leads (a .reads); ready = a .ready }
+  pub run-done : {k : ℕ} {r : Step} {t₂ : List ℕ} → k ≤ 0 → Turns f s t₁ (Taken (q .at)) (q .items) t₂ r k → Reader (times f n) s (Taken c) t r t₂
+  run-done i l = run-then (turns-done i l)
+
+  pub run-refused : {k : ℕ} {r r₁ : Step} {t₂ t₃ : List ℕ} {x : Refusal} → 0 < k → Turns f s t₁ (Taken (q .at)) (q .items) t₂ r k → Reader f s r t₂ r₁ t₃ → r₁ ≡ Refused x → Reader (times f n) s (Taken c) t r₁ t₃
+  run-refused i l b e = run-then (turns-refused i l b e)

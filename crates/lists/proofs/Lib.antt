@@ -1,3 +1,3 @@
-pub mod Items
 pub mod Copying
 pub mod Lows
+pub mod Items

@@ -13,6 +13,9 @@ ghost use Rattle.lists.specs.Runs.{moved, Runs, ItemsReader, Copied, Fit
 use reader::Cursor;
 use reader::Step;
 
+// Of fewer slot types than these a run costs more than it saves.
+const SHORT: u64 = 16;
+
 // What a run leaves of a list: so many items, from the cursor on.
 pub struct Rest {
     pub items: u64,
@@ -174,7 +177,7 @@ fn low_each(s: &[u8], from: usize, to: usize, most: u8) -> usize
     i
 }
 
-// The place of the first byte above `most`, or the end.
+// The place of the first byte above `most`, or the end. That it is above is not promised: its own reader tests it again.
 fn low_upto(s: &[u8], from: usize, to: usize, most: u8) -> usize
     requires { ⌜ (from ≤ to) × (to ≤ length (now s)) ⌝ }
     ensures { λ q. ⌜ LowUpto (now (s .entry)) from to most q ⌝ }
@@ -196,6 +199,9 @@ fn slot_type_run(s: &[u8], c: Cursor, n: u64, tape: &mut [u32]) -> Rest
     requires { ⌜ ReadyAt (now s) c ⌝ }
     ensures { λ q. ⌜ Runs slotType (now (s .entry)) c (now (tape .entry)) n q (now (tape .exit)) ⌝ }
 {
+    if n < SHORT {
+        return Rest { items: n, at: c };
+    }
     let place = c.place;
     let at = c.at;
     let there = fewer(n, s.len() - place);

@@ -4,6 +4,9 @@ use borrow.Author.Needs.{needs}
 use Rattle.lists.proofs.slot_type_run.Statement.{statement}
 use Rattle.lists.proofs.slot_type_run.Tie as tie
 
+returns : tie.Need-returns
+returns c = search needs
+
 sub-fewer : tie.Need-sub-fewer
 sub-fewer c = search needs
 
@@ -31,13 +34,14 @@ remaining-requires c κs = search needs
 same-length : tie.Need-same-length
 same-length c = search needs
 
-returns : tie.Need-returns
-returns c = runs-low (c .before .before .before .before .before .before .before .before .before .before .pre) (omega arith) (omega arith) (omega arith) (c .before .before .before .before .before .before .low-upto .ensures .low) (c .before .before .before .copy-bytes .ensures) (c .remaining .ensures)
+returns-2 : tie.Need-returns-2
+returns-2 c = runs-low (c .before .before .before .before .before .before .before .before .before .before .before .pre) (omega arith) (omega arith) (omega arith) (c .before .before .before .before .before .before .low-upto .ensures .low) (c .before .before .before .copy-bytes .ensures) (c .remaining .ensures)
 
 pub slot-type-run-spec : {M : Type 1} → statement M
 slot-type-run-spec =
     tie.close
     (tie.spec
+    returns
     sub-fewer
     fewer-requires
     add-low-upto
@@ -47,4 +51,4 @@ slot-type-run-spec =
     copy-bytes-requires
     remaining-requires
     same-length
-    returns)
+    returns-2)

@@ -1,0 +1,365 @@
+//! Packs to measure with, written byte by byte: each is the bare pack with one section, or all of them, filled.
+
+use std::collections::HashMap;
+
+/// Bytes in file order.
+#[derive(Clone, Default)]
+struct Bytes(Vec<u8>);
+
+impl Bytes {
+    fn u8(&mut self, n: u8) -> &mut Self {
+        self.0.push(n);
+        self
+    }
+
+    fn u16(&mut self, n: u16) -> &mut Self {
+        self.0.extend(n.to_le_bytes());
+        self
+    }
+
+    fn u32(&mut self, n: u32) -> &mut Self {
+        self.0.extend(n.to_le_bytes());
+        self
+    }
+
+    fn text(&mut self, text: &[u8]) -> &mut Self {
+        self.u32(text.len() as u32);
+        self.0.extend(text);
+        self
+    }
+
+    fn slots(&mut self, n: usize) -> &mut Self {
+        self.u32(n as u32);
+        self.0.extend((0..n).map(|i| (i % 6) as u8));
+        self
+    }
+
+    fn packed(&mut self, mut n: u32) -> &mut Self {
+        while n >= 0x80 {
+            self.u8(n as u8 | 0x80);
+            n >>= 7;
+        }
+        self.u8(n as u8)
+    }
+}
+
+/// The sections of a pack, in file order.
+#[derive(Clone, Copy)]
+enum Section {
+    Name,
+    Structs,
+    Interfaces,
+    NamedTypes,
+    Itabs,
+    RuntimeTypes,
+    Constants = 7,
+    Globals,
+    Functions,
+    Artifacts = 13,
+    Files,
+    Locations,
+    Inline,
+}
+
+struct Pack([Bytes; 17]);
+
+impl Pack {
+    fn bare() -> Pack {
+        let width = |section| match section {
+            6 => 37,
+            16 => 8,
+            _ => 4,
+        };
+        Pack(std::array::from_fn(|section| Bytes(vec![0; width(section)])))
+    }
+
+    fn with(mut self, section: Section, bytes: Bytes) -> Pack {
+        self.0[section as usize] = bytes;
+        self
+    }
+
+    fn finish(self) -> Vec<u8> {
+        let mut pack = Bytes(b"VOB".to_vec());
+        pack.u32(24);
+        for section in self.0 {
+            pack.0.extend(section.0);
+        }
+        pack.0
+    }
+}
+
+/// A word that holds kind 3 and a small id.
+const TYPE: u32 = 0x0000_0203;
+
+fn name(i: usize) -> String {
+    format!("name_{i}")
+}
+
+fn list(n: usize, mut item: impl FnMut(&mut Bytes, usize)) -> Bytes {
+    let mut bytes = Bytes::default();
+    bytes.u32(n as u32);
+    for i in 0..n {
+        item(&mut bytes, i);
+    }
+    bytes
+}
+
+fn field(bytes: &mut Bytes, name: &[u8], i: usize) {
+    bytes.text(name).u16(i as u16).u16(1).u32(TYPE).u8(0).u8(0);
+}
+
+fn structs(n: usize) -> Bytes {
+    list(n, |bytes, i| {
+        bytes.slots(4).u32(4);
+        for k in 0..4 {
+            field(bytes, name(i + k).as_bytes(), k);
+        }
+    })
+}
+
+fn interfaces(n: usize) -> Bytes {
+    list(n, |bytes, i| {
+        bytes.text(name(i).as_bytes()).u32(3);
+        for k in 0..3 {
+            bytes.text(name(k).as_bytes());
+        }
+        bytes.u32(3);
+        for k in 0..3 {
+            bytes.text(name(k).as_bytes()).u32(7);
+        }
+    })
+}
+
+fn named_types(n: usize) -> Bytes {
+    list(n, |bytes, i| {
+        bytes.text(name(i).as_bytes()).u32(TYPE).u32(TYPE).u32(3);
+        for k in 0..3 {
+            bytes.text(name(k).as_bytes()).u32(k as u32).u8(0).u8(1).u32(9);
+        }
+    })
+}
+
+fn itabs(n: usize, methods: usize) -> Bytes {
+    list(n, |bytes, i| {
+        bytes.u32(i as u32).u32(methods as u32);
+        for k in 0..methods {
+            bytes.u32(k as u32);
+        }
+    })
+}
+
+fn runtime_types(n: usize) -> Bytes {
+    list(n, |bytes, i| match i % 4 {
+        0 => {
+            bytes.u8(0).u8(3);
+        }
+        1 => {
+            bytes.u8(2).u32(TYPE);
+        }
+        2 => {
+            bytes.u8(7).u8(0).u32(2).u32(TYPE).u32(TYPE).u32(1).u32(TYPE);
+        }
+        _ => {
+            bytes.u8(8).u32(1).u32(2);
+            for k in 0..2 {
+                bytes.text(name(k).as_bytes()).u32(TYPE).text(b"").u8(0).text(b"pairing");
+            }
+        }
+    })
+}
+
+fn constants(n: usize) -> Bytes {
+    list(n, |bytes, i| match i % 4 {
+        0 => {
+            bytes.u8(1).u8(1);
+        }
+        1 => {
+            bytes.u8(2).u32(i as u32).u32(0);
+        }
+        2 => {
+            bytes.u8(3).u32(0).u32(0x3ff0_0000);
+        }
+        _ => {
+            bytes.u8(4).text("Buchholz, Sonneborn\u{2013}Berger, Koya".as_bytes());
+        }
+    })
+}
+
+fn globals(n: usize) -> Bytes {
+    list(n, |bytes, i| {
+        bytes.text(name(i).as_bytes()).u16(2).u8(3).u32(i as u32).slots(2);
+    })
+}
+
+/// A function with so many heap slots and instructions; every fourth instruction has metadata.
+fn function(bytes: &mut Bytes, i: usize, heap: usize, code: usize) {
+    bytes.text(name(i).as_bytes()).u16(1).u16(1).u16(8).u16(1).slots(1).u16(0).u16(0).u16(0).u32(heap as u32);
+    for k in 0..heap {
+        bytes.u16(k as u16);
+    }
+    bytes.u8(0).u32(0).u8(0).slots(8).u32(code as u32);
+    for k in 0..code {
+        bytes.u8(k as u8).u8(0).u16(1).u16(2).u16(k as u16);
+    }
+    bytes.u32(code as u32);
+    for k in 0..code {
+        if k % 4 == 3 {
+            bytes.u8(11).slots(2).slots(1);
+        } else {
+            bytes.u8(0);
+        }
+    }
+    bytes.u32(1).u32(TYPE).u32(TYPE).u16(1).slots(1).u32(1).u32(TYPE).u32(TYPE).u16(1);
+}
+
+fn functions(n: usize, heap: usize, code: usize) -> Bytes {
+    list(n, |bytes, i| function(bytes, i, heap, code))
+}
+
+fn artifacts(n: usize, payload: usize) -> Bytes {
+    list(n, |bytes, i| {
+        bytes.text(name(i).as_bytes()).u32(1).text(&vec![0xa5; payload]);
+    })
+}
+
+fn files(n: usize) -> Bytes {
+    list(n, |bytes, i| {
+        bytes.text(format!("rules/{}.vo", name(i)).as_bytes());
+    })
+}
+
+/// Locations of n functions, m of each; one number in ten takes two bytes or more.
+fn locations(n: usize, m: usize) -> Bytes {
+    list(n, |bytes, i| {
+        bytes.u32(m as u32);
+        for k in 0..m {
+            let line = if k % 2 == 0 { k % 100 } else { 100 + i + k };
+            bytes.packed((k % 128) as u32).packed(1).packed(line as u32).packed(4).packed(9);
+        }
+    })
+}
+
+fn inline(frames: usize, functions: usize) -> Bytes {
+    let mut bytes = list(frames, |bytes, i| {
+        bytes.u32(i as u32).u32(1).u8(1).u32(0).u32(12).u32(4).u32(9);
+    });
+    let sources = list(functions, |bytes, i| {
+        bytes.u32(i as u32).u32(2).u32(0).u32(1).u32(4).u32(2);
+    });
+    bytes.0.extend(sources.0);
+    bytes
+}
+
+pub fn bare() -> Vec<u8> {
+    Pack::bare().finish()
+}
+
+/// All sections, in proportions that the Rust's compiler writes; about 1,000 bytes for each unit of n.
+pub fn typical(size: usize) -> Vec<u8> {
+    let n = size / 1_070;
+    Pack::bare()
+        .with(Section::Name, Bytes::default().text(b"swiss").clone())
+        .with(Section::Structs, structs(n))
+        .with(Section::Interfaces, interfaces(n / 4))
+        .with(Section::NamedTypes, named_types(n / 2))
+        .with(Section::Itabs, itabs(n / 4, 3))
+        .with(Section::RuntimeTypes, runtime_types(2 * n))
+        .with(Section::Constants, constants(2 * n))
+        .with(Section::Globals, globals(n / 4))
+        .with(Section::Functions, functions(n, 2, 32))
+        .with(Section::Artifacts, artifacts(4, n))
+        .with(Section::Files, files(n / 8))
+        .with(Section::Locations, locations(n, 16))
+        .with(Section::Inline, inline(n, n / 2))
+        .finish()
+}
+
+/// One text: the pack's name, of one character again and again.
+pub fn text(size: usize, character: &str) -> Vec<u8> {
+    let text = character.repeat(size / character.len());
+    Pack::bare().with(Section::Name, Bytes::default().text(text.as_bytes()).clone()).finish()
+}
+
+/// A struct with so many slot types.
+pub fn slots(size: usize) -> Vec<u8> {
+    let structs = list(1, |bytes, _| {
+        bytes.slots(size).u32(0);
+    });
+    Pack::bare().with(Section::Structs, structs).finish()
+}
+
+pub fn itab_methods(size: usize) -> Vec<u8> {
+    Pack::bare().with(Section::Itabs, itabs(1, size / 4)).finish()
+}
+
+/// Code and its metadata, of one byte mostly.
+pub fn code(size: usize) -> Vec<u8> {
+    Pack::bare().with(Section::Functions, functions(1, 0, size / 12)).finish()
+}
+
+pub fn heap_slots(size: usize) -> Vec<u8> {
+    Pack::bare().with(Section::Functions, functions(1, size / 2, 0)).finish()
+}
+
+pub fn packed_locations(size: usize) -> Vec<u8> {
+    Pack::bare().with(Section::Locations, locations(1, size * 2 / 11)).finish()
+}
+
+/// One struct with the fields of these names.
+fn fields(names: impl ExactSizeIterator<Item = Vec<u8>>) -> Vec<u8> {
+    let mut bytes = Bytes::default();
+    bytes.u32(1).u32(0).u32(names.len() as u32);
+    for (i, name) in names.enumerate() {
+        field(&mut bytes, &name, i);
+    }
+    Pack::bare().with(Section::Structs, bytes).finish()
+}
+
+pub fn names(n: usize) -> Vec<u8> {
+    fields((0..n).map(|i| name(i).into_bytes()))
+}
+
+/// The first key of the search for repeated names, and how it takes in a word of a name.
+const KEY: u64 = 2_654_435_761;
+
+fn mix(hash: u64, word: u32) -> u64 {
+    let x = hash ^ u64::from(word);
+    (x % (1 << 32)) * KEY + (x >> 32)
+}
+
+/// Two blocks of three words that lead from this hash to the same one, and that hash.
+fn same_hash(hash: u64) -> ([[u32; 3]; 2], u64) {
+    const LAST: u32 = 0x6161_6161;
+    let letters = |i: u32| u32::from_le_bytes([0, 5, 10, 15].map(|shift| b'A' + (i >> shift) as u8 % 32));
+    let mut seen = HashMap::new();
+    for i in 0u32.. {
+        let start = [letters(i), letters(i.wrapping_mul(KEY as u32) >> 12)];
+        let one = start.iter().fold(hash, |hash, &word| mix(hash, word));
+        // A word reaches the low half only: where the upper halves meet, the last words make up for the rest, and stay letters.
+        if let Some((other, first)) = seen.insert(one >> 32, (one, start)) {
+            let apart = (one ^ other) as u32;
+            if first != start && apart & 0x8080_8080 == 0 {
+                let blocks = [[start[0], start[1], LAST], [first[0], first[1], LAST ^ apart]];
+                return (blocks, mix(one, LAST));
+            }
+        }
+    }
+    unreachable!("some blocks meet")
+}
+
+/// Names that differ and all have the same hash under the first key: one of two blocks at each of 17 places.
+pub fn colliding(n: usize) -> Vec<u8> {
+    const BLOCKS: usize = 17;
+    let mut hash = mix(0, 12 * BLOCKS as u32);
+    let pairs: Vec<[[u32; 3]; 2]> = (0..BLOCKS)
+        .map(|_| {
+            let (blocks, next) = same_hash(hash);
+            hash = next;
+            blocks
+        })
+        .collect();
+    fields((0..n).map(|i| {
+        let words = pairs.iter().enumerate().flat_map(|(k, blocks)| blocks[i >> k & 1]);
+        words.flat_map(u32::to_le_bytes).collect()
+    }))
+}
