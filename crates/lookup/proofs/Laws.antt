@@ -7,10 +7,10 @@ use native.Mathlib.Omega.{arith}
 use native.Mathlib.Numerals.{add-one}
 use lib.ListN.{length, getD, drop, drop-of-length-le}
 use lib.Seq.{drop-cons}
-use lib.Dec.{T, eqb}
+use lib.Dec.{eqb}
 use borrow.Author.Tests.{eq-eqb, ne-eqb}
-use Rattle.format.specs.Trace.{wrong, pick}
-use Rattle.format.specs.Format.{Value, num, text, start, content, first, second}
+use Rattle.format.specs.Trace.{pick}
+use Rattle.format.specs.Format.{text, content, first, second}
 use Rattle.format.specs.Reading.{little, part, same}
 use Rattle.format.specs.Ending.{part-length}
 use Rattle.vob24.specs.Refusals
@@ -18,9 +18,9 @@ use Rattle.vob24.specs.Settings.{settings, maxPackBytes}
 use Rattle.vob24.specs.Grammar.{artifact}
 use Rattle.vob24.specs.Calls as vob
 use Rattle.reader.specs.declared.Cursor.{Cursor}
-use Rattle.names.specs.Walk.{Stands, valueAt, nextAt, itemsAt, AllStand, parts, passed, items-more, items-none, stand-more}
+use Rattle.names.specs.Walk.{Stands, valueAt, nextAt, itemsAt, parts, passed, items-more, items-none, stand-more}
 use Rattle.names.specs.Contract.{Items, WordIs}
-use Rattle.lookup.specs.Look.{foundOf, IsName, Looks}
+use Rattle.lookup.specs.Look.{IsName, Looks}
 use Rattle.lookup.specs.declared.Found.{Found}
 
 -- the length word of the payload of an artifact at p

@@ -6,7 +6,7 @@ use native.Mathlib.Omega.{arith}
 use native.Mathlib.Numerals.{add-one}
 use lib.ListN.{length}
 use Rattle.format.specs.Trace.{Ends}
-use Rattle.format.specs.Format.{Value, number, first, second, Rule, count, ask, Ask, Format, leaf, seq, _▸_, chain, times, entries}
+use Rattle.format.specs.Format.{Value, number, first, Rule, count, ask, Ask, Format, leaf, seq, _▸_, chain, times, entries}
 use Rattle.format.specs.Reading.{little, part, traceLeaf, trace}
 use Rattle.format.specs.Ending.{ask-ends, seq-ends}
 use Rattle.vob24.specs.Settings.{settings}

@@ -13,7 +13,7 @@ use Rattle.vob24.specs.Grammar.{artifacts, pack, artifact}
 use Rattle.vob24.specs.Cost.{partOf}
 use Rattle.calls.specs.Call.{from, Opens, Ends}
 use Rattle.calls.proofs.Laws.{Passed, passed, denied, read-passed}
-use Rattle.lookup.specs.Look.{Looks, Room}
+use Rattle.lookup.specs.Look.{Looks}
 use Rattle.lookup.specs.declared.Found.{Found}
 use Rattle.names.specs.Contract.{Items, WordIs}
 use Rattle.names.specs.Walk.{itemsAt}

@@ -10,7 +10,7 @@ use lib.ListN.{length, take, drop}
 use lib.Dec.{leb}
 use Rattle.format.specs.Trace.{Wrong, pick, amounts, total, Ends, Settled, refused, taken, settle}
 use Rattle.format.specs.Format.{Value, Format, entries}
-use Rattle.format.specs.Record.{words, decode, Held}
+use Rattle.format.specs.Record.{words, decode}
 use Rattle.format.specs.Layout.{Bytes, Valid, bytes}
 use Rattle.vob24.specs.Settings.{settings, maxPackBytes, startingBudget}
 use Rattle.vob24.specs.SizeTable.{settings-licensed}
@@ -24,7 +24,7 @@ use Rattle.calls.specs.Call.{answerOf, ReadCall}
 use Rattle.calls.specs.declared.Answer.{Answer}
 use Rattle.lookup.specs.Look.{foundOf}
 use Rattle.lookup.specs.declared.Found.{Found}
-use Rattle.serialize.specs.Find.{LocateCall, FindCall}
+use Rattle.serialize.specs.Find.{LocateCall}
 
 kept : (f : Format) (a b : ℕ) (t : List ℕ) (r : Settled Value) {w : Wrong} {p l : ℕ} → vob.closing f a b t r .answer ≡ vob.Refused w p l → vob.closing f a b t r .tape ≡ t
 unfolding pick

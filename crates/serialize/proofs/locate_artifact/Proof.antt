@@ -1,4 +1,3 @@
-use native.Mathlib.Omega.{arith}
 use Rattle.calls.proofs.Laws.{read-within}
 use Rattle.serialize.proofs.Laws.{locate-whole, locate-found, locate-refused}
 use borrow.Author.Needs.{needs}

@@ -1,5 +1,4 @@
 use native.Mathlib.Omega.{arith}
-use Rattle.calls.proofs.Laws.{read-within}
 use Rattle.serialize.proofs.Laws.{located-refused, located-room, located-items, located-look}
 use borrow.Author.Needs.{needs}
 use Rattle.serialize.proofs.located.Statement.{statement}
