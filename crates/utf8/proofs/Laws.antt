@@ -9,12 +9,12 @@ use borrow.Author.Tests.{ltb-true, ltb-false, ne-eqb}
 use lib.Bits.{bitOr, or-add-and, and-le-l, and-le-r}
 use lib.Dec.{ltb, eqb}
 use lib.ListN.{length, getD, take, drop}
-use lib.Seq.{drop-cons}
+use lib.Seq.{drop-cons, take-length}
 use Rattle.format.specs.Trace.{pick}
-use Rattle.vob24.specs.Utf8.{lead, illFormed, characters, scanFrom}
+use Rattle.vob24.specs.Utf8.{lead, illFormed, characters, scanFrom, scan}
 use Rattle.vob24.specs.Ranges.{inside, below, above}
-use Rattle.vob24.specs.Rows.{lead00}
-use Rattle.utf8.specs.Answers.{nextOf, scanAt, Ascii, Scans, fails, reaches}
+use Rattle.vob24.specs.Rows.{lead00, leade1}
+use Rattle.utf8.specs.Answers.{nextOf, scanAt, Ascii, Three, isThree, AsciiText, allAscii, Scans, fails, reaches}
 use Rattle.utf8.specs.declared.Next.{Next}
 use Rattle.utf8.specs.declared.Next.the-variants.{Bad, Want}
 use Rattle.utf8.specs.declared.Upto.{Upto}
@@ -25,6 +25,10 @@ part-cons : (s : List ℕ) (i to : ℕ) → i < to → to ≤ length s → take 
 part-cons s i to h k =
     let e : to - i ≡ suc (to - (i + 1)) = omega arith in
     rw (e, add-one i, drop-cons s i 0 (omega arith))
+
+-- the whole of a text
+pub whole : (s : List ℕ) → scanAt s (length s) 0 0 ≡ scan s
+whole s = let z : length s - 0 ≡ length s = omega arith in rw z (ap (scanFrom 0 0 0x80 0xbf) (take-length s))
 
 -- ---- a character: the invariant of its loop, with so many bytes to come
 
@@ -121,6 +125,54 @@ ascii-scan s to (suc k) n from h i a =
 
 pub ascii-step : {s : List ℕ} {to n from k : ℕ} → 0 < k → from + k ≤ to → to ≤ length s → n ≤ from → Ascii s from (from + k) → Scans s to n from (from + 1) (At (from + k) (n + k))
 ascii-step {s} {to} {n} {from} {k} b h i l a = reaches {j = from + k} {m = n + k} (omega arith) h (omega arith) (ascii-scan s to k n from h i a)
+
+-- ---- a text of ASCII, passed up to i
+pub record Passing (s : List ℕ) (i : ℕ) : Type 0 where
+  pub within : i ≤ length s
+  pub low : Ascii s 0 i
+
+module _ {s : List ℕ} where
+  pub passing-start : Passing s 0
+  passing-start = record { within = omega arith; low = record { low = λ k a b. absurd (omega arith) } }
+
+  module _ {i : ℕ} where
+    pub passing-block : {j : ℕ} → j ≤ length s → Ascii s i j → Passing s i → Passing s j
+    passing-block {j} h a l = record { within = h; low = record { low = λ k x y. go k x (ltb k i) refl y } }
+      where
+        go : (k : ℕ) → 0 ≤ k → (t : Bool) → ltb k i ≡ t → k < j → getD s k 0 < 128
+        go k x true e y = l .low .low k x (ltb-true k i e)
+        go k x false e y = a .low k (ltb-false k i e) y
+
+    pub passing-byte : i < length s → getD s i 0 ≤ 127 → Passing s i → Passing s (i + 1)
+    passing-byte h a l = passing-block (omega arith) (record { low = λ k x y. let z : k ≡ i = omega arith in rw z (omega arith) }) l
+
+    pub passing-done : length s ≤ i → Passing s i → AsciiText s true
+    unfolding pick
+    passing-done h l =
+        let e : i ≡ length s = omega (arith, l .within) in
+        let p : 0 + length s ≡ length s = omega arith in
+        let z : length s - length s ≡ 0 = omega arith in
+        allAscii (sym (whole s) ∙ ascii-scan s (length s) (length s) 0 0 (omega arith) (omega arith) (rw (e ∙ sym p) at l .low) ∙ rw (p, z))
+
+pub ruleset passing = (passing-start, passing-block, passing-byte, passing-done)
+
+-- a character of three bytes, at once
+three-scan : {s : List ℕ} {to n from : ℕ} → from + 3 ≤ to → to ≤ length s → n ≤ from → Three s from true → Scans s to n from (from + 1) (At (from + 3) (n + 1))
+unfolding pick
+three-scan {s} {to} {n} {from} h i l (isThree a b x y) =
+    let e : from + 1 + 1 ≡ from + 2 = omega arith in
+    let f : from + 2 + 1 ≡ from + 3 = omega arith in
+    let bytes : take (to - from) (drop from s) ≡ getD s from 0 ∷ getD s (from + 1) 0 ∷ getD s (from + 2) 0 ∷ take (to - (from + 3)) (drop (from + 3) s) =
+    part-cons s from to (omega arith) i
+    ∙ ap (λ r. getD s from 0 ∷ r) (part-cons s (from + 1) to (omega arith) i)
+    ∙ rw e (ap (λ r. getD s from 0 ∷ getD s (from + 1) 0 ∷ r) (part-cons s (from + 2) to (omega arith) i ∙ rw f))
+    in
+    reaches {j = from + 3} {m = n + 1} (omega arith) h (omega arith)
+    (ap (scanFrom n 0 0x80 0xbf) bytes
+    ∙ rw (leade1 (getD s from 0) a b, inside 0x80 0xbf (getD s (from + 1) 0) (omega arith) (omega arith), inside 0x80 0xbf (getD s (from + 2) 0) (omega arith) (omega arith), add-one n))
+
+pub three-step : {s : List ℕ} {to n from : ℕ} {q : Bool} → from + 3 ≤ to → to ≤ length s → n ≤ from → Three s from q → q ≡ true → Scans s to n from (from + 1) (At (from + 3) (n + 1))
+three-step h i l t e = three-scan h i l (rw e at t)
 
 -- ---- characters: the invariant of a loop that has come to i with m of them
 pub record Going (s : List ℕ) (to n from i m : ℕ) : Type 0 where

@@ -1,8 +1,9 @@
 -- What the answers stand for in the definition of UTF-8.
-use Prim.Native.Nat.{ℕ, _-_, _≤_, _<_}
+use Prim.Native.Nat.{ℕ, _+_, _-_, _/_, _≤_, _<_}
 use mathlib.Core.Path.{_≡_}
 use mathlib.Core.List.{List}
-use lib.ListN.{getD, take, drop}
+use mathlib.Core.Bool.{Bool, true, false}
+use lib.ListN.{length, getD, take, drop}
 use Rattle.vob24.specs.Utf8 as def
 use Rattle.utf8.specs.declared.Next.{Next}
 use Rattle.utf8.specs.declared.Next.the-variants.{Bad, Want}
@@ -25,6 +26,16 @@ scanAt s to n i = def.scanFrom n 0 0x80 0xbf (take (to - i) (drop i s))
 
 pub record Ascii (s : List ℕ) (from to : ℕ) : Type 0 where
   pub low : (k : ℕ) → from ≤ k → k < to → getD s k 0 < 128
+
+-- are the bytes at i a character of the row E1..EC?
+pub data Three (s : List ℕ) (i : ℕ) : Bool → Type 0 where
+  isThree : 0xe1 ≤ getD s i 0 → getD s i 0 ≤ 0xec → getD s (i + 1) 0 / 64 ≡ 2 → getD s (i + 2) 0 / 64 ≡ 2 → Three s i true
+  notThree : Three s i false
+
+-- is each byte of the text a character?
+pub data AsciiText (t : List ℕ) : Bool → Type 0 where
+  allAscii : def.scan t ≡ def.characters (length t) → AsciiText t true
+  notAscii : AsciiText t false
 
 -- The scan from i, after n characters, fails or comes down to that from a place at or past stop.
 pub data Scans (s : List ℕ) (to n i stop : ℕ) : Upto → Type 0 where

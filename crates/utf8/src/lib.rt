@@ -1,12 +1,12 @@
 // UTF-8: are these bytes well-formed, and how many characters are they?
 // It ports what Rust's `String::from_utf8` asks in ByteReader's `read_string`, as Table 3-7 of the Unicode Standard has it:
-// 32 bytes at once where they are ASCII, else character by character.
+// blocks of bytes at once where they are ASCII, else character by character.
 ghost use mathlib.Core.Path.{_≡_};
 ghost use mathlib.Core.Bool.{true};
-ghost use Prim.Native.Nat.{_+_, _-_, _≤_, _<_};
-ghost use lib.ListN.{length, take, drop};
+ghost use Prim.Native.Nat.{_+_, _≤_, _<_};
+ghost use lib.ListN.{length};
 ghost use Rattle.vob24.specs.Utf8 as Utf8;
-ghost use Rattle.utf8.specs.Answers.{nextOf, scanOf, Ascii, Scans};
+ghost use Rattle.utf8.specs.Answers.{nextOf, scanOf, Ascii, AsciiText, Three, Scans};
 
 // What may come after a byte: so many more of its sequence, the next of them from lo to hi.
 enum Next {
@@ -79,7 +79,7 @@ fn lead(b: u8) -> Next
     }
 }
 
-// One character, after n of them.
+// A character by its row of the table, after n of them.
 fn char(s: &[u8], from: usize, to: usize, n: usize) -> Upto
     requires { ⌜ (from < to) × (to ≤ length (now s)) × (n ≤ from) ⌝ }
     ensures { λ q. ⌜ Scans (now (s .entry)) to n from (from + 1) q ⌝ }
@@ -118,6 +118,42 @@ fn char(s: &[u8], from: usize, to: usize, n: usize) -> Upto
     }
 }
 
+// Are the bytes at i a character of three bytes, of the rows of the table that allow all second bytes?
+fn three(s: &[u8], i: usize) -> bool
+    requires { ⌜ i + 3 ≤ length (now s) ⌝ }
+    ensures { λ q. ⌜ Three (now (s .entry)) i q ⌝ }
+{
+    if s[i] < 0xe1 {
+        return false;
+    }
+    if 0xec < s[i] {
+        return false;
+    }
+    if s[i + 1] / 64 != 2 {
+        return false;
+    }
+    if s[i + 2] / 64 != 2 {
+        return false;
+    }
+    true
+}
+
+// One character, after n of them.
+fn one(s: &[u8], from: usize, to: usize, n: usize) -> Upto
+    requires { ⌜ (from < to) × (to ≤ length (now s)) × (n ≤ from) ⌝ }
+    ensures { λ q. ⌜ Scans (now (s .entry)) to n from (from + 1) q ⌝ }
+{
+    if 3 <= to - from {
+        if three(s, from) {
+            return Upto::At {
+                place: from + 3,
+                characters: n + 1,
+            };
+        }
+    }
+    char(s, from, to, n)
+}
+
 // Characters up to stop or past it.
 fn chars(s: &[u8], from: usize, stop: usize, to: usize, count: usize) -> Upto
     requires { ⌜ (from ≤ to) × (stop ≤ to) × (to ≤ length (now s)) × (count ≤ from) ⌝ }
@@ -129,7 +165,7 @@ fn chars(s: &[u8], from: usize, stop: usize, to: usize, count: usize) -> Upto
         let Upto::At {
             place: j,
             characters: m,
-        } = char(s, i, to, n)
+        } = one(s, i, to, n)
         else {
             return Upto::IllFormed;
         };
@@ -142,14 +178,14 @@ fn chars(s: &[u8], from: usize, stop: usize, to: usize, count: usize) -> Upto
     }
 }
 
-// Are the 32 bytes at from all below 128? With no early exit the loop is compiled to vector code.
-fn ascii(s: &[u8], from: usize) -> bool
-    requires { ⌜ from + 32 ≤ length (now s) ⌝ }
-    ensures { λ q. ⌜ (q ≡ true → Ascii (now (s .entry)) from (from + 32)) ⌝ }
+// Are the `width` bytes at from all below 128? With no early exit the loop is compiled to vector code.
+fn ascii(s: &[u8], from: usize, width: usize) -> bool
+    requires { ⌜ from + width ≤ length (now s) ⌝ }
+    ensures { λ q. ⌜ (q ≡ true → Ascii (now (s .entry)) from (from + width)) ⌝ }
 {
     let mut m: u8 = 0;
     let mut k = from;
-    let end = from + 32;
+    let end = from + width;
     while k < end {
         m = m | s[k];
         k += 1;
@@ -165,7 +201,7 @@ fn block(s: &[u8], from: usize, to: usize, n: usize) -> Upto
     if to - from < 32 {
         return chars(s, from, to, to, n);
     }
-    if ascii(s, from) {
+    if ascii(s, from, 32) {
         return Upto::At {
             place: from + 32,
             characters: n + 32,
@@ -174,17 +210,17 @@ fn block(s: &[u8], from: usize, to: usize, n: usize) -> Upto
     chars(s, from, from + 32, to, n)
 }
 
-pub fn scan(s: &[u8], from: usize, to: usize) -> Scanned
-    requires { ⌜ (from ≤ to) × (to ≤ length (now s)) ⌝ }
-    ensures { λ q. ⌜ scanOf q ≡ Utf8.scan (take (to - from) (drop from (now (s .entry)))) ⌝ }
+pub fn scan(t: &[u8]) -> Scanned
+    ensures { λ q. ⌜ scanOf q ≡ Utf8.scan (now (t .entry)) ⌝ }
 {
-    let mut i = from;
+    let to = t.len();
+    let mut i: usize = 0;
     let mut n: usize = 0;
     while i < to {
         let Upto::At {
             place: j,
             characters: m,
-        } = block(s, i, to, n)
+        } = block(t, i, to, n)
         else {
             return Scanned::IllFormed;
         };
@@ -192,4 +228,33 @@ pub fn scan(s: &[u8], from: usize, to: usize) -> Scanned
         n = m;
     }
     Scanned::Characters(n)
+}
+
+// Is each byte a character? Most texts are short and of ASCII: then there is no need to scan them.
+pub fn is_ascii(t: &[u8]) -> bool
+    ensures { λ q. ⌜ AsciiText (now (t .entry)) q ⌝ }
+{
+    let to = t.len();
+    let mut i: usize = 0;
+    while 32 <= to - i {
+        if ascii(t, i, 32) {
+            i += 32;
+        } else {
+            return false;
+        }
+    }
+    while 8 <= to - i {
+        if ascii(t, i, 8) {
+            i += 8;
+        } else {
+            return false;
+        }
+    }
+    while i < to {
+        if 127 < t[i] {
+            return false;
+        }
+        i += 1;
+    }
+    true
 }

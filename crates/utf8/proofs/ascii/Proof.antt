@@ -5,10 +5,10 @@ use Rattle.utf8.proofs.ascii.Statement.{statement}
 use Rattle.utf8.proofs.ascii.Tie as tie
 
 abbrev Inv-loop : tie.InvT-loop
-Inv-loop s from m₀ k₀ end m k = Oring s from end m k
+Inv-loop s from width m₀ k₀ end m k = Oring s from end m k
 
 abbrev μ-loop : tie.MeasureT-loop
-μ-loop s from m₀ k₀ end m k = end - k
+μ-loop s from width m₀ k₀ end m k = end - k
 
 add-end : tie.Need-add-end Inv-loop μ-loop
 add-end c = search (needs, oring)

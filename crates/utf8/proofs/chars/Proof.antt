@@ -14,8 +14,8 @@ abbrev μ-loop : tie.MeasureT-loop
 loop-holds : tie.Need-loop-holds Inv-loop μ-loop
 loop-holds c = search (needs, going)
 
-char-requires : tie.Need-char-requires Inv-loop μ-loop
-char-requires c κs = search (needs, going)
+one-requires : tie.Need-one-requires Inv-loop μ-loop
+one-requires c κs = search (needs, going)
 
 enum-known-j : tie.Need-enum-known-j Inv-loop μ-loop
 enum-known-j c = search (needs, going)
@@ -27,7 +27,7 @@ returns : tie.Need-returns Inv-loop μ-loop
 returns c = search (needs, going)
 
 loop-less : tie.Need-loop-less Inv-loop μ-loop
-loop-less c = omega (arith, going-past (c .before .before .before .char .ensures) (c .before .j .given .1))
+loop-less c = omega (arith, going-past (c .before .before .before .one .ensures) (c .before .j .given .1))
 
 loop-again : tie.Need-loop-again Inv-loop μ-loop
 loop-again c = search (needs, going)
@@ -42,7 +42,7 @@ chars-spec =
     Inv-loop
     μ-loop
     loop-holds
-    char-requires
+    one-requires
     enum-known-j
     enum-told
     returns

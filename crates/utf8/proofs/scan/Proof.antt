@@ -1,16 +1,16 @@
 use borrow.Author.Needs.{needs}
-use Rattle.utf8.proofs.Laws.{Going, going-past, going-lost, going-whole, going}
+use Rattle.utf8.proofs.Laws.{Going, going-past, going-lost, going-whole, whole, going}
 use Prim.Native.Nat.{_-_}
 use native.Mathlib.Omega.{arith}
-use mathlib.Core.Path.{sym}
+use mathlib.Core.Path.{sym, _∙_}
 use Rattle.utf8.proofs.scan.Statement.{statement}
 use Rattle.utf8.proofs.scan.Tie as tie
 
 abbrev Inv-loop : tie.InvT-loop
-Inv-loop s from to i₀ n₀ i n = Going s to 0 from i n
+Inv-loop t to i₀ n₀ i n = Going t to 0 0 i n
 
 abbrev μ-loop : tie.MeasureT-loop
-μ-loop s from to i₀ n₀ i n = to - i
+μ-loop t to i₀ n₀ i n = to - i
 
 loop-holds : tie.Need-loop-holds Inv-loop μ-loop
 loop-holds c = search (needs, going)
@@ -25,7 +25,7 @@ enum-told : tie.Need-enum-told Inv-loop μ-loop
 enum-told c = search (needs, going)
 
 returns : tie.Need-returns Inv-loop μ-loop
-returns c = sym (going-lost (c .before .before .block .ensures) (c .enum-told .given .1) (c .before .before .before .before .loop .inv))
+returns c = sym (sym (whole (c .before .before .before .before .before .before .args .t .now)) ∙ going-lost (c .before .before .block .ensures) (c .enum-told .given .1) (c .before .before .before .before .loop .inv))
 
 loop-less : tie.Need-loop-less Inv-loop μ-loop
 loop-less c = omega (arith, going-past (c .before .before .before .block .ensures) (c .before .j .given .1))
@@ -34,7 +34,7 @@ loop-again : tie.Need-loop-again Inv-loop μ-loop
 loop-again c = search (needs, going)
 
 returns-2 : tie.Need-returns-2 Inv-loop μ-loop
-returns-2 c = sym (going-whole (c .loop-test .left) (c .before .loop .inv))
+returns-2 c = sym (sym (whole (c .before .before .before .args .t .now)) ∙ going-whole (c .loop-test .left) (c .before .loop .inv))
 
 pub scan-spec : {M : Type 1} → statement M
 scan-spec =
