@@ -10,12 +10,13 @@ use Rattle.format.specs.Trace.{wrong, unexpectedEof, invalidUtf8, Trace, end, c
 use Rattle.format.specs.Format.{Value, text, content, Rule, string, payload}
 use Rattle.format.specs.Reading.{little, part, room, field, traceLeaf}
 use Rattle.format.specs.Settling.{thenS, settle-bind}
+use Rattle.format.specs.Ending.{part-length}
 use Rattle.vob24.specs.Utf8.{Scan, illFormed, characters, scan, wellFormed, isText}
-use Rattle.utf8.specs.Answers.{scanOf}
+use Rattle.utf8.specs.Answers.{scanOf, AsciiText, allAscii}
 use Rattle.utf8.specs.declared.Scanned.{Scanned}
 use Rattle.utf8.specs.declared.Scanned.the-variants.{IllFormed, Characters}
 use Rattle.reader.specs.Contract.{refusal, payloadStep, textStep}
-use Rattle.reader.specs.Leaves.{Denied, Spanned, Spans, spanned, unspanned, Texts, written, unwritten, Within, inside, nothing, Checked, formed, malformed, passed}
+use Rattle.reader.specs.Leaves.{Denied, Spanned, Spans, spanned, unspanned, Texts, written, unwritten, Checked, formed, malformed, passed}
 use Rattle.reader.specs.declared.Cursor.{Cursor}
 use Rattle.reader.specs.declared.Refusal.{Refusal}
 use Rattle.reader.specs.declared.Payload.{Payload}
@@ -73,17 +74,14 @@ text-then {ρ} {k} {s} {c} (unspanned h) y = go h y
     go : {x : Refusal} {t : Text} → Denied (payload ρ k) s c x → Checked s (Payload.Not x) t → Texts (string ρ k wellFormed) s c t
     go h passed = unwritten (text-denied ρ k h)
 
-pub spans-within : {ρ : Rule} {k : ℕ} {s : List ℕ} {c : Cursor} {q : Payload} → Spans (payload ρ k) s c q → Within s q
-spans-within (spanned h) = inside (h .room)
-spans-within (unspanned h) = nothing
-
--- the answers of `text_of`
-pub within-room : {s : List ℕ} {q : Payload} {p n : ℕ} {d : Cursor} → q ≡ Payload.Got p n d → Within s q → p + n ≤ length s
-within-room {s} {q} {p} {n} {d} e h = go (rw e at h)
+-- the bytes of a payload are there
+pub spans-room : {ρ : Rule} {k : ℕ} {s : List ℕ} {c : Cursor} {q : Payload} {p n : ℕ} {d : Cursor} → q ≡ Payload.Got p n d → Spans (payload ρ k) s c q → p + n ≤ length s
+spans-room {ρ} {k} {s} {c} {q} {p} {n} {d} e h = go (rw e at h)
   where
-    go : Within s (Payload.Got p n d) → p + n ≤ length s
-    go (inside h) = h
+    go : Spans (payload ρ k) s c (Payload.Got p n d) → p + n ≤ length s
+    go (spanned h) = h .room
 
+-- a payload as a text
 scanned : (s : List ℕ) (p n : ℕ) {o : Scan} → o ≡ scan (take (p + n - p) (drop p s)) → scan (part s p n) ≡ o
 scanned s p n h = let j : p + n - p ≡ n = omega arith in sym (rw j at h)
 
@@ -92,10 +90,16 @@ module _ {s : List ℕ} {q : Payload} where
     pub checked-got : {w : Scanned} {m : ℕ} → w ≡ Characters m → scanOf w ≡ scan (take (p + n - p) (drop p s)) → Checked s q (Text.Got p n m d)
     checked-got i h = rw e (formed (scanned s p n (rw i at h)))
 
+    pub checked-ascii : {b : Bool} → b ≡ true → AsciiText (take (p + n - p) (drop p s)) b → p + n ≤ length s → Checked s q (Text.Got p n n d)
+    checked-ascii i h j = rw e (formed (go (rw i at h)))
+      where
+        go : AsciiText (take (p + n - p) (drop p s)) true → scan (part s p n) ≡ characters n
+        go (allAscii l) = scanned s p n (sym l) ∙ ap characters (let m : p + n - p ≡ n = omega arith in rw m (part-length s p n j))
+
     pub checked-not : {w : Scanned} {x : Refusal} → w ≡ IllFormed → scanOf w ≡ scan (take (p + n - p) (drop p s)) → x ≡ refusal (wrong invalidUtf8 0) (d .place) (d .left) → Checked s q (Text.Not x)
     checked-not i h y = rw e (malformed (scanned s p n (rw i at h)) y)
 
   pub checked-passed : {t : Text} {x : Refusal} → q ≡ Payload.Not x → textStep t ≡ payloadStep q → Checked s q t
   checked-passed {t} e i = rw (text-refusal t (i ∙ ap payloadStep e), e) passed
 
-pub ruleset texts = (text-then, spans-within, checked-got, checked-not, checked-passed)
+pub ruleset texts = (text-then, checked-got, checked-ascii, checked-not, checked-passed, spans-room)

@@ -112,11 +112,6 @@ pub data Texts (l : Leaf) (s : List ℕ) (c : Cursor) : Text → Type 0 where
   written : {p n k : ℕ} {d : Cursor} → Spanned l s c p n d → scan (part s p n) ≡ characters k → Texts l s c (Text.Got p n k d)
   unwritten : {x : Refusal} → Denied l s c x → Texts l s c (Text.Not x)
 
--- The bytes that a payload's answer names are there.
-pub data Within (s : List ℕ) : Payload → Type 0 where
-  inside : {p n : ℕ} {d : Cursor} → p + n ≤ length s → Within s (Payload.Got p n d)
-  nothing : {x : Refusal} → Within s (Payload.Not x)
-
 -- A payload's bytes as a text, or 6.
 pub data Checked (s : List ℕ) : Payload → Text → Type 0 where
   formed : {p n k : ℕ} {d : Cursor} → scan (part s p n) ≡ characters k → Checked s (Payload.Got p n d) (Text.Got p n k d)

@@ -15,7 +15,7 @@ ghost use Rattle.vob24.specs.Utf8.{wellFormed};
 ghost use Rattle.vob24.specs.Leaves.{free, atMost, atMostBare, limit, packedWord, magicMark, versionMark};
 ghost use Rattle.vob24.specs.Grammar.{metadataTag, methodSize, noHostCalls};
 ghost use Rattle.reader.specs.Contract.{refusal, stepOf, signedStep, floatStep, payloadStep, textStep, textSpan, numberOf, ReadyAt, Wordy, Kept, WordyPair, KeptPair, Paid};
-ghost use Rattle.reader.specs.Leaves.{Fetches, FetchesSigned, FetchesFloat, Answers, CountAt, Counted, Spans, Within, Checked, Bought, Marks, Texts};
+ghost use Rattle.reader.specs.Leaves.{Fetches, FetchesSigned, FetchesFloat, Answers, CountAt, Counted, Spans, Bought, Marks, Texts};
 use utf8::Scanned;
 
 pub mod limits;
@@ -587,34 +587,40 @@ pub fn read_artifact_bytes(s: &[u8], c: Cursor, context: u64, most: u64) -> Payl
     bytes(s, d, n, context)
 }
 
-// The payload as a text.
-fn text_of(s: &[u8], q: Payload) -> Text
-    requires { ⌜ Within (now s) q ⌝ }
-    ensures { λ t. ⌜ Checked (now (s .entry)) q t ⌝ }
+pub fn read_string(s: &[u8], c: Cursor) -> Text
+    requires { ⌜ ReadyAt (now s) c ⌝ }
+    ensures { λ q. ⌜ Texts (Leaf.string free Refusals.byteString wellFormed) (now (s .entry)) c q ⌝ }
 {
+    let q = read_bytes(s, c);
     let Payload::Got(start, length, d) = q else {
         return not_text(q);
     };
     let end = start + length;
-    let found = utf8::scan(s, start, end);
+    let text = &s[start..end];
+    if utf8::is_ascii(text) {
+        return Text::Got(start, length, length, d);
+    }
+    let found = utf8::scan(text);
     let Scanned::Characters(n) = found else {
         return Text::Not(refuse(d, numbers::INVALID_UTF8, 0));
     };
     Text::Got(start, length, n, d)
 }
 
-pub fn read_string(s: &[u8], c: Cursor) -> Text
-    requires { ⌜ ReadyAt (now s) c ⌝ }
-    ensures { λ q. ⌜ Texts (Leaf.string free Refusals.byteString wellFormed) (now (s .entry)) c q ⌝ }
-{
-    text_of(s, read_bytes(s, c))
-}
-
 pub fn read_artifact_string(s: &[u8], c: Cursor, context: u64, most: u64) -> Text
     requires { ⌜ ReadyAt (now s) c ⌝ }
     ensures { λ q. ⌜ Texts (Leaf.string (limit Refusals.moduleArtifactLimitExceeded context most) context wellFormed) (now (s .entry)) c q ⌝ }
 {
-    text_of(s, read_artifact_bytes(s, c, context, most))
+    let q = read_artifact_bytes(s, c, context, most);
+    let Payload::Got(start, length, d) = q else {
+        return not_text(q);
+    };
+    let end = start + length;
+    let found = utf8::scan(&s[start..end]);
+    let Scanned::Characters(n) = found else {
+        return Text::Not(refuse(d, numbers::INVALID_UTF8, 0));
+    };
+    Text::Got(start, length, n, d)
 }
 
 // ---- counts
