@@ -18,7 +18,11 @@ pub fn number_slot_types(s: &[u8], c: Cursor, tape: &mut [u32]) -> Number
     let Number::Got(n, d) = q else {
         return q;
     };
-    reader::with(n, lists::slot_types(s, d, n, tape))
+    let r = lists::slot_types(s, d, n, tape);
+    let Step::Taken(e) = r else {
+        return reader::with(n, r);
+    };
+    Number::Got(n, e)
 }
 
 pub fn slot_types(s: &[u8], r: Step, tape: &mut [u32]) -> Step

@@ -1,5 +1,7 @@
 use Rattle.reader.proofs.Reading.{reading}
 use Rattle.records.proofs.Numbering.{numberedItems, numbering}
+use mathlib.Core.Path.{ap, sym}
+use Rattle.reader.specs.Contract.{numberOf}
 use Rattle.vob24.specs.Leaves.{slotType}
 use borrow.Author.Needs.{needs}
 use Rattle.slots.proofs.number_slot_types.Statement.{statement}
@@ -23,6 +25,12 @@ returns c = search (needs, reading, numbering)
 slot-types-requires : tie.Need-slot-types-requires
 slot-types-requires c κs = search (needs, reading, numbering)
 
+enum-known-r : tie.Need-enum-known-r
+enum-known-r c = search needs
+
+enum-told-2 : tie.Need-enum-told-2
+enum-told-2 c = search needs
+
 with-requires : tie.Need-with-requires
 with-requires c κs = search needs
 
@@ -30,7 +38,13 @@ same-length-2 : tie.Need-same-length-2
 same-length-2 c = search needs
 
 returns-2 : tie.Need-returns-2
-returns-2 c = numberedItems (c .before .before .before .before .before .before .q .given .1) (c .before .before .before .before .before .before .before .before .before .before .number-count .ensures) slotType (c .before .before .before .slot-types .ensures) (c .with .ensures)
+returns-2 c = numberedItems ((c .before .before .before .before .before .before .before .before .q) .given .1) ((c .before .before .before .before .before .before .before .before .before .before .before .before .number-count) .ensures) slotType ((c .before .before .before .before .before .slot-types) .ensures) ((c .with) .ensures)
+
+same-length-3 : tie.Need-same-length-3
+same-length-3 c = search needs
+
+returns-3 : tie.Need-returns-3
+returns-3 c = numberedItems ((c .before .before .before .before .before .before .before .before .q) .given .1) ((c .before .before .before .before .before .before .before .before .before .before .before .before .number-count) .ensures) slotType ((c .before .before .before .before .before .slot-types) .ensures) (sym (ap (numberOf _) ((c .before .r) .given .1)))
 
 pub number-slot-types-spec : {M : Type 1} → statement M
 number-slot-types-spec =
@@ -42,6 +56,10 @@ number-slot-types-spec =
     same-length
     returns
     slot-types-requires
+    enum-known-r
+    enum-told-2
     with-requires
     same-length-2
-    returns-2)
+    returns-2
+    same-length-3
+    returns-3)
