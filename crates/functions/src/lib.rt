@@ -25,7 +25,7 @@ fn code(s: &[u8], r: Step, tape: &mut [u32]) -> Step
     let Number::Got(instructions, d) = p else {
         return reader::refused(p);
     };
-    let q = instruction::number_instruction_metadata(s, d, tape);
+    let q = metadata::number_instruction_metadata(s, d, tape);
     let Number::Got(metadata, e) = q else {
         return reader::refused(q);
     };

@@ -11,7 +11,7 @@ use Rattle.reader.proofs.Leaves.{narrow-byte, narrow-half}
 use Rattle.lists.specs.Runs.{numbersAt}
 use Rattle.lists.proofs.Copying.{byte-at}
 use Rattle.lists.proofs.Items.{Flat, flat-one, flat-more}
-use Rattle.instruction.specs.Records.{instructionFormat, instructionWidths}
+use Rattle.instruction.specs.Formats.{instructionFormat, instructionWidths}
 
 -- the words of one, stored
 pub put-five : (s t : List ℕ) (p at : ℕ) {a b c d e : ℕ} → p + 8 ≤ length s → a ≡ getD s p 0 → b ≡ getD s (p + 1) 0 → c ≡ little (part s (p + 2) 2) → d ≡ little (part s (p + 4) 2) → e ≡ little (part s (p + 6) 2)

@@ -1,3 +1,1 @@
 pub mod Copying
-pub mod Answers
-pub mod Shapes

@@ -1,4 +1,4 @@
-// Runs the readers of crate instruction on parts of packs: a function's code and its metadata, each within its section.
+// Runs the readers of crates instruction and metadata on parts of packs: a function's code and its metadata, each within its section.
 // Prints a line for each part; stdout holds what the oracle answers.
 use reader::Step;
 
@@ -10,7 +10,7 @@ fn part(h: &[u8], pack: &[u8], tape: &mut [u32]) {
         let q = instruction::number_instructions(pack, c, tape);
         parts::show_number(q, tape);
     } else {
-        let q = instruction::number_instruction_metadata(pack, c, tape);
+        let q = metadata::number_instruction_metadata(pack, c, tape);
         parts::show_number(q, tape);
     }
 }

@@ -1,5 +1,5 @@
 -- The laws of readers that answer a record.
-use Prim.Native.Nat.{ℕ, suc, zero, _+_, _*_, _^_, _<_}
+use Prim.Native.Nat.{ℕ, suc, zero, _+_, _*_, _^_, _≤_, _<_}
 use mathlib.Core.Path.{_≡_, ap, sym, _∙_}
 use mathlib.Core.List.{List}
 use native.Mathlib.Omega.{arith}
@@ -146,6 +146,10 @@ list-place w ρ′ {ρ} {z} {s} {c} {d} {q} {n} e h =
     rw (g .is) (omega (arith, l .3, i))
 
 -- ---- a record by its tag
+
+-- a tag from k on that is not k
+pub above : {n k : ℕ} → k ≤ n → (n ≡ k → ⊥) → k + 1 ≤ n
+above h i = omega arith
 
 pub variantAt : {R : Type 0} {ρ : Rule} (fs : List Format) (rs : ℕ → Value → List R) (o : R) (k : ℕ) {s : List ℕ} {c d : Cursor} {q : Number} {n : ℕ} {x : R} {r : Step} {t t₁ t₂ : List ℕ} → q ≡ Got n d → n ≡ k → NumberOf (leaf (fixed byte ρ)) number s c t q t₁
     → Recorded (getD fs k empty) (λ p v. getD (rs p v) k o) s d t₁ r x t₂ → Recorded (choose ρ fs) (λ p v. getD (rs (p + 1) (second v)) (number (first v)) o) s c t r x t₂

@@ -23,7 +23,7 @@ use Rattle.names.specs.Contract.{ListBehind, ListAsked}
 use Rattle.names.proofs.Following.{list-here, list-follows}
 use Rattle.records.specs.Recorded.{noItems}
 use Rattle.records.specs.declared.Items.{Items}
-use Rattle.records.proofs.Recording.{list-place}
+use Rattle.records.proofs.Recording.{list-place, above}
 use Rattle.records.proofs.Numbering.{lostNumber}
 use Rattle.runtime_type.specs.declared.OptionalId.the-variants.{Absent, Id}
 use Rattle.runtime_type.specs.declared.RuntimeType.{RuntimeType}
@@ -47,9 +47,6 @@ listedTwo e i h y = rw (e, i, y, h)
 -- ---- a record by its tag
 
 -- the tag that is left for the last arm
-above : {n k : ℕ} → k ≤ n → (n ≡ k → ⊥) → k + 1 ≤ n
-above h i = omega arith
-
 pub last-tag : {n : ℕ} → n ≤ 12 → (n ≡ 0 → ⊥) → (n ≡ 1 → ⊥) → (n ≡ 2 → ⊥) → (n ≡ 3 → ⊥) → (n ≡ 4 → ⊥) → (n ≡ 5 → ⊥) → (n ≡ 6 → ⊥) → (n ≡ 7 → ⊥) → (n ≡ 8 → ⊥) → (n ≡ 9 → ⊥) → (n ≡ 10 → ⊥) → (n ≡ 11 → ⊥) → n ≡ 12
 last-tag {n} h a b c d e f g i j k l m =
     let z : 0 ≤ n = omega arith in

@@ -2,7 +2,7 @@ use Rattle.vob24.specs.Refusals.{invalidInstructionMetadata}
 use Rattle.format.specs.Trace.{wrong}
 use Rattle.vob24.specs.Grammar.{code}
 use Rattle.format.specs.Format.{counted, leaf, ask, seq}
-use Rattle.instruction.specs.Records.{metadataList}
+use Rattle.metadata.specs.Records.{metadataList}
 use Rattle.vob24.specs.Questions.{sameCode}
 use Rattle.functions.proofs.Laws.{agree, differ}
 use Rattle.reader.proofs.Reading.{reading}

@@ -1,6 +1,6 @@
 use borrow.Author.Needs.{needs}
 use Rattle.lists.proofs.Copying.{Copying, copying-more, copying}
-use Rattle.instruction.specs.Records.{instructionWidths}
+use Rattle.instruction.specs.Formats.{instructionWidths}
 use native.Mathlib.Omega.{arith}
 use Prim.Native.Nat.{_+_, _*_, _≤_}
 use lib.ListN.{length}

@@ -1,7 +1,7 @@
 use borrow.Author.Needs.{needs}
 use Rattle.reader.proofs.Laws.{Turns}
 use Rattle.reader.proofs.Reading.{reading}
-use Rattle.instruction.specs.Records.{instructionFormat}
+use Rattle.instruction.specs.Formats.{instructionFormat}
 use Rattle.lists.proofs.Items.{run-done, run-refused}
 use Rattle.instruction.proofs.instructions.Statement.{statement}
 use Rattle.instruction.proofs.instructions.Tie as tie

@@ -1,6 +1,6 @@
 use Rattle.reader.proofs.Reading.{reading}
 use Rattle.records.proofs.Numbering.{numberedItems, numbering}
-use Rattle.instruction.specs.Records.{instructionFormat}
+use Rattle.instruction.specs.Formats.{instructionFormat}
 use borrow.Author.Needs.{needs}
 use Rattle.instruction.proofs.number_instructions.Statement.{statement}
 use Rattle.instruction.proofs.number_instructions.Tie as tie

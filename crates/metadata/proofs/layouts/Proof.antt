@@ -1,0 +1,76 @@
+use Rattle.reader.proofs.Reading.{reading}
+use Rattle.reader.proofs.Laws.{got-ready}
+use Rattle.metadata.proofs.Shapes.{twoLayout}
+use Rattle.records.proofs.Recording.{recording}
+use borrow.Author.Needs.{needs}
+use Rattle.metadata.proofs.layouts.Statement.{statement}
+use Rattle.metadata.proofs.layouts.Tie as tie
+
+number-slot-types-requires : tie.Need-number-slot-types-requires
+number-slot-types-requires c κs = search needs
+
+enum-known-q1 : tie.Need-enum-known-q1
+enum-known-q1 c = search needs
+
+enum-told : tie.Need-enum-told
+enum-told c = search needs
+
+not-metadata-requires : tie.Need-not-metadata-requires
+not-metadata-requires c κs = search needs
+
+same-length : tie.Need-same-length
+same-length c = search needs
+
+returns : tie.Need-returns
+returns c = search (needs, reading, recording)
+
+number-slot-types-requires-2 : tie.Need-number-slot-types-requires-2
+number-slot-types-requires-2 c κs = search (needs, reading, recording)
+
+enum-known-q2 : tie.Need-enum-known-q2
+enum-known-q2 c = search needs
+
+enum-told-2 : tie.Need-enum-told-2
+enum-told-2 c = search needs
+
+not-metadata-requires-2 : tie.Need-not-metadata-requires-2
+not-metadata-requires-2 c κs = search needs
+
+same-length-2 : tie.Need-same-length-2
+same-length-2 c = search needs
+
+returns-2 : tie.Need-returns-2
+returns-2 c = search (needs, reading, recording)
+
+items-at-requires : tie.Need-items-at-requires
+items-at-requires c κs = search needs
+
+items-at-requires-2 : tie.Need-items-at-requires-2
+items-at-requires-2 c κs = got-ready ((c .before .before .before .before .before .before .before .before .before .q1) .given .1) ((c .before .before .before .before .before .before .before .before .before .before .before .before .before .number-slot-types) .ensures)
+
+same-length-3 : tie.Need-same-length-3
+same-length-3 c = search needs
+
+returns-3 : tie.Need-returns-3
+returns-3 c = twoLayout ((c .before .before .before .before .before .before .before .before .before .before .q1) .given .1) ((c .before .before .before .before .before .before .before .before .before .before .before .before .before .before .number-slot-types) .ensures) ((c .before .before .before .q2) .given .1) ((c .before .before .before .before .before .before .before .number-slot-types2) .ensures) ((c .before .items-at) .ensures) ((c .items-at2) .ensures)
+
+pub layouts-spec : {M : Type 1} → statement M
+layouts-spec =
+    tie.close
+    (tie.spec
+    number-slot-types-requires
+    enum-known-q1
+    enum-told
+    not-metadata-requires
+    same-length
+    returns
+    number-slot-types-requires-2
+    enum-known-q2
+    enum-told-2
+    not-metadata-requires-2
+    same-length-2
+    returns-2
+    items-at-requires
+    items-at-requires-2
+    same-length-3
+    returns-3)

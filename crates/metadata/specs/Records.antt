@@ -1,0 +1,93 @@
+-- The record of a metadata, as a function of the place and the value that was read there.
+use Prim.Native.Nat.{ℕ, _+_}
+use mathlib.Core.List.{List, [], _∷_}
+use lib.Dec.{eqb}
+use lib.ListN.{getD}
+use Rattle.format.specs.Format.{Value, number, first, second, counted, Format, _▸_}
+use Rattle.vob24.specs.Settings as of
+use Rattle.vob24.specs.Settings.{settings}
+use Rattle.vob24.specs.Leaves.{u16, u32, bool}
+use Rattle.vob24.specs.Grammar as vob
+use Rattle.records.specs.Recorded.{noItems, itemsAt}
+use Rattle.metadata.specs.declared.Metadata.{Metadata}
+use Rattle.metadata.specs.declared.Metadata.the-variants as kind
+use Rattle.metadata.specs.declared.MetadataRecord.{MetadataRecord}
+
+-- ---- the formats
+
+abbrev pub metadataFormat : Format
+metadataFormat = vob.metadata settings
+
+abbrev pub metadataList : Format
+metadataList = vob.list settings of.InstructionMetadata metadataFormat
+
+abbrev slots : Format
+slots = vob.slotTypes settings
+
+abbrev pub twoLayouts : Format
+twoLayouts = slots ▸ slots
+
+abbrev pub elemLayout : Format
+elemLayout = u32 ▸ bool ▸ slots
+
+abbrev pub mapGet : Format
+mapGet = slots ▸ slots ▸ bool
+
+abbrev pub slotLayout : Format
+slotLayout = u16 ▸ slots
+
+abbrev pub ifaceAssert : Format
+ifaceAssert = vob.assertKind settings ▸ u32 ▸ slots
+
+abbrev pub callIface : Format
+callIface = u32 ▸ u32 ▸ slots ▸ slots
+
+-- ---- the records: p is the place after the tag, v the value there
+
+abbrev pub bareOf : Metadata → MetadataRecord
+bareOf k = record { kind = k; first = noItems; second = noItems }
+
+-- one list at p
+abbrev pub oneOf : Metadata → ℕ → Value → MetadataRecord
+oneOf k p v = record { kind = k; first = itemsAt p v; second = noItems }
+
+-- the place after the slot types at p: each is one byte
+abbrev pub pastSlots : ℕ → Value → ℕ
+pastSlots p v = p + 4 + counted v
+
+-- two lists of slot types, one after the other
+abbrev pub twoOf : Metadata → ℕ → Value → MetadataRecord
+twoOf k p v = record { kind = k; first = itemsAt p (first v); second = itemsAt (pastSlots p (first v)) (second v) }
+
+abbrev pub elemOf : ℕ → Value → MetadataRecord
+elemOf p v = oneOf (kind.ElemLayout (number (first v)) (eqb (number (first (second v))) 1)) (p + 5) (second (second v))
+
+abbrev pub mapGetOf : ℕ → Value → MetadataRecord
+mapGetOf p v =
+    record {
+      kind = kind.MapGet (eqb (number (second (second v))) 1);
+      first = itemsAt p (first v);
+      second = itemsAt (pastSlots p (first v)) (first (second v));
+    }
+
+abbrev pub loopEndOf : ℕ → Value → MetadataRecord
+loopEndOf p v = bareOf (kind.LoopEnd (number v))
+
+abbrev pub slotOf : ℕ → Value → MetadataRecord
+slotOf p v = oneOf (kind.SlotLayout (number (first v))) (p + 2) (second v)
+
+abbrev pub assertOf : ℕ → Value → MetadataRecord
+assertOf p v = oneOf (kind.IfaceAssertLayout (number (first v)) (number (first (second v)))) (p + 5) (second (second v))
+
+abbrev pub callIfaceOf : ℕ → Value → MetadataRecord
+callIfaceOf p v = twoOf (kind.CallIfaceLayout (number (first v)) (number (first (second v)))) (p + 8) (second (second v))
+
+-- by the tag; three tags are not in use
+abbrev pub metadataRecords : ℕ → Value → List MetadataRecord
+metadataRecords p v =
+    bareOf kind.None ∷ elemOf p v ∷ mapGetOf p v ∷ twoOf kind.MapSet p v ∷ oneOf kind.MapDelete p v ∷ loopEndOf p v ∷ bareOf kind.None ∷ bareOf kind.None ∷ bareOf kind.None
+    ∷ oneOf kind.PtrLayout p v ∷ slotOf p v ∷ twoOf kind.CallLayout p v ∷ twoOf kind.CallExternLayout p v ∷ oneOf kind.QueueLayout p v ∷ twoOf kind.MapIterNext p v
+    ∷ assertOf p v ∷ twoOf kind.MapNew p v ∷ callIfaceOf p v ∷ oneOf kind.SelectExecLayout p v ∷ []
+
+unfoldable pub metadataOf : ℕ → Value → MetadataRecord
+metadataOf p v = getD (metadataRecords (p + 1) (second v)) (number (first v)) (bareOf kind.None)

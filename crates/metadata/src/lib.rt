@@ -1,0 +1,325 @@
+// The metadata beside each instruction.
+// Ports InstructionMetadata of bytecode.rs and read_instruction_metadata of serialize.rs. A metadata is answered as an enum without
+// lists, held in a record beside its lists' starts and counts.
+ghost use mathlib.Core.Path.{_≡_};
+ghost use Rattle.format.specs.Format.{counted};
+ghost use Rattle.vob24.specs.Settings.{settings};
+ghost use Rattle.vob24.specs.Leaves.{u32};
+ghost use Rattle.vob24.specs.Grammar.{slotTypes};
+ghost use Rattle.reader.specs.Contract.{stepOf, ReadyAt, NumberOf};
+ghost use Rattle.select_case.specs.Records.{selectList};
+ghost use Rattle.metadata.specs.Records.{metadataFormat, metadataList, twoLayouts, elemLayout, mapGet, slotLayout, ifaceAssert, callIface, bareOf, oneOf, twoOf, elemOf, mapGetOf, loopEndOf, slotOf, assertOf, callIfaceOf, metadataOf};
+ghost use Rattle.metadata.specs.Contract.{metadataStep, MetadataReader};
+use reader::Cursor;
+use reader::Number;
+use reader::Refusal;
+use reader::sizes;
+use records::Items;
+
+// What stands beside an instruction, without its lists.
+pub enum Metadata {
+    None,
+    ElemLayout {
+        elem_bytes: u32,
+        needs_sign_extend: bool,
+    },
+    MapGet {
+        has_ok: bool,
+    },
+    MapSet,
+    MapDelete,
+    LoopEnd {
+        end_pc: u32,
+    },
+    PtrLayout,
+    SlotLayout {
+        array_len: u16,
+    },
+    CallLayout,
+    CallExternLayout,
+    QueueLayout,
+    MapIterNext,
+    IfaceAssertLayout {
+        assert_kind: u8,
+        target_id: u32,
+    },
+    MapNew,
+    CallIfaceLayout {
+        iface_meta_id: u32,
+        method_idx: u32,
+    },
+    SelectExecLayout,
+}
+
+// A metadata and its lists in file order; a list that it has not is empty.
+pub struct MetadataRecord {
+    pub kind: Metadata,
+    pub first: Items,
+    pub second: Items,
+}
+
+pub enum MetadataRead {
+    Got(MetadataRecord, Cursor),
+    Not(Refusal),
+}
+
+// ---- the parts of a metadata
+
+// A metadata that has no list.
+fn bare(kind: Metadata) -> MetadataRecord
+    ensures { λ q. ⌜ q ≡ bareOf kind ⌝ }
+{
+    MetadataRecord {
+        kind,
+        first: Items { start: 0, count: 0 },
+        second: Items { start: 0, count: 0 },
+    }
+}
+
+// A part that was not got: its refusal.
+fn not_metadata(q: Number) -> MetadataRead
+    ensures { λ r. ⌜ metadataStep r ≡ stepOf q ⌝ }
+{
+    match q {
+        Number::Got(_, c) => MetadataRead::Got(bare(Metadata::None), c),
+        Number::Not(x) => MetadataRead::Not(x),
+    }
+}
+
+// ---- metadata by their shapes
+
+// One slot layout.
+fn layout(s: &[u8], c: Cursor, kind: Metadata, tape: &mut [u32]) -> MetadataRead
+    requires { ⌜ ReadyAt (now s) c ⌝ }
+    ensures { λ q. ⌜ MetadataReader (slotTypes settings) (oneOf kind) (now (s .entry)) c (now (tape .entry)) q (now (tape .exit)) ⌝ }
+{
+    let q = slots::number_slot_types(s, c, tape);
+    let Number::Got(n, d) = q else {
+        return not_metadata(q);
+    };
+    MetadataRead::Got(
+        MetadataRecord {
+            kind,
+            first: records::items_at(s, c, n),
+            second: Items { start: 0, count: 0 },
+        },
+        d,
+    )
+}
+
+// Two slot layouts.
+fn layouts(s: &[u8], c: Cursor, kind: Metadata, tape: &mut [u32]) -> MetadataRead
+    requires { ⌜ ReadyAt (now s) c ⌝ }
+    ensures { λ q. ⌜ MetadataReader twoLayouts (twoOf kind) (now (s .entry)) c (now (tape .entry)) q (now (tape .exit)) ⌝ }
+{
+    let q1 = slots::number_slot_types(s, c, tape);
+    let Number::Got(m, d) = q1 else {
+        return not_metadata(q1);
+    };
+    let q2 = slots::number_slot_types(s, d, tape);
+    let Number::Got(n, e) = q2 else {
+        return not_metadata(q2);
+    };
+    MetadataRead::Got(
+        MetadataRecord {
+            kind,
+            first: records::items_at(s, c, m),
+            second: records::items_at(s, d, n),
+        },
+        e,
+    )
+}
+
+// elem_bytes, needs_sign_extend, slot_layout
+fn elem_layout(s: &[u8], c: Cursor, tape: &mut [u32]) -> MetadataRead
+    requires { ⌜ ReadyAt (now s) c ⌝ }
+    ensures { λ q. ⌜ MetadataReader elemLayout elemOf (now (s .entry)) c (now (tape .entry)) q (now (tape .exit)) ⌝ }
+{
+    let q1 = fields::number_u32(s, c, tape);
+    let Number::Got(bytes, d) = q1 else {
+        return not_metadata(q1);
+    };
+    let q2 = fields::number_bool(s, d, tape);
+    let Number::Got(extend, e) = q2 else {
+        return not_metadata(q2);
+    };
+    let kind = Metadata::ElemLayout {
+        elem_bytes: bytes as u32,
+        needs_sign_extend: extend == 1,
+    };
+    layout(s, e, kind, tape)
+}
+
+// key_layout, val_layout, has_ok
+fn map_get(s: &[u8], c: Cursor, tape: &mut [u32]) -> MetadataRead
+    requires { ⌜ ReadyAt (now s) c ⌝ }
+    ensures { λ q. ⌜ MetadataReader mapGet mapGetOf (now (s .entry)) c (now (tape .entry)) q (now (tape .exit)) ⌝ }
+{
+    let q1 = slots::number_slot_types(s, c, tape);
+    let Number::Got(m, d) = q1 else {
+        return not_metadata(q1);
+    };
+    let q2 = slots::number_slot_types(s, d, tape);
+    let Number::Got(n, e) = q2 else {
+        return not_metadata(q2);
+    };
+    let q3 = fields::number_bool(s, e, tape);
+    let Number::Got(ok, f) = q3 else {
+        return not_metadata(q3);
+    };
+    MetadataRead::Got(
+        MetadataRecord {
+            kind: Metadata::MapGet { has_ok: ok == 1 },
+            first: records::items_at(s, c, m),
+            second: records::items_at(s, d, n),
+        },
+        f,
+    )
+}
+
+// end_pc
+fn loop_end(s: &[u8], c: Cursor, tape: &mut [u32]) -> MetadataRead
+    requires { ⌜ ReadyAt (now s) c ⌝ }
+    ensures { λ q. ⌜ MetadataReader u32 loopEndOf (now (s .entry)) c (now (tape .entry)) q (now (tape .exit)) ⌝ }
+{
+    let q = fields::number_u32(s, c, tape);
+    let Number::Got(pc, d) = q else {
+        return not_metadata(q);
+    };
+    MetadataRead::Got(bare(Metadata::LoopEnd { end_pc: pc as u32 }), d)
+}
+
+// array_len, elem_layout
+fn slot_layout(s: &[u8], c: Cursor, tape: &mut [u32]) -> MetadataRead
+    requires { ⌜ ReadyAt (now s) c ⌝ }
+    ensures { λ q. ⌜ MetadataReader slotLayout slotOf (now (s .entry)) c (now (tape .entry)) q (now (tape .exit)) ⌝ }
+{
+    let q = fields::number_u16(s, c, tape);
+    let Number::Got(length, d) = q else {
+        return not_metadata(q);
+    };
+    let kind = Metadata::SlotLayout {
+        array_len: length as u16,
+    };
+    layout(s, d, kind, tape)
+}
+
+// assert_kind, target_id, result_layout
+fn iface_assert_layout(s: &[u8], c: Cursor, tape: &mut [u32]) -> MetadataRead
+    requires { ⌜ ReadyAt (now s) c ⌝ }
+    ensures { λ q. ⌜ MetadataReader ifaceAssert assertOf (now (s .entry)) c (now (tape .entry)) q (now (tape .exit)) ⌝ }
+{
+    let q1 = fields::number_assert_kind(s, c, tape);
+    let Number::Got(assert, d) = q1 else {
+        return not_metadata(q1);
+    };
+    let q2 = fields::number_u32(s, d, tape);
+    let Number::Got(target, e) = q2 else {
+        return not_metadata(q2);
+    };
+    let kind = Metadata::IfaceAssertLayout {
+        assert_kind: assert as u8,
+        target_id: target as u32,
+    };
+    layout(s, e, kind, tape)
+}
+
+// iface_meta_id, method_idx, arg_layout, ret_layout
+fn call_iface_layout(s: &[u8], c: Cursor, tape: &mut [u32]) -> MetadataRead
+    requires { ⌜ ReadyAt (now s) c ⌝ }
+    ensures { λ q. ⌜ MetadataReader callIface callIfaceOf (now (s .entry)) c (now (tape .entry)) q (now (tape .exit)) ⌝ }
+{
+    let q1 = fields::number_u32(s, c, tape);
+    let Number::Got(id, d) = q1 else {
+        return not_metadata(q1);
+    };
+    let q2 = fields::number_u32(s, d, tape);
+    let Number::Got(method, e) = q2 else {
+        return not_metadata(q2);
+    };
+    let kind = Metadata::CallIfaceLayout {
+        iface_meta_id: id as u32,
+        method_idx: method as u32,
+    };
+    layouts(s, e, kind, tape)
+}
+
+// cases
+fn select_exec_layout(s: &[u8], c: Cursor, tape: &mut [u32]) -> MetadataRead
+    requires { ⌜ ReadyAt (now s) c ⌝ }
+    ensures { λ q. ⌜ MetadataReader selectList (oneOf Metadata.SelectExecLayout) (now (s .entry)) c (now (tape .entry)) q (now (tape .exit)) ⌝ }
+{
+    let q = select_case::number_select_cases(s, c, tape);
+    let Number::Got(n, d) = q else {
+        return not_metadata(q);
+    };
+    MetadataRead::Got(
+        MetadataRecord {
+            kind: Metadata::SelectExecLayout,
+            first: records::items_at(s, c, n),
+            second: Items { start: 0, count: 0 },
+        },
+        d,
+    )
+}
+
+// The tag, and what it stands for; the last arm is 18, as number_metadata_tag refuses all others.
+pub fn instruction_metadata(s: &[u8], c: Cursor, tape: &mut [u32]) -> MetadataRead
+    requires { ⌜ ReadyAt (now s) c ⌝ }
+    ensures { λ q. ⌜ MetadataReader metadataFormat metadataOf (now (s .entry)) c (now (tape .entry)) q (now (tape .exit)) ⌝ }
+{
+    let q = fields::number_metadata_tag(s, c, tape);
+    let Number::Got(tag, d) = q else {
+        return not_metadata(q);
+    };
+    match tag {
+        0 => MetadataRead::Got(bare(Metadata::None), d),
+        1 => elem_layout(s, d, tape),
+        2 => map_get(s, d, tape),
+        3 => layouts(s, d, Metadata::MapSet, tape),
+        4 => layout(s, d, Metadata::MapDelete, tape),
+        5 => loop_end(s, d, tape),
+        9 => layout(s, d, Metadata::PtrLayout, tape),
+        10 => slot_layout(s, d, tape),
+        11 => layouts(s, d, Metadata::CallLayout, tape),
+        12 => layouts(s, d, Metadata::CallExternLayout, tape),
+        13 => layout(s, d, Metadata::QueueLayout, tape),
+        14 => layouts(s, d, Metadata::MapIterNext, tape),
+        15 => iface_assert_layout(s, d, tape),
+        16 => layouts(s, d, Metadata::MapNew, tape),
+        17 => call_iface_layout(s, d, tape),
+        _ => select_exec_layout(s, d, tape),
+    }
+}
+
+// An item's refusal, passed up.
+fn metadata_refused(q: MetadataRead) -> Number
+    ensures { λ r. ⌜ stepOf r ≡ metadataStep q ⌝ }
+{
+    match q {
+        MetadataRead::Got(_, c) => Number::Got(0, c),
+        MetadataRead::Not(x) => Number::Not(x),
+    }
+}
+
+// Hands out how many they are.
+pub fn number_instruction_metadata(s: &[u8], c: Cursor, tape: &mut [u32]) -> Number
+    requires { ⌜ ReadyAt (now s) c ⌝ }
+    ensures { λ q. ⌜ NumberOf metadataList counted (now (s .entry)) c (now (tape .entry)) q (now (tape .exit)) ⌝ }
+{
+    let q = fields::number_count(s, c, sizes::INSTRUCTION_METADATA, tape);
+    let Number::Got(n, d) = q else {
+        return q;
+    };
+    let mut k = n;
+    let mut here = d;
+    while 0 < k {
+        let item = instruction_metadata(s, here, tape);
+        let MetadataRead::Got(_, next) = item else {
+            return metadata_refused(item);
+        };
+        here = next;
+        k -= 1;
+    }
+    Number::Got(n, here)
+}

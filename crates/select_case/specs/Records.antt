@@ -1,0 +1,37 @@
+-- The record of a select case, as a function of the place and the value that was read there.
+use Prim.Native.Nat.{ℕ, _+_}
+use mathlib.Core.List.{[], _∷_}
+use lib.Dec.{eqb}
+use lib.ListN.{getD}
+use Rattle.format.specs.Format.{Value, number, first, second, Format, _▸_}
+use Rattle.vob24.specs.Settings as of
+use Rattle.vob24.specs.Settings.{settings}
+use Rattle.vob24.specs.Leaves.{u16, bool}
+use Rattle.vob24.specs.Grammar as vob
+use Rattle.select_case.specs.declared.SelectCase.{SelectCase}
+use Rattle.select_case.specs.declared.SelectCase.the-variants.{Send, Recv}
+
+-- ---- the formats
+
+abbrev pub selectFormat : Format
+selectFormat = vob.selectCase settings
+
+abbrev pub selectList : Format
+selectList = vob.list settings of.SelectCaseLayout selectFormat
+
+abbrev pub sendFormat : Format
+sendFormat = u16 ▸ u16 ▸ u16
+
+abbrev pub recvFormat : Format
+recvFormat = u16 ▸ u16 ▸ u16 ▸ bool
+
+-- ---- the records: p is the place after the tag, v the value there
+
+abbrev pub sendOf : ℕ → Value → SelectCase
+sendOf p v = Send (number (first v)) (number (first (second v))) (number (second (second v)))
+
+abbrev pub recvOf : ℕ → Value → SelectCase
+recvOf p v = Recv (number (first v)) (number (first (second v))) (number (first (second (second v)))) (eqb (number (second (second (second v)))) 1)
+
+unfoldable pub selectOf : ℕ → Value → SelectCase
+selectOf p v = getD (sendOf (p + 1) (second v) ∷ recvOf (p + 1) (second v) ∷ []) (number (first v)) (Send 0 0 0)
