@@ -1,9 +1,9 @@
 -- The record of a runtime type, as a function of the place and the value that was read there.
 use Prim.Native.Nat.{ℕ, zero, suc, _+_, _*_}
-use mathlib.Core.List.{List, [], _∷_, map}
+use mathlib.Core.List.{List, [], _∷_}
 use lib.Dec.{eqb}
 use lib.ListN.{getD}
-use Rattle.format.specs.Format.{Value, number, first, second, entries, counted, Format, ask, leaf, seq, _▸_}
+use Rattle.format.specs.Format.{Value, number, first, second, counted, Format, _▸_}
 use Rattle.vob24.specs.Settings as of
 use Rattle.vob24.specs.Settings.{settings}
 use Rattle.vob24.specs.Leaves.{u32, u64, optionalId, bool, direction, valueRttid}
@@ -25,29 +25,6 @@ typeList = vob.list settings of.RuntimeType typeFormat
 
 abbrev pub rttidList : Format
 rttidList = vob.rttids settings
-
-abbrev pub fieldFormat : Format
-fieldFormat = vob.runtimeField settings
-
-abbrev pub fieldList : Format
-fieldList = vob.list settings of.StructField fieldFormat
-
--- with the questions on their identities
-abbrev pub newFields : Format
-newFields = seq fieldList (λ v. leaf (ask (vob.fieldSet settings (map (vob.identity settings) (entries v)))))
-
-abbrev pub methodFormat : Format
-methodFormat = vob.runtimeMethod settings
-
-abbrev pub methodList : Format
-methodList = vob.list settings of.InterfaceMethod methodFormat
-
--- with the questions on their names
-abbrev pub newMethods : Format
-newMethods = seq methodList (λ v. leaf (ask (vob.methodSet settings (map (vob.methodName settings) (entries v)))))
-
-abbrev pub newCount : Value → ℕ
-newCount v = counted (first v)
 
 abbrev pub namedFormat : Format
 namedFormat = u32 ▸ optionalId

@@ -6,9 +6,8 @@ ghost use Prim.Native.Nat.{_<_};
 ghost use Rattle.format.specs.Format.{counted};
 ghost use Rattle.vob24.specs.Leaves.{valueKind, valueRttid};
 ghost use Rattle.reader.specs.Contract.{stepOf, Ready, ReadyAt, Reader, NumberOf};
-ghost use Rattle.runtime_type.specs.Records.{typeFormat, typeList, rttidList, fieldFormat, fieldList, newFields, methodFormat, methodList, newMethods, namedFormat, arrayFormat, mapFormat, directedFormat, funcFormat, structFormat, interfaceFormat, optionalOf, bareOf, basicOf, namedOf, pointerOf, arrayOf, sliceOf, mapOf, chanOf, funcOf, structOf, interfaceOf, tupleOf, portOf, runtimeTypeOf, newCount};
+ghost use Rattle.runtime_type.specs.Records.{typeFormat, typeList, rttidList, namedFormat, arrayFormat, mapFormat, directedFormat, funcFormat, structFormat, interfaceFormat, optionalOf, bareOf, basicOf, namedOf, pointerOf, arrayOf, sliceOf, mapOf, chanOf, funcOf, structOf, interfaceOf, tupleOf, portOf, runtimeTypeOf};
 ghost use Rattle.runtime_type.specs.Contract.{typeStep, TypeReader};
-use names::Item;
 use reader::Cursor;
 use reader::Number;
 use reader::Refusal;
@@ -52,8 +51,6 @@ pub enum RuntimeTypeRead {
     Not(Refusal),
 }
 
-// ---- lists
-
 // A list of rttids; hands out how many they are.
 fn number_rttids(s: &[u8], c: Cursor, tape: &mut [u32]) -> Number
     requires { ⌜ ReadyAt (now s) c ⌝ }
@@ -73,94 +70,6 @@ fn number_rttids(s: &[u8], c: Cursor, tape: &mut [u32]) -> Number
         k -= 1;
     }
     reader::with(n, here)
-}
-
-// name, typ, tag, embedded, pkg
-fn field(s: &[u8], r: Step, tape: &mut [u32]) -> Step
-    requires { ⌜ Ready (now s) r ⌝ }
-    ensures { λ q. ⌜ Reader fieldFormat (now (s .entry)) r (now (tape .entry)) q (now (tape .exit)) ⌝ }
-{
-    let name = fields::field_member_name(s, r, tape);
-    let typ = fields::field_value_rttid(s, name, tape);
-    let tag = fields::field_str(s, typ, tape);
-    let embedded = fields::field_bool(s, tag, tape);
-    fields::field_str(s, embedded, tape)
-}
-
-fn number_fields(s: &[u8], c: Cursor, tape: &mut [u32]) -> Number
-    requires { ⌜ ReadyAt (now s) c ⌝ }
-    ensures { λ q. ⌜ NumberOf fieldList counted (now (s .entry)) c (now (tape .entry)) q (now (tape .exit)) ⌝ }
-{
-    let q = fields::number_count(s, c, sizes::STRUCT_FIELD, tape);
-    let Number::Got(n, d) = q else {
-        return q;
-    };
-    let mut k = n;
-    let mut here = Step::Taken(d);
-    while 0 < k {
-        here = field(s, here, tape);
-        let Step::Taken(_) = here else {
-            return reader::with(n, here);
-        };
-        k -= 1;
-    }
-    reader::with(n, here)
-}
-
-// A struct's fields, each with an identity of its own; hands out how many they are.
-fn number_new_fields(s: &[u8], c: Cursor, tape: &mut [u32]) -> Number
-    requires { ⌜ ReadyAt (now s) c ⌝ }
-    ensures { λ q. ⌜ NumberOf newFields newCount (now (s .entry)) c (now (tape .entry)) q (now (tape .exit)) ⌝ }
-{
-    let q = number_fields(s, c, tape);
-    let Number::Got(n, d) = q else {
-        return q;
-    };
-    reader::with(n, names::field_set(s, Step::Taken(c), Step::Taken(d)))
-}
-
-// name, sig
-fn method(s: &[u8], r: Step, tape: &mut [u32]) -> Step
-    requires { ⌜ Ready (now s) r ⌝ }
-    ensures { λ q. ⌜ Reader methodFormat (now (s .entry)) r (now (tape .entry)) q (now (tape .exit)) ⌝ }
-{
-    let name = fields::field_member_name(s, r, tape);
-    fields::field_value_rttid(s, name, tape)
-}
-
-fn number_methods(s: &[u8], c: Cursor, tape: &mut [u32]) -> Number
-    requires { ⌜ ReadyAt (now s) c ⌝ }
-    ensures { λ q. ⌜ NumberOf methodList counted (now (s .entry)) c (now (tape .entry)) q (now (tape .exit)) ⌝ }
-{
-    let q = fields::number_count(s, c, sizes::INTERFACE_METHOD, tape);
-    let Number::Got(n, d) = q else {
-        return q;
-    };
-    let mut k = n;
-    let mut here = Step::Taken(d);
-    while 0 < k {
-        here = method(s, here, tape);
-        let Step::Taken(_) = here else {
-            return reader::with(n, here);
-        };
-        k -= 1;
-    }
-    reader::with(n, here)
-}
-
-// An interface's methods, each with a name of its own; hands out how many they are.
-fn number_new_methods(s: &[u8], c: Cursor, tape: &mut [u32]) -> Number
-    requires { ⌜ ReadyAt (now s) c ⌝ }
-    ensures { λ q. ⌜ NumberOf newMethods newCount (now (s .entry)) c (now (tape .entry)) q (now (tape .exit)) ⌝ }
-{
-    let q = number_methods(s, c, tape);
-    let Number::Got(n, d) = q else {
-        return q;
-    };
-    reader::with(
-        n,
-        names::method_set(s, Item::RuntimeMethod, Step::Taken(c), Step::Taken(d)),
-    )
 }
 
 // ---- the records' parts
@@ -345,7 +254,7 @@ fn struct_type(s: &[u8], c: Cursor, tape: &mut [u32]) -> RuntimeTypeRead
     let Number::Got(id, d) = q1 else {
         return not_type(q1);
     };
-    let q2 = number_new_fields(s, d, tape);
+    let q2 = runtime_members::number_new_fields(s, d, tape);
     let Number::Got(n, e) = q2 else {
         return not_type(q2);
     };
@@ -368,7 +277,7 @@ fn interface(s: &[u8], c: Cursor, tape: &mut [u32]) -> RuntimeTypeRead
     let Number::Got(id, d) = q1 else {
         return not_type(q1);
     };
-    let q2 = number_new_methods(s, d, tape);
+    let q2 = runtime_members::number_new_methods(s, d, tape);
     let Number::Got(n, e) = q2 else {
         return not_type(q2);
     };

@@ -1,9 +1,9 @@
 use borrow.Author.Needs.{needs}
 use Rattle.reader.proofs.Reading.{reading}
 use Rattle.records.proofs.Numbering.{numbering}
-use Rattle.runtime_type.proofs.Laws.{listAsked, listBehind}
-use Rattle.runtime_type.proofs.number_new_methods.Statement.{statement}
-use Rattle.runtime_type.proofs.number_new_methods.Tie as tie
+use Rattle.runtime_members.proofs.Laws.{listAsked, listBehind}
+use Rattle.runtime_members.proofs.number_new_methods.Statement.{statement}
+use Rattle.runtime_members.proofs.number_new_methods.Tie as tie
 
 number-methods-requires : tie.Need-number-methods-requires
 number-methods-requires c κs = search (needs, reading, numbering)

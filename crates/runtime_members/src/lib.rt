@@ -1,0 +1,103 @@
+// The members of runtime types: the fields of a struct, each with an identity of its own, and the methods of an interface,
+// each with a name of its own.
+// Ports StructField and InterfaceMethod of runtime_type.rs and their reading by read_runtime_type of serialize.rs.
+ghost use Rattle.format.specs.Format.{counted};
+ghost use Rattle.reader.specs.Contract.{Ready, ReadyAt, Reader, NumberOf};
+ghost use Rattle.runtime_members.specs.Formats.{fieldFormat, fieldList, newFields, methodFormat, methodList, newMethods, newCount};
+use names::Item;
+use reader::Cursor;
+use reader::Number;
+use reader::Step;
+use reader::sizes;
+
+// ---- fields of structs
+
+// name, typ, tag, embedded, pkg
+fn field(s: &[u8], r: Step, tape: &mut [u32]) -> Step
+    requires { ⌜ Ready (now s) r ⌝ }
+    ensures { λ q. ⌜ Reader fieldFormat (now (s .entry)) r (now (tape .entry)) q (now (tape .exit)) ⌝ }
+{
+    let name = fields::field_member_name(s, r, tape);
+    let typ = fields::field_value_rttid(s, name, tape);
+    let tag = fields::field_str(s, typ, tape);
+    let embedded = fields::field_bool(s, tag, tape);
+    fields::field_str(s, embedded, tape)
+}
+
+fn number_fields(s: &[u8], c: Cursor, tape: &mut [u32]) -> Number
+    requires { ⌜ ReadyAt (now s) c ⌝ }
+    ensures { λ q. ⌜ NumberOf fieldList counted (now (s .entry)) c (now (tape .entry)) q (now (tape .exit)) ⌝ }
+{
+    let q = fields::number_count(s, c, sizes::STRUCT_FIELD, tape);
+    let Number::Got(n, d) = q else {
+        return q;
+    };
+    let mut k = n;
+    let mut here = Step::Taken(d);
+    while 0 < k {
+        here = field(s, here, tape);
+        let Step::Taken(_) = here else {
+            return reader::with(n, here);
+        };
+        k -= 1;
+    }
+    reader::with(n, here)
+}
+
+// A struct's fields, each with an identity of its own; hands out how many they are.
+pub fn number_new_fields(s: &[u8], c: Cursor, tape: &mut [u32]) -> Number
+    requires { ⌜ ReadyAt (now s) c ⌝ }
+    ensures { λ q. ⌜ NumberOf newFields newCount (now (s .entry)) c (now (tape .entry)) q (now (tape .exit)) ⌝ }
+{
+    let q = number_fields(s, c, tape);
+    let Number::Got(n, d) = q else {
+        return q;
+    };
+    reader::with(n, names::field_set(s, Step::Taken(c), Step::Taken(d)))
+}
+
+// ---- methods of interfaces
+
+// name, sig
+fn method(s: &[u8], r: Step, tape: &mut [u32]) -> Step
+    requires { ⌜ Ready (now s) r ⌝ }
+    ensures { λ q. ⌜ Reader methodFormat (now (s .entry)) r (now (tape .entry)) q (now (tape .exit)) ⌝ }
+{
+    let name = fields::field_member_name(s, r, tape);
+    fields::field_value_rttid(s, name, tape)
+}
+
+fn number_methods(s: &[u8], c: Cursor, tape: &mut [u32]) -> Number
+    requires { ⌜ ReadyAt (now s) c ⌝ }
+    ensures { λ q. ⌜ NumberOf methodList counted (now (s .entry)) c (now (tape .entry)) q (now (tape .exit)) ⌝ }
+{
+    let q = fields::number_count(s, c, sizes::INTERFACE_METHOD, tape);
+    let Number::Got(n, d) = q else {
+        return q;
+    };
+    let mut k = n;
+    let mut here = Step::Taken(d);
+    while 0 < k {
+        here = method(s, here, tape);
+        let Step::Taken(_) = here else {
+            return reader::with(n, here);
+        };
+        k -= 1;
+    }
+    reader::with(n, here)
+}
+
+// An interface's methods, each with a name of its own; hands out how many they are.
+pub fn number_new_methods(s: &[u8], c: Cursor, tape: &mut [u32]) -> Number
+    requires { ⌜ ReadyAt (now s) c ⌝ }
+    ensures { λ q. ⌜ NumberOf newMethods newCount (now (s .entry)) c (now (tape .entry)) q (now (tape .exit)) ⌝ }
+{
+    let q = number_methods(s, c, tape);
+    let Number::Got(n, d) = q else {
+        return q;
+    };
+    reader::with(
+        n,
+        names::method_set(s, Item::RuntimeMethod, Step::Taken(c), Step::Taken(d)),
+    )
+}
