@@ -12,8 +12,8 @@ use Rattle.format.specs.Ending.{settle-seq, seq-ends}
 use Rattle.vob24.specs.Settings.{settings}
 use Rattle.vob24.specs.Grammar.{name, structs, interfaces, namedTypes, itabs, runtimeTypes, wellKnown, constants, globals, functions, externs, entry, islandInit, artifacts, section, afterFunctions, sections, magic, version, pack, artifact}
 use Rattle.vob24.specs.Cost.{partOf}
-use Rattle.names.specs.Contract.{Items}
-use Rattle.names.specs.Walk.{itemsAt, list-off}
+use Rattle.items.specs.Contract.{Items}
+use Rattle.items.specs.Walk.{itemsAt, list-off}
 use Rattle.reader.specs.Contract.{Ready, ReadyAt, Reads, takes, refuses, Reader}
 use Rattle.reader.specs.declared.Cursor.{Cursor}
 use Rattle.reader.specs.declared.Step.{Step}

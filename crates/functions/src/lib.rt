@@ -75,7 +75,7 @@ fn capture_types(s: &[u8], r: Step, tape: &mut [u32]) -> Step
     ensures { λ q. ⌜ Reader captureTypes (now (s .entry)) r (now (tape .entry)) q (now (tape .exit)) ⌝ }
 {
     let list = transfer_types(s, r, tape);
-    names::transfer_words(s, numbers::CAPTURE_META, r, list)
+    transfers::transfer_words(s, numbers::CAPTURE_META, r, list)
 }
 
 fn param_types(s: &[u8], r: Step, tape: &mut [u32]) -> Step
@@ -83,7 +83,7 @@ fn param_types(s: &[u8], r: Step, tape: &mut [u32]) -> Step
     ensures { λ q. ⌜ Reader paramTypes (now (s .entry)) r (now (tape .entry)) q (now (tape .exit)) ⌝ }
 {
     let list = transfer_types(s, r, tape);
-    names::transfer_words(s, numbers::PARAMETER_META, r, list)
+    transfers::transfer_words(s, numbers::PARAMETER_META, r, list)
 }
 
 // ---- functions

@@ -21,13 +21,14 @@ use Rattle.reader.specs.declared.Number.{Number}
 use Rattle.reader.specs.declared.Number.the-variants.{Got}
 use Rattle.reader.proofs.Laws.{at-step, numberThen, takes-ends}
 use Rattle.reader.proofs.Asks.{asks-none, behind}
-use Rattle.names.specs.declared.Item.the-variants.{NamedMethod}
-use Rattle.names.specs.declared.Table.the-variants.{Methods as methodTable}
-use Rattle.names.specs.Walk.{nextAt, lastAt, stand, items-nil, stand-snoc, last-snoc}
-use Rattle.names.specs.Tables.{repeatAt}
-use Rattle.names.specs.Contract.{Items, FirstRepeat, MethodBehind, MethodAsked}
+use Rattle.items.specs.declared.Item.the-variants.{NamedMethod}
+use Rattle.items.specs.declared.Table.the-variants.{Methods as methodTable}
+use Rattle.items.specs.Walk.{nextAt, lastAt, stand, items-nil, stand-snoc, last-snoc}
+use Rattle.items.specs.Contract.{Items}
+use Rattle.repeats.specs.Repeats.{repeatAt, FirstRepeat}
+use Rattle.names.specs.Contract.{MethodBehind, MethodAsked}
 use Rattle.names.proofs.Lists.{method-repeat, method-refused}
-use Rattle.names.proofs.Following.{Methods, methods-start, methods-more, methods-refused, methods-done}
+use Rattle.names.proofs.Methods.{Methods, methods-start, methods-more, methods-refused, methods-done}
 use Rattle.interfaces.specs.NamedTypes.{namedMethod, namedMethods, newMethods, AllNew, MethodsRead}
 
 pub methodsThen : {s : List ℕ} {c d : Cursor} {q : Number} {n : ℕ} {r r₂ : Step} {t t₁ t₂ : List ℕ} → r ≡ Taken c → q ≡ Got n d → NumberOf methodCount number s c t q t₁ → Reader (chain (newMethod settings) (alsoSeen settings) [] n) s (Taken d) t₁ r₂ t₂ → Reader namedMethods s r t r₂ t₂

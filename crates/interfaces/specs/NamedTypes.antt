@@ -12,10 +12,10 @@ use Rattle.reader.specs.declared.Cursor.{Cursor}
 use Rattle.reader.specs.declared.Refusal.{Refusal}
 use Rattle.reader.specs.declared.Step.{Step}
 use Rattle.reader.specs.declared.Step.the-variants.{Taken, Refused}
-use Rattle.names.specs.declared.Item.the-variants.{NamedMethod}
-use Rattle.names.specs.declared.Table.the-variants.{Methods}
-use Rattle.names.specs.Tables.{repeatAt}
-use Rattle.names.specs.Contract.{Items}
+use Rattle.items.specs.declared.Item.the-variants.{NamedMethod}
+use Rattle.items.specs.declared.Table.the-variants.{Methods}
+use Rattle.items.specs.Contract.{Items}
+use Rattle.repeats.specs.Repeats.{repeatAt}
 
 abbrev pub namedMethod : Format
 namedMethod = vob.method settings

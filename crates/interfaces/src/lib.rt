@@ -4,8 +4,8 @@
 ghost use Rattle.reader.specs.Contract.{Ready, ReadyAt, Reader};
 ghost use Rattle.interfaces.specs.Interfaces.{nameList, methodFormat, methodList, interfaceFormat, interfaceList};
 ghost use Rattle.interfaces.specs.NamedTypes.{namedMethod, namedMethods, namedFormat, namedList, MethodsRead};
-use names::Item;
-use names::Table;
+use items::Item;
+use items::Table;
 use reader::Cursor;
 use reader::Number;
 use reader::Step;
@@ -164,7 +164,7 @@ pub fn methods(s: &[u8], r: Step, tape: &mut [u32]) -> Step
     };
     let count = n as usize;
     let run = read_methods(s, d, count, count, tape);
-    let lim = names::first_repeat(s, Table::Methods(Item::NamedMethod), d.place, run.count);
+    let lim = repeats::first_repeat(s, Table::Methods(Item::NamedMethod), d.place, run.count);
     if lim == run.count {
         return run.step;
     }

@@ -18,8 +18,8 @@ use Rattle.vob24.specs.Settings.{settings, maxPackBytes}
 use Rattle.vob24.specs.Grammar.{artifact}
 use Rattle.vob24.specs.Calls as vob
 use Rattle.reader.specs.declared.Cursor.{Cursor}
-use Rattle.names.specs.Walk.{Stands, valueAt, nextAt, itemsAt, parts, passed, items-more, items-none, stand-more}
-use Rattle.names.specs.Contract.{Items, WordIs}
+use Rattle.items.specs.Walk.{Stands, valueAt, nextAt, itemsAt, parts, passed, items-more, items-none, stand-more}
+use Rattle.items.specs.Contract.{Items, WordIs}
 use Rattle.lookup.specs.Look.{IsName, Looks}
 use Rattle.lookup.specs.declared.Found.{Found}
 

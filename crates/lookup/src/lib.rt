@@ -4,7 +4,7 @@ ghost use Prim.Native.Nat.{_+_, _≤_};
 ghost use lib.ListN.{length};
 ghost use Rattle.vob24.specs.Settings.{settings};
 ghost use Rattle.vob24.specs.Grammar.{artifact};
-ghost use Rattle.names.specs.Contract.{Items};
+ghost use Rattle.items.specs.Contract.{Items};
 ghost use Rattle.lookup.specs.Look.{IsName, Looks};
 use reader::Cursor;
 use reader::Refusal;
@@ -42,10 +42,10 @@ pub fn look(s: &[u8], from: usize, n: usize, name: &[u8], end: Cursor) -> Found
     let mut at = from;
     let mut k = n;
     while 0 < k {
-        let named = names::word_at(s, at);
+        let named = items::word_at(s, at);
         // The version stands between the name and the payload's length.
         let payload = at + 4 + named + 4;
-        let len = names::word_at(s, payload);
+        let len = items::word_at(s, payload);
         if is_name(s, at + 4, named, name) {
             return Found::At(payload + 4, len);
         }

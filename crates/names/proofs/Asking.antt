@@ -1,13 +1,12 @@
--- The laws of the questions on items: one item's answers, and the loop over a list's.
-use Prim.Native.Nat.{ℕ, _+_, _-_, _≤_, _<_}
+-- The laws of the questions on the items of a table: one item's answers, and the loop over them.
+use Prim.Native.Nat.{ℕ, _+_, _≤_, _<_}
 use mathlib.Core.Path.{_≡_, refl, ap, sym, _∙_}
-use mathlib.Core.List.{List, [], _∷_, _++_}
+use mathlib.Core.List.{List, [], _∷_}
 use mathlib.Core.Bool.{Bool, true, false}
 use native.Mathlib.Omega.{arith}
-use native.Mathlib.Numerals.{add-one}
 use lib.ListN.{length}
 use Rattle.format.specs.Trace.{Wrong, pick}
-use Rattle.format.specs.Format.{Value, start, content, Format, Ask, pay}
+use Rattle.format.specs.Format.{start, content, pay}
 use Rattle.format.specs.Reading.{same}
 use Rattle.vob24.specs.Refusals as refusals
 use Rattle.vob24.specs.Settings.{settings}
@@ -19,55 +18,22 @@ use Rattle.reader.specs.declared.Refusal.{Refusal}
 use Rattle.reader.specs.declared.Step.{Step}
 use Rattle.reader.specs.declared.Step.the-variants.{Taken, Refused}
 use Rattle.reader.proofs.Asks.{asks-then, asks-not, asks-none, asks-deny, asks-poor, asks-paid}
-use Rattle.names.specs.declared.Item.{Item}
-use Rattle.names.specs.declared.Item.the-variants.{StructField, RuntimeField}
-use Rattle.names.specs.declared.Table.{Table}
-use Rattle.names.specs.declared.Table.the-variants.{Fields, Methods, Identities}
-use Rattle.names.specs.Walk.{valueAt, nextAt, itemsAt, items-none, items-snoc, items-nil}
-use Rattle.names.specs.Items.{formatOf, nameOf, textAt}
-use Rattle.names.specs.Tables.{formatIn, repeats, repeatAt}
-use Rattle.names.specs.Asking.{over, wrongIn, tableAsks}
-use Rattle.names.specs.Contract.{WordIs, BlankIs, Placed, Past, PackageIs, Items, FirstRepeat, Charged, Repeated, RepeatTold}
-use Rattle.names.proofs.Texts.{text-length}
-use Rattle.names.proofs.Places.{name-stands, item-name, runtime-stands}
-use Rattle.names.proofs.Repeats.{items-cons, name-content, Walking, walking-start, walking-here, walking-next, walking-stands, repeat-is}
-
--- ---- the loop: i items before p, n - i from there on
-pub record Asking (f : Format) (ask : List Value → Value → List Ask) (s : List ℕ) (from n : ℕ) (c₀ : Cursor) (p i : ℕ) (c : Cursor) : Type 0 where
-  pub walk : Walking f s from n p i
-  pub leads : (q : Step) → Asks (over ask (itemsAt f i s from) (itemsAt f (n - i) s p)) c q → Asks (over ask [] (itemsAt f n s from)) c₀ q
-
-module _ {f : Format} {ask : List Value → Value → List Ask} {s : List ℕ} {from n : ℕ} {c₀ : Cursor} where
-  pub asking-start : Items f n s from → Asking f ask s from n c₀ from 0 c₀
-  asking-start h =
-      let e : n - 0 ≡ n = omega arith in
-      let z = items-nil f s from in
-      record { walk = walking-start h; leads = λ q a. rw (e, z .0) at a }
-
-  module _ {p i : ℕ} {c : Cursor} (h : i < n) (l : Asking f ask s from n c₀ p i c) where
-    pub asking-here : Placed f s p
-    asking-here = walking-here h (l .walk)
-
-    asking-next : (q : ℕ) → Past f s p q → over ask (itemsAt f i s from) (itemsAt f (n - i) s p) ≡ ask (itemsAt f i s from) (valueAt f s p) ++ over ask (itemsAt f (i + 1) s from) (itemsAt f (n - (i + 1)) s q)
-    unfolding over
-    asking-next q w =
-        let k : n - i - 1 ≡ n - (i + 1) = omega arith in
-        let x : itemsAt f (n - i) s p ≡ valueAt f s p ∷ itemsAt f (n - (i + 1)) s q = items-cons {k = n - i} (omega arith) (l .walk .after) w ∙ rw k in
-        let y : itemsAt f (i + 1) s from ≡ itemsAt f i s from ++ (valueAt f s p ∷ []) = ap (λ m. itemsAt f m s from) (add-one i) ∙ items-snoc f i s from ∙ rw (l .walk .here) in
-        rw (x, y)
-
-    module _ {q : Step} (a : Asks (ask (itemsAt f i s from) (valueAt f s p)) c q) where
-      pub asking-not : {x : Refusal} → q ≡ Refused x → Asks (over ask [] (itemsAt f n s from)) c₀ q
-      asking-not {x} e = rw e (l .leads (Refused x) (rw (asking-next (nextAt f s p) (record { is = refl })) (asks-not _ (rw e at a))))
-
-      pub asking-more : {d : Cursor} {z : ℕ} → q ≡ Taken d → Past f s p z → Asking f ask s from n c₀ z (i + 1) d
-      asking-more {d} {z} e w = record { walk = walking-next h (l .walk) w; leads = λ q b. l .leads q (rw (asking-next z w) (asks-then _ (rw e at a) b)) }
-
-  pub asking-done : {p i : ℕ} {c : Cursor} → n ≤ i → Asking f ask s from n c₀ p i c → Asks (over ask [] (itemsAt f n s from)) c₀ (Taken c)
-  unfolding over
-  asking-done {p} {i} {c} h l = l .leads (Taken c) (rw (items-none f (n - i) s p (omega arith)) asks-none)
-
--- ---- one item's answers
+use Rattle.items.specs.declared.Item.{Item}
+use Rattle.items.specs.declared.Item.the-variants.{StructField, RuntimeField}
+use Rattle.items.specs.declared.Table.{Table}
+use Rattle.items.specs.declared.Table.the-variants.{Fields, Methods, Identities}
+use Rattle.items.specs.Walk.{valueAt, itemsAt}
+use Rattle.items.specs.Items.{formatOf, nameOf, textAt}
+use Rattle.items.specs.Tables.{formatIn}
+use Rattle.items.specs.Contract.{over, WordIs, BlankIs, Placed, Past, PackageIs, Items}
+use Rattle.items.proofs.Texts.{text-length}
+use Rattle.items.proofs.Places.{name-stands, item-name, runtime-stands}
+use Rattle.items.proofs.Keys.{name-content}
+use Rattle.items.proofs.Asking.{Asking, asking-start, asking-here, asking-not, asking-more, asking-done}
+use Rattle.repeats.specs.Repeats.{repeats, repeatAt, FirstRepeat}
+use Rattle.repeats.proofs.Repeats.{walking-stands, repeat-is}
+use Rattle.names.specs.Asking.{wrongIn, tableAsks}
+use Rattle.names.specs.Contract.{Charged, Repeated, RepeatTold}
 
 module _ (w : Wrong) {b : Bool} {c : Cursor} where
   pub refuse-yes : {q : Step} → b ≡ true → q ≡ Refused (refusal w (c .place) (c .left)) → Asks (refuseIf b w) c q
@@ -169,6 +135,6 @@ module _ {t : Table} {s : List ℕ} {from n lim : ℕ} {c₀ : Cursor} where
               let j : i < lim = omega (arith, l .below) in
               record { asked = asking-more h (l .asked) (asks-then _ (rw e at (a .asks)) (refuse-no _ (repeats-is (f .new i j)))) refl w; below = omega arith }
 
-pub ruleset asking = (asking-start, asking-here, asking-more, asking-not, asking-done, told-field, told-method, told-identity, charge-none, charge-one, charge-field, charge-method, charge-identity)
+pub ruleset answering = (told-field, told-method, told-identity, charge-none, charge-one, charge-field, charge-method, charge-identity)
 
 pub ruleset judging = (judging-start, judging-here, judging-done, judging-poor, judging-repeat, judging-more)

@@ -1,10 +1,5 @@
-pub mod Texts
-pub mod Places
-pub mod Repeats
-pub mod Hashes
-pub mod Filters
+pub mod Counting
 pub mod Asking
 pub mod Orders
 pub mod Lists
-pub mod Words
-pub mod Following
+pub mod Methods

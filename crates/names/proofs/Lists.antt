@@ -1,65 +1,35 @@
 -- The laws of the questions on a list that was read: its charge, then its items.
-use Prim.Native.Nat.{ℕ, suc, zero, _+_, _*_, _≤_}
+use Prim.Native.Nat.{ℕ, suc, zero, _*_}
 use mathlib.Core.Path.{_≡_, refl, ap, sym, _∙_}
 use mathlib.Core.List.{List, [], _∷_, map}
 use mathlib.Core.Bool.{Bool, true, false}
-use native.Mathlib.Omega.{arith}
-use lib.ListN.{length}
 use Rattle.format.specs.Trace.{pick}
-use Rattle.format.specs.Format.{Value, content, Format, Ask, pay}
-use Rattle.format.specs.Reading.{little, part, same}
+use Rattle.format.specs.Format.{content, pay}
+use Rattle.format.specs.Reading.{same}
 use Rattle.vob24.specs.Refusals as refusals
 use Rattle.vob24.specs.Settings as of
 use Rattle.vob24.specs.Settings.{settings, sizeOf}
 use Rattle.vob24.specs.Questions.{among}
 use Rattle.vob24.specs.Grammar.{structField, fieldName, fieldIndex, methodSet, method, methodName, runtimeField, identity, fieldSet}
-use Rattle.reader.specs.Contract.{ReadyAt, Paid, Asks}
+use Rattle.reader.specs.Contract.{Paid, Asks}
 use Rattle.reader.specs.declared.Cursor.{Cursor}
 use Rattle.reader.specs.declared.Refusal.{Refusal}
 use Rattle.reader.specs.declared.Step.{Step}
 use Rattle.reader.specs.declared.Step.the-variants.{Taken, Refused}
 use Rattle.reader.proofs.Asks.{asks-poor, asks-paid}
-use Rattle.names.specs.declared.Item.{Item}
-use Rattle.names.specs.declared.Item.the-variants.{StructField, NamedMethod}
-use Rattle.names.specs.declared.Table.the-variants.{Fields, Methods, Identities}
-use Rattle.names.specs.Walk.{valueAt, itemsAt, lastAt, items-snoc, items-length}
-use Rattle.names.specs.Items.{formatOf, nameOf, namesOf, contents}
-use Rattle.names.specs.Tables.{keyOf, repeats, repeatAt}
-use Rattle.names.specs.Asking.{over, tableAsks, seenAt, methodAsks}
-use Rattle.names.specs.Contract.{WordIs, Items, Seen, After, Repeated, Named, ListBehind, ListAsked, MethodBehind, MethodAsked}
+use Rattle.items.specs.declared.Item.{Item}
+use Rattle.items.specs.declared.Item.the-variants.{StructField, NamedMethod}
+use Rattle.items.specs.declared.Table.the-variants.{Fields, Methods, Identities}
+use Rattle.items.specs.Walk.{valueAt, itemsAt, lastAt, items-snoc, items-length}
+use Rattle.items.specs.Items.{formatOf, nameOf, namesOf, contents}
+use Rattle.items.specs.Tables.{keyOf}
+use Rattle.items.specs.Contract.{over, Items, Seen, After}
+use Rattle.items.proofs.Asking.{apart}
+use Rattle.repeats.specs.Repeats.{repeats, repeatAt}
+use Rattle.names.specs.Asking.{tableAsks, seenAt, methodAsks}
+use Rattle.names.specs.Contract.{Repeated, Named, MethodBehind, MethodAsked}
 use Rattle.names.proofs.Asking.{refuse-yes, refuse-no, repeat-told}
 use Rattle.names.proofs.Orders.{names-map, map-length, contents-snoc, plain-keys, names-over, keys-over, identities-over}
-
-apart : {X : Type 0} {r : Step} {c : Cursor} {x : Refusal} → r ≡ Taken c → r ≡ Refused x → X
-apart e i = let z : _≡_ {A = ℕ} 0 1 = cc in absurd (omega arith)
-
--- ---- the answers of a question reader
-module _ {f : Format} {l : List Value → List Ask} {s : List ℕ} {r r₁ : Step} where
-  pub list-refused : {x : Refusal} → r₁ ≡ Refused x → ListAsked f l s r r₁ r₁
-  list-refused e = record { stays = λ y i. refl; asks = λ c d i j. apart j e }
-
-  pub list-skipped : {x : Refusal} {d : Cursor} → r ≡ Refused x → r₁ ≡ Taken d → ListAsked f l s r r₁ (Taken d)
-  list-skipped e k = record { stays = λ y i. sym k; asks = λ c d i j. apart i e }
-
-  module _ {c d : Cursor} (h : r ≡ Taken c) (k : r₁ ≡ Taken d) where
-    pub list-asked : {n : ℕ} {q : Step} → WordIs s (c .place) n → Asks (l (itemsAt f n s (c .place + 4))) d q → ListAsked f l s r r₁ q
-    list-asked {n} {q} e a = record { stays = λ y i. apart k i; asks = λ c′ d′ i j. go c′ d′ (cc) (cc) }
-      where
-        go : (c′ d′ : Cursor) → c′ ≡ c → d′ ≡ d → Asks (l (itemsAt f (little (part s (c′ .place) 4)) s (c′ .place + 4))) d′ q
-        go c′ d′ x y = rw (x, y, ← e .is) a
-
-module _ {f : Format} {s : List ℕ} {r r₁ : Step} {c d : Cursor} (h : r ≡ Taken c) (k : r₁ ≡ Taken d) (b : ListBehind f s r r₁) where
-  list-ready : ReadyAt s c
-  list-ready = rw h at (b .before)
-
-  pub list-room : c .place + 4 ≤ length s
-  list-room = b .comes c d h k .0
-
-  pub list-small : length s ≤ of.maxPackBytes
-  list-small = list-ready .small
-
-  pub list-items : {n : ℕ} → WordIs s (c .place) n → Items f n s (c .place + 4)
-  list-items e = rw (e .is) (record { small = list-small; all = b .comes c d h k .1 })
 
 -- ---- 16
 module _ {s : List ℕ} {from n m z : ℕ} {c : Cursor} {y : Step} (i : Named StructField s from n m) (j : z ≡ sizeOf settings of.StringUsize) (p : Paid refusals.structFieldIndex (m * z) c y) where

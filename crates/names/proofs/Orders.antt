@@ -12,12 +12,14 @@ use Rattle.vob24.specs.Refusals as refusals
 use Rattle.vob24.specs.Settings.{settings}
 use Rattle.vob24.specs.Questions.{refuseIf, among, blank, repeat, named, fieldKeys, newNames, Identity, amongIdentities, newIdentities}
 use Rattle.vob24.specs.Grammar.{identity}
-use Rattle.names.specs.declared.Item.{Item}
-use Rattle.names.specs.declared.Item.the-variants.{Name, StructField, InterfaceMethod, RuntimeMethod, NamedMethod, RuntimeField}
-use Rattle.names.specs.declared.Table.the-variants.{Fields, Methods, Identities}
-use Rattle.names.specs.Items.{nameOf, namesOf, contents}
-use Rattle.names.specs.Tables.{keyOf, repeats}
-use Rattle.names.specs.Asking.{over, tableAsks}
+use Rattle.items.specs.declared.Item.{Item}
+use Rattle.items.specs.declared.Item.the-variants.{Name, StructField, InterfaceMethod, RuntimeMethod, NamedMethod, RuntimeField}
+use Rattle.items.specs.declared.Table.the-variants.{Fields, Methods, Identities}
+use Rattle.items.specs.Items.{nameOf, namesOf, contents}
+use Rattle.items.specs.Tables.{keyOf}
+use Rattle.items.specs.Contract.{over}
+use Rattle.repeats.specs.Repeats.{repeats}
+use Rattle.names.specs.Asking.{tableAsks}
 
 pub names-map : (i : Item) (vs : List Value) → namesOf i vs ≡ map (nameOf i) vs
 names-map Name vs = all vs

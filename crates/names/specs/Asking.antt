@@ -1,24 +1,19 @@
--- The questions on the items of a list one by one, each by the items before it.
-use Prim.Native.Nat.{ℕ, zero, suc, _+_}
+-- The questions on the items of a table, each by the items before it.
+use Prim.Native.Nat.{ℕ, zero, suc}
 use mathlib.Core.List.{List, [], _∷_, _++_}
 use lib.ListN.{length}
 use Rattle.format.specs.Trace.{Wrong, pick}
 use Rattle.format.specs.Format.{Value, start, content, Ask, pay}
 use Rattle.vob24.specs.Refusals as refusals
 use Rattle.vob24.specs.Settings.{settings}
-use Rattle.vob24.specs.Leaves.{packedOk}
-use Rattle.vob24.specs.Questions.{refuseIf, refuseUnless, among, blank, repeat, functionWrong}
-use Rattle.vob24.specs.Grammar.{method, methodName, identity, transferred}
-use Rattle.names.specs.declared.Item.the-variants.{StructField}
-use Rattle.names.specs.declared.Table.{Table}
-use Rattle.names.specs.declared.Table.the-variants.{Fields, Methods, Identities}
-use Rattle.names.specs.Items.{nameOf}
-use Rattle.names.specs.Tables.{repeats}
-use Rattle.names.specs.Walk.{valueAt, lastAt}
-
-unfoldable pub over : (List Value → Value → List Ask) → List Value → List Value → List Ask
-over ask before [] = []
-over ask before (v ∷ vs) = ask before v ++ over ask (before ++ (v ∷ [])) vs
+use Rattle.vob24.specs.Questions.{refuseIf, among, blank, repeat}
+use Rattle.vob24.specs.Grammar.{method, methodName, identity}
+use Rattle.items.specs.declared.Item.the-variants.{StructField}
+use Rattle.items.specs.declared.Table.{Table}
+use Rattle.items.specs.declared.Table.the-variants.{Fields, Methods, Identities}
+use Rattle.items.specs.Items.{nameOf}
+use Rattle.items.specs.Walk.{valueAt, lastAt}
+use Rattle.repeats.specs.Repeats.{repeats}
 
 -- 16: a struct field's name is charged; "_" is no key
 abbrev pub charges : Table → Value → List Ask
@@ -34,15 +29,6 @@ wrongIn Identities v = repeat refusals.duplicateRuntimeStructField (start (ident
 -- 16, 17, 19: an item's charge, and that it repeats none before it
 unfoldable pub tableAsks : Table → List Value → Value → List Ask
 tableAsks t before v = charges t v ++ refuseIf (repeats t before v) (wrongIn t v)
-
--- 20: the words meta and rttid of the entry numbered i; c is the context of the meta word
-unfoldable pub transferAsks : ℕ → ℕ → Value → List Ask
-transferAsks c i v =
-    refuseUnless (packedOk (transferred settings v .0)) (functionWrong c i (transferred settings v .0))
-    ++ refuseUnless (packedOk (transferred settings v .1)) (functionWrong (c + 1) i (transferred settings v .1))
-
-abbrev pub transferOver : ℕ → List Value → Value → List Ask
-transferOver c before v = transferAsks c (length before) v
 
 -- the names of the first i methods from a place on, as the named type's list has them after i methods
 unfoldable pub seenAt : ℕ → List ℕ → ℕ → List (List ℕ)

@@ -12,8 +12,8 @@ use Rattle.reader.specs.declared.Number.{Number}
 use Rattle.reader.specs.declared.Number.the-variants.{Got}
 use Rattle.reader.proofs.Laws.{takes-ends, then-takes, then-refuses, got-of}
 use Rattle.reader.proofs.Asks.{asks-reads, followThen}
-use Rattle.names.specs.Contract.{ListBehind, ListAsked}
-use Rattle.names.proofs.Following.{list-here, list-follows}
+use Rattle.items.specs.Contract.{ListBehind, ListAsked}
+use Rattle.items.proofs.Following.{list-here, list-follows}
 use Rattle.records.proofs.Numbering.{lostNumber}
 
 module _ {ρ : Rule} {z : ℕ} {s : List ℕ} {c d : Cursor} {q : Number} {n : ℕ} {t t₁ : List ℕ} (e : q ≡ Got n d) where

@@ -4,7 +4,7 @@
 ghost use Rattle.format.specs.Format.{counted};
 ghost use Rattle.reader.specs.Contract.{Ready, ReadyAt, Reader, NumberOf};
 ghost use Rattle.runtime_members.specs.Formats.{fieldFormat, fieldList, newFields, methodFormat, methodList, newMethods, newCount};
-use names::Item;
+use items::Item;
 use reader::Cursor;
 use reader::Number;
 use reader::Step;

@@ -15,8 +15,8 @@ use Rattle.calls.specs.Call.{from, Opens, Ends}
 use Rattle.calls.proofs.Laws.{Passed, passed, denied, read-passed}
 use Rattle.lookup.specs.Look.{Looks}
 use Rattle.lookup.specs.declared.Found.{Found}
-use Rattle.names.specs.Contract.{Items, WordIs}
-use Rattle.names.specs.Walk.{itemsAt}
+use Rattle.items.specs.Contract.{Items, WordIs}
+use Rattle.items.specs.Walk.{itemsAt}
 use Rattle.reader.specs.Contract.{wrongOf, Ready, Reader}
 use Rattle.reader.specs.declared.Cursor.{Cursor}
 use Rattle.reader.specs.declared.Refusal.{Refusal}

@@ -36,7 +36,7 @@ fn located(s: &[u8], r: Step, name: &[u8], end: Cursor) -> Found
         Step::Refused(x) => Found::Not(x),
         Step::Taken(a) => {
             let place = a.place;
-            let n = names::word_at(s, place);
+            let n = items::word_at(s, place);
             lookup::look(s, place + 4, n, name, end)
         }
     }

@@ -1,6 +1,6 @@
 use Rattle.vob24.specs.Grammar.{transfers}
 use native.Mathlib.Omega.{arith}
-use Rattle.names.proofs.Following.{list-here, listAsks}
+use Rattle.items.proofs.Following.{list-here, listAsks}
 use borrow.Author.Needs.{needs}
 use Rattle.functions.proofs.capture_types.Statement.{statement}
 use Rattle.functions.proofs.capture_types.Tie as tie

@@ -1,7 +1,7 @@
 use borrow.Author.Needs.{needs}
 use Rattle.vob24.specs.Grammar.{interface as interfaceRecord}
 use Rattle.reader.proofs.Laws.{fieldThen}
-use Rattle.names.proofs.Following.{first-behind, second-behind, listsAsk}
+use Rattle.items.proofs.Following.{first-behind, second-behind, listsAsk}
 use Rattle.interfaces.proofs.interface.Statement.{statement}
 use Rattle.interfaces.proofs.interface.Tie as tie
 

@@ -1,7 +1,7 @@
 use native.Mathlib.Omega.{arith}
-use Rattle.names.specs.declared.Item.the-variants.{StructField}
-use Rattle.names.proofs.Places.{item-name}
-use Rattle.names.proofs.Asking.{asking}
+use Rattle.items.specs.declared.Item.the-variants.{StructField}
+use Rattle.items.proofs.Places.{item-name}
+use Rattle.names.proofs.Asking.{answering}
 use borrow.Author.Needs.{needs}
 use Rattle.names.proofs.charge_field.Statement.{statement}
 use Rattle.names.proofs.charge_field.Tie as tie
@@ -10,7 +10,7 @@ blank-requires : tie.Need-blank-requires
 blank-requires c κs = item-name StructField (c .before .pre)
 
 returns : tie.Need-returns
-returns c = search (needs, asking)
+returns c = search (needs, answering)
 
 word-at-requires : tie.Need-word-at-requires
 word-at-requires c κs = omega (arith, item-name StructField (c .before .before .before .pre) .room)
@@ -19,7 +19,7 @@ charge-allocation-requires : tie.Need-charge-allocation-requires
 charge-allocation-requires c κs = search needs
 
 returns-2 : tie.Need-returns-2
-returns-2 c = search (needs, asking)
+returns-2 c = search (needs, answering)
 
 pub charge-field-spec : {M : Type 1} → statement M
 charge-field-spec =

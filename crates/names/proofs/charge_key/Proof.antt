@@ -1,5 +1,5 @@
-use Rattle.names.proofs.Repeats.{placed-in}
-use Rattle.names.proofs.Asking.{asking}
+use Rattle.items.proofs.Keys.{placed-in}
+use Rattle.names.proofs.Asking.{answering}
 use borrow.Author.Needs.{needs}
 use Rattle.names.proofs.charge_key.Statement.{statement}
 use Rattle.names.proofs.charge_key.Tie as tie
@@ -17,13 +17,13 @@ enum-told-3 : tie.Need-enum-told-3
 enum-told-3 c = search needs
 
 returns : tie.Need-returns
-returns c = search (needs, asking)
+returns c = search (needs, answering)
 
 returns-2 : tie.Need-returns-2
-returns-2 c = search (needs, asking)
+returns-2 c = search (needs, answering)
 
 returns-3 : tie.Need-returns-3
-returns-3 c = search (needs, asking)
+returns-3 c = search (needs, answering)
 
 pub charge-key-spec : {M : Type 1} → statement M
 charge-key-spec =

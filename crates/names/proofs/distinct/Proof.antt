@@ -1,7 +1,6 @@
 use borrow.Author.Needs.{needs}
-use Rattle.names.proofs.Asking.{judging}
+use Rattle.names.proofs.Asking.{judging, Judging, judging-here, judging-more, judging-repeat}
 use Prim.Native.Nat.{_-_}
-use Rattle.names.proofs.Asking.{Judging, judging-here, judging-more, judging-repeat}
 use Rattle.names.proofs.distinct.Statement.{statement}
 use Rattle.names.proofs.distinct.Tie as tie
 

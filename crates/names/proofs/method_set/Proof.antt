@@ -1,6 +1,7 @@
 use Rattle.reader.proofs.Leaves.{product-fits}
 use native.Mathlib.Omega.{arith}
-use Rattle.names.proofs.Lists.{list-refused, list-skipped, list-asked, list-room, list-small, list-items, method-set-poor, method-set-then}
+use Rattle.items.proofs.Asking.{list-refused, list-skipped, list-asked, list-room, list-small, list-items}
+use Rattle.names.proofs.Lists.{method-set-poor, method-set-then}
 use borrow.Author.Needs.{needs}
 use Rattle.names.proofs.method_set.Statement.{statement}
 use Rattle.names.proofs.method_set.Tie as tie

@@ -1,5 +1,5 @@
-use Rattle.names.specs.declared.Item.the-variants.{NamedMethod}
-use Rattle.names.proofs.Places.{item-name}
+use Rattle.items.specs.declared.Item.the-variants.{NamedMethod}
+use Rattle.items.proofs.Places.{item-name}
 use Rattle.names.proofs.Lists.{method-refused, method-skipped, method-at, method-again, method-new}
 use borrow.Author.Needs.{needs}
 use Rattle.names.proofs.new_method.Statement.{statement}

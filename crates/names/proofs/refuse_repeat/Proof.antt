@@ -1,8 +1,8 @@
 use native.Mathlib.Omega.{arith}
-use Rattle.names.specs.Tables.{itemOf}
-use Rattle.names.proofs.Places.{item-name, runtime-package}
-use Rattle.names.proofs.Repeats.{placed-in}
-use Rattle.names.proofs.Asking.{asking}
+use Rattle.items.specs.Tables.{itemOf}
+use Rattle.items.proofs.Places.{item-name, runtime-package}
+use Rattle.items.proofs.Keys.{placed-in}
+use Rattle.names.proofs.Asking.{answering}
 use borrow.Author.Needs.{needs}
 use Rattle.names.proofs.refuse_repeat.Statement.{statement}
 use Rattle.names.proofs.refuse_repeat.Tie as tie
@@ -32,13 +32,13 @@ repeated-requires-3 : tie.Need-repeated-requires-3
 repeated-requires-3 c κs = item-name (itemOf (c .before .before .before .before .args .table)) (c .before .before .before .before .pre)
 
 returns : tie.Need-returns
-returns c = search (needs, asking)
+returns c = search (needs, answering)
 
 returns-2 : tie.Need-returns-2
-returns-2 c = search (needs, asking)
+returns-2 c = search (needs, answering)
 
 returns-3 : tie.Need-returns-3
-returns-3 c = search (needs, asking)
+returns-3 c = search (needs, answering)
 
 pub refuse-repeat-spec : {M : Type 1} → statement M
 refuse-repeat-spec =

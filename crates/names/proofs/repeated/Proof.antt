@@ -1,4 +1,4 @@
-use Rattle.names.proofs.Texts.{text-length}
+use Rattle.items.proofs.Texts.{text-length}
 use borrow.Author.Needs.{needs}
 use Rattle.names.proofs.repeated.Statement.{statement}
 use Rattle.names.proofs.repeated.Tie as tie

@@ -1,7 +1,7 @@
 use borrow.Author.Needs.{needs}
 use Rattle.vob24.specs.Grammar.{struct}
 use Rattle.reader.proofs.Laws.{fieldThen}
-use Rattle.names.proofs.Following.{list-here, listAsks}
+use Rattle.items.proofs.Following.{list-here, listAsks}
 use Rattle.structs.proofs.structure.Statement.{statement}
 use Rattle.structs.proofs.structure.Tie as tie
 

@@ -1,0 +1,4 @@
+pub mod Walk
+pub mod Items
+pub mod Tables
+pub mod Contract

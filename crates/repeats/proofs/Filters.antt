@@ -1,0 +1,245 @@
+-- The laws of the filter: what is not in it was not seen, so the first repeat that the passes find is the first of all.
+use Prim.Native.Nat.{ℕ, suc, zero, _+_, _/_, _%_, _≤_, _<_, min, max}
+use mathlib.Core.Path.{_≡_, refl, ap, sym, _∙_}
+use mathlib.Core.List.{List, _∷_, map}
+use mathlib.Core.Bool.{Bool, true, false}
+use native.Mathlib.Omega.{arith}
+use native.Mathlib.Nat.{min-le-left, min-le-right, le-max-left, le-min, max-le, le-antisymm}
+use lib.ListN.{length, getD, set, replicate, length-set, length-replicate}
+use lib.Seq.{getD-set-same, getD-set-other}
+use lib.Bits.{bitAnd, bitOr, and-step, or-step, and-zero-r, and-self, or-comm}
+use lib.Arith.{bin-ind}
+use lib.Dec.{eqb, ltb}
+use borrow.Author.Count.{below-more}
+use borrow.Author.Tests.{eqb-true, eqb-false, ltb-true, ltb-false}
+use Rattle.format.specs.Trace.{pick}
+use Rattle.format.specs.Format.{content}
+use Rattle.format.specs.Reading.{same}
+use Rattle.format.specs.Laying.{same-eq}
+use Rattle.vob24.specs.Questions.{Identity, amongIdentities}
+use Rattle.items.specs.declared.Table.{Table}
+use Rattle.items.specs.Walk.{AllStand, valueAt, nextAt, itemsAt, lastAt}
+use Rattle.items.specs.Items.{nameOf, textAt}
+use Rattle.items.specs.Tables.{itemOf, formatIn, keyOf, packageText}
+use Rattle.items.specs.Contract.{Past, Items, Seen}
+use Rattle.items.proofs.Keys.{key-name, key-package}
+use Rattle.items.proofs.Walking.{Walking, walking-start, walking-next}
+use Rattle.repeats.specs.declared.Told.{Told}
+use Rattle.repeats.specs.declared.Told.the-variants.{Old, Stop, On}
+use Rattle.repeats.specs.declared.Outcome.{Outcome}
+use Rattle.repeats.specs.declared.Outcome.the-variants.{Done, Tired}
+use Rattle.repeats.specs.Repeats.{exempt, repeats, repeatAt, ExemptIs, Standing, FirstRepeat}
+use Rattle.repeats.specs.Filter.{keyHash, KeyHash, hashAt, class, spot, maskOf, Classed, Filter, Known, isOld, isStop, isOn, Passed, PassedOr, done, tired, FirstOr, first, none}
+use Rattle.repeats.proofs.Repeats.{walking-stands, repeat-is, repeat-exempt, repeat-seen}
+
+-- ---- bits: what a word has, it has with more bits
+digit-stays : (b v m : ℕ) → b ≤ 1 → v ≤ 1 → m ≤ 1 → min b m ≡ m → min (max b v) m ≡ m
+digit-stays b v m h i j e = le-antisymm (min-le-right _ _) (le-min (omega (arith, min-le-left b m, le-max-left b v)) (omega arith))
+
+bits-stay : (w v m : ℕ) → bitAnd w m ≡ m → bitAnd (bitOr w v) m ≡ m
+bits-stay w = bin-ind (λ (n : ℕ). (v m : ℕ) → bitAnd n m ≡ m → bitAnd (bitOr n v) m ≡ m) base step w
+  where
+    base : (v m : ℕ) → 0 ≡ m → bitAnd v m ≡ m
+    base v m e = rw (← e) (and-zero-r v)
+
+    step : (n : ℕ) → ((v m : ℕ) → bitAnd (n / 2) m ≡ m → bitAnd (bitOr (n / 2) v) m ≡ m) → (v m : ℕ) → bitAnd n m ≡ m → bitAnd (bitOr n v) m ≡ m
+    step n ih v m e =
+        let d = and-step n m in
+        let o = or-step n v in
+        let b = min-le-right (n % 2) (m % 2) in
+        let t : max (n % 2) (v % 2) ≤ 1 = max-le (omega arith) (omega arith) in
+        let h : bitAnd (n / 2) (m / 2) ≡ m / 2 = omega arith in
+        let l : min (n % 2) (m % 2) ≡ m % 2 = omega arith in
+        let x : bitOr n v / 2 ≡ bitOr (n / 2) (v / 2) = omega arith in
+        let y : bitOr n v % 2 ≡ max (n % 2) (v % 2) = omega arith in
+        and-step (bitOr n v) m ∙ rw (x, y, ih (v / 2) (m / 2) h, digit-stays (n % 2) (v % 2) (m % 2) (omega arith) (omega arith) (omega arith) l) (omega arith)
+
+bits-set : (w m : ℕ) → bitAnd (bitOr w m) m ≡ m
+bits-set w m = rw (or-comm w m) (bits-stay m w m (and-self m))
+
+word-stays : (f : List ℕ) (i j v m : ℕ) → i < length f → bitAnd (getD f j 0) m ≡ m → bitAnd (getD (set f i (bitOr (getD f i 0) v)) j 0) m ≡ m
+word-stays f i j v m small e = go (eqb j i) refl
+  where
+    go : (t : Bool) → eqb j i ≡ t → bitAnd (getD (set f i (bitOr (getD f i 0) v)) j 0) m ≡ m
+    go true q = let z : j ≡ i = eqb-true j i q in rw (z, getD-set-same f i (bitOr (getD f i 0) v) 0 small) (bits-stay (getD f i 0) v m (rw z at e))
+    go false q = rw (getD-set-other f i j (bitOr (getD f i 0) v) 0 (eqb-false _ _ q)) e
+
+-- ---- a key that is none of the first i is not among them
+not-same : (x y : Identity) (ys : List Identity) → (content (x .1) ≡ content (y .1) → content (x .0) ≡ content (y .0) → ⊥) → amongIdentities x ys ≡ false → amongIdentities x (y ∷ ys) ≡ false
+unfolding amongIdentities pick
+not-same x y ys h r = go (same (content (x .1)) (content (y .1))) (same (content (x .0)) (content (y .0))) refl refl
+  where
+    go : (n p : Bool) → same (content (x .1)) (content (y .1)) ≡ n → same (content (x .0)) (content (y .0)) ≡ p → pick n (pick p true (amongIdentities x ys)) (amongIdentities x ys) ≡ false
+    go true true e f = absurd (h (same-eq _ _ (rw e tt)) (same-eq _ _ (rw f tt)))
+    go true false e f = r
+    go false p e f = r
+
+among-none : (t : Table) (s : List ℕ) (i from : ℕ) (x : Identity) → AllStand (formatIn t) i s from
+    → ((k : ℕ) → k < i → content (x .1) ≡ textAt s (lastAt (formatIn t) k s from) → content (x .0) ≡ packageText t s (lastAt (formatIn t) k s from) → ⊥)
+    → amongIdentities x (map (keyOf t) (itemsAt (formatIn t) i s from)) ≡ false
+unfolding amongIdentities itemsAt lastAt AllStand
+among-none t s zero from x a h = refl
+among-none t s (suc i) from x a h =
+    not-same x (keyOf t (valueAt (formatIn t) s from)) (map (keyOf t) (itemsAt (formatIn t) i s (nextAt (formatIn t) s from))) (λ e f. h 0 (omega arith) (e ∙ key-name t (a .0)) (f ∙ key-package t (a .0)))
+    (among-none t s i (nextAt (formatIn t) s from) x (a .1) (λ k l. h (suc k) (omega arith)))
+
+-- ---- the filter
+module _ {a : ℕ} {t : Table} {s : List ℕ} {from i lo hi : ℕ} {f : List ℕ} (l : Filter a t s from i lo hi f) where
+  -- an item whose bits are not all there repeats none
+  filter-new : {p : ℕ} → Standing t s from i p → Classed a t s from lo hi i → (bitAnd (getD f (spot (hashAt a t s from i)) 0) (maskOf (hashAt a t s from i)) ≡ maskOf (hashAt a t s from i) → ⊥) → repeatAt t s from i ≡ false
+  unfolding repeats hashAt keyHash pick
+  filter-new {p} w c h = repeat-is w ∙ go (exempt t (content (nameOf (itemOf t) (valueAt (formatIn t) s p))))
+    where
+      same-hash : (k : ℕ) → textAt s p ≡ textAt s (lastAt (formatIn t) k s from) → packageText t s p ≡ packageText t s (lastAt (formatIn t) k s from) → hashAt a t s from i ≡ hashAt a t s from k
+      same-hash k e g = rw (← w .place, e, g)
+
+      none-before : amongIdentities (keyOf t (valueAt (formatIn t) s p)) (map (keyOf t) (itemsAt (formatIn t) i s from)) ≡ false
+      none-before =
+          among-none t s i from (keyOf t (valueAt (formatIn t) s p)) (w .after .before .all)
+          (λ k d e g.
+          let z = same-hash k (sym (key-name t (w .after .here .stands)) ∙ e) (sym (key-package t (w .after .here .stands)) ∙ g) in
+          h (rw z (l .has k d (record { low = rw z at (c .low); high = rw z at (c .high) }))))
+
+      go : (b : Bool) → pick b false (amongIdentities (keyOf t (valueAt (formatIn t) s p)) (map (keyOf t) (itemsAt (formatIn t) i s from))) ≡ false
+      go true = refl
+      go false = none-before
+
+  filter-out : (Classed a t s from lo hi i → ⊥) → Filter a t s from (i + 1) lo hi f
+  filter-out h = record { size = l .size; has = below-more _ i (l .has) (λ c. absurd (h c)) }
+
+  filter-in : Filter a t s from (i + 1) lo hi (set f (spot (hashAt a t s from i)) (bitOr (getD f (spot (hashAt a t s from i)) 0) (maskOf (hashAt a t s from i))))
+  filter-in =
+      let small : spot (hashAt a t s from i) < length f = rw (l .size) (omega arith) in
+      record {
+        size = simp length-set (l .size);
+        has = below-more _ i (λ k d c. word-stays f _ _ _ (maskOf (hashAt a t s from k)) small (l .has k d c)) (λ c. rw (getD-set-same f (spot (hashAt a t s from i)) (bitOr (getD f (spot (hashAt a t s from i)) 0) (maskOf (hashAt a t s from i))) 0 small) (bits-set (getD f (spot (hashAt a t s from i)) 0) (maskOf (hashAt a t s from i))));
+      }
+
+-- ---- the answers of `known`, for an item of hash h
+module _ {a : ℕ} {t : Table} {s : List ℕ} {from i p lo hi h : ℕ} {f : List ℕ} (w : Standing t s from i p) (e : KeyHash a t s p h) (l : Filter a t s from i lo hi f) where
+  hash-is : hashAt a t s from i ≡ h
+  unfolding hashAt
+  hash-is = ap (keyHash a t s) (sym (w .place)) ∙ sym (e .is)
+
+  known-out : {left : ℕ} → (lo ≤ class h → class h < hi → ⊥) → Known a t s from i lo hi f (On left)
+  known-out {left} b = let z = hash-is in isOn {left = left} (filter-out l (λ c. b (rw z at (c .low)) (rw z at (c .high)))) (λ c. absurd (b (rw z at (c .low)) (rw z at (c .high))))
+
+  pub known-below : {left : ℕ} → class h < lo → Known a t s from i lo hi f (On left)
+  known-below b = known-out (λ x y. omega arith)
+
+  pub known-above : {left : ℕ} → hi ≤ class h → Known a t s from i lo hi f (On left)
+  known-above b = known-out (λ x y. omega arith)
+
+  module _ {v : ℕ} (y : v ≡ maskOf h) where
+    pub known-new : {left : ℕ} → (bitAnd (getD f (h % 32768) 0) v ≡ v → ⊥) → Known a t s from i lo hi (set f (h % 32768) (bitOr (getD f (h % 32768) 0) v)) (On left)
+    known-new {left} b = let z = hash-is in rw (y, ← z) (isOn {left = left} (filter-in l) (λ c. filter-new l w c (rw (y, ← z) at b)))
+
+    known-not : {left : ℕ} → repeatAt t s from i ≡ false → Known a t s from i lo hi (set f (h % 32768) (bitOr (getD f (h % 32768) 0) v)) (On left)
+    known-not {left} b = let z = hash-is in rw (y, ← z) (isOn {left = left} (filter-in l) (λ c. b))
+
+    module _ {b : Bool} (x : ExemptIs t s p b) where
+      pub known-exempt : {left : ℕ} → b ≡ true → Known a t s from i lo hi (set f (h % 32768) (bitOr (getD f (h % 32768) 0) v)) (On left)
+      known-exempt q = known-not (repeat-exempt w x q)
+
+      pub known-unseen : {left : ℕ} {q : Bool} → b ≡ false → Seen t s from i p q → q ≡ false → Known a t s from i lo hi (set f (h % 32768) (bitOr (getD f (h % 32768) 0) v)) (On left)
+      known-unseen g u r = known-not (repeat-seen w x g u ∙ r)
+
+pub known-old : {a : ℕ} {t : Table} {s : List ℕ} {from i p lo hi : ℕ} {f : List ℕ} {b q : Bool} → Standing t s from i p → ExemptIs t s p b → b ≡ false → Seen t s from i p q → q ≡ true → Known a t s from i lo hi f Old
+known-old w x g u r = isOld (repeat-seen w x g u ∙ r)
+
+pub known-stop : {a : ℕ} {t : Table} {s : List ℕ} {from i lo hi : ℕ} {f : List ℕ} → Known a t s from i lo hi f Stop
+known-stop = isStop
+
+pub ruleset knowing = (known-below, known-above, known-new, known-exempt, known-unseen, known-old, known-stop)
+
+-- ---- the loop of `pass`
+pub record Passing (a : ℕ) (t : Table) (s : List ℕ) (from n lo hi : ℕ) (f : List ℕ) (p i : ℕ) : Type 0 where
+  pub walk : Walking (formatIn t) s from n p i
+  pub filter : Filter a t s from i lo hi f
+  pub new : (k : ℕ) → k < i → Classed a t s from lo hi k → repeatAt t s from k ≡ false
+
+module _ {a : ℕ} {t : Table} {s : List ℕ} {from n lo hi : ℕ} where
+  pub passing-start : Items (formatIn t) n s from → Passing a t s from n lo hi (replicate 32768 0) from 0
+  passing-start h =
+      record {
+        walk = walking-start h;
+        filter = record { size = length-replicate {A = ℕ} 32768 0; has = λ k d. absurd (omega arith) };
+        new = λ k d. absurd (omega arith);
+      }
+
+  module _ {f : List ℕ} {p i : ℕ} (l : Passing a t s from n lo hi f p i) where
+    pub passing-done : n ≤ i → PassedOr a t s from n lo hi (Done n)
+    passing-done h = done {q = n} (record { within = omega arith; new = λ k d. l .new k (omega arith); found = λ d. absurd (omega arith) })
+
+    module _ (h : i < n) {g : List ℕ} {r : Told} (k : Known a t s from i lo hi g r) where
+      pub passing-found : r ≡ Old → PassedOr a t s from n lo hi (Done i)
+      passing-found e = go (rw e at k)
+        where
+          go : Known a t s from i lo hi g Old → PassedOr a t s from n lo hi (Done i)
+          go (isOld x) = done {q = i} (record { within = omega arith; new = l .new; found = λ d. x })
+
+      pub passing-more : {left z : ℕ} → r ≡ On left → Past (formatIn t) s p z → Passing a t s from n lo hi g z (i + 1)
+      passing-more {left} {z} e w = go (rw e at k)
+        where
+          go : Known a t s from i lo hi g (On left) → Passing a t s from n lo hi g z (i + 1)
+          go (isOn u v) = record { walk = walking-next h (l .walk) w; filter = u; new = below-more _ i (l .new) v }
+
+pub passing-tired : {a : ℕ} {t : Table} {s : List ℕ} {from n lo hi : ℕ} → PassedOr a t s from n lo hi Tired
+passing-tired = tired
+
+pub ruleset passing = (passing-start, walking-stands, passing-done, passing-found, passing-more, passing-tired)
+
+-- ---- the loop of `filtered`: all the classes below lo
+pub record Firsts (a : ℕ) (t : Table) (s : List ℕ) (from n lo q : ℕ) : Type 0 where
+  pub within : q ≤ n
+  pub new : (k : ℕ) → k < q → class (hashAt a t s from k) < lo → repeatAt t s from k ≡ false
+  pub found : q < n → repeatAt t s from q ≡ true
+
+stand-less : (t : Table) (s : List ℕ) (m n p : ℕ) → m ≤ n → AllStand (formatIn t) n s p → AllStand (formatIn t) m s p
+unfolding AllStand
+stand-less t s zero n p h a = tt
+stand-less t s (suc m) zero p h a = absurd (omega arith)
+stand-less t s (suc m) (suc n) p h a = (a .0, stand-less t s m n (nextAt (formatIn t) s p) (omega arith) (a .1))
+
+module _ {a : ℕ} {t : Table} {s : List ℕ} {from n : ℕ} where
+  pub firsts-items : {lo q : ℕ} → Firsts a t s from n lo q → Items (formatIn t) n s from → Items (formatIn t) q s from
+  firsts-items {lo} {q} l h = record { small = h .small; all = stand-less t s q n from (l .within) (h .all) }
+
+  pub firsts-start : Firsts a t s from n 0 n
+  firsts-start = record { within = omega arith; new = λ k d b. absurd (omega arith); found = λ d. absurd (omega arith) }
+
+  firsts-passed : {lo hi lim q : ℕ} → Passed a t s from lim lo hi q → Firsts a t s from n lo lim → Firsts a t s from n hi q
+  firsts-passed {lo} {hi} {lim} {q} p l =
+      record {
+        within = omega (arith, p .within, l .within);
+        new = λ k d b. below k d b (ltb (class (hashAt a t s from k)) lo) refl;
+        found = λ d. ends d (ltb q lim) refl;
+      }
+    where
+      below : (k : ℕ) → k < q → class (hashAt a t s from k) < hi → (b : Bool) → ltb (class (hashAt a t s from k)) lo ≡ b → repeatAt t s from k ≡ false
+      below k d b true e = l .new k (omega (arith, p .within)) (ltb-true _ _ e)
+      below k d b false e = p .new k d (record { low = ltb-false _ _ e; high = b })
+
+      ends : q < n → (b : Bool) → ltb q lim ≡ b → repeatAt t s from q ≡ true
+      ends d true e = p .found (ltb-true _ _ e)
+      ends d false e = let z : q ≡ lim = omega (arith, p .within, ltb-false q lim e) in rw z (l .found (omega arith))
+
+  pub firsts-more : {lo hi lim q : ℕ} {o : Outcome} → PassedOr a t s from lim lo hi o → o ≡ Done q → Firsts a t s from n lo lim → Firsts a t s from n hi q
+  firsts-more {lo} {hi} {lim} {q} p e l = go (rw e at p)
+    where
+      go : PassedOr a t s from lim lo hi (Done q) → Firsts a t s from n hi q
+      go (done q) = firsts-passed q l
+
+  pub firsts-done : {lo q : ℕ} → Firsts a t s from n lo q → 65536 ≤ lo → FirstOr t s from n (Done q)
+  firsts-done l h = first (record { within = l .within; new = λ k d. l .new k d (omega arith); found = l .found })
+
+pub firsts-tired : {t : Table} {s : List ℕ} {from n : ℕ} → FirstOr t s from n Tired
+firsts-tired = none
+
+pub is-first : {t : Table} {s : List ℕ} {from n q : ℕ} {o : Outcome} → FirstOr t s from n o → o ≡ Done q → FirstRepeat t s from n q
+is-first {t} {s} {from} {n} {q} f e = go (rw e at f)
+  where
+    go : FirstOr t s from n (Done q) → FirstRepeat t s from n q
+    go (first x) = x
+
+pub ruleset firsts = (firsts-start, firsts-more, firsts-done, firsts-tired, is-first)

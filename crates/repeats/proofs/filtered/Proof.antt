@@ -1,0 +1,52 @@
+use borrow.Author.Needs.{needs}
+use Rattle.repeats.proofs.Filters.{firsts, Firsts, firsts-start, firsts-items}
+use Prim.Native.Nat.{_+_, _/_, _-_, _≤_, _<_}
+use native.Mathlib.Nat.{div-le-self}
+use native.Mathlib.Omega.{arith}
+use Rattle.repeats.proofs.filtered.Statement.{statement}
+use Rattle.repeats.proofs.filtered.Tie as tie
+
+abbrev Inv-loop : tie.InvT-loop
+Inv-loop s table from n a parts classes lim₀ lo₀ lim lo = (Firsts a table s from n lo lim) × (0 < classes) × (classes ≤ 65537)
+
+abbrev μ-loop : tie.MeasureT-loop
+μ-loop s table from n a parts classes lim₀ lo₀ lim lo = 65536 - lo
+
+add-parts : tie.Need-add-parts Inv-loop μ-loop
+add-parts c = search (needs, firsts)
+
+div-classes : tie.Need-div-classes Inv-loop μ-loop
+div-classes c = search (needs, firsts)
+
+add-classes : tie.Need-add-classes Inv-loop μ-loop
+add-classes c = omega (arith, div-le-self 65536 (c .before .args .n / 32768 + 1))
+
+loop-holds : tie.Need-loop-holds Inv-loop μ-loop
+loop-holds c = (firsts-start, omega arith, omega (arith, div-le-self 65536 (c .before .args .n / 32768 + 1)))
+
+add-hi : tie.Need-add-hi Inv-loop μ-loop
+add-hi c = search (needs, firsts)
+
+pass-requires : tie.Need-pass-requires Inv-loop μ-loop
+pass-requires c κs = (firsts-items ((c .before .loop) .inv .0) ((c .before .before .before .pre) .0), (c .before .before .before .pre) .1)
+
+enum-known-q : tie.Need-enum-known-q Inv-loop μ-loop
+enum-known-q c = search (needs, firsts)
+
+enum-told : tie.Need-enum-told Inv-loop μ-loop
+enum-told c = search (needs, firsts)
+
+returns : tie.Need-returns Inv-loop μ-loop
+returns c = search (needs, firsts)
+
+loop-less : tie.Need-loop-less Inv-loop μ-loop
+loop-less c = search (needs, firsts)
+
+loop-again : tie.Need-loop-again Inv-loop μ-loop
+loop-again c = search (needs, firsts)
+
+returns-2 : tie.Need-returns-2 Inv-loop μ-loop
+returns-2 c = search (needs, firsts)
+
+pub filtered-spec : {M : Type 1} → statement M
+filtered-spec = tie.close (tie.spec Inv-loop μ-loop add-parts div-classes add-classes loop-holds add-hi pass-requires enum-known-q enum-told returns loop-less loop-again returns-2)

@@ -1,0 +1,92 @@
+-- The filter that finds repeats: a key's hash says its class, and which bits of which word it leaves behind.
+use Prim.Native.Nat.{ℕ, _+_, _*_, _/_, _%_, _^_, _≤_, _<_}
+use mathlib.Core.Path.{_≡_}
+use mathlib.Core.List.{List, [], _∷_}
+use mathlib.Core.Bool.{true, false}
+use lib.ListN.{length, getD}
+use lib.Bits.{bitAnd, bitOr, bitXor}
+use Rattle.format.specs.Reading.{little}
+use Rattle.items.specs.declared.Table.{Table}
+use Rattle.items.specs.Walk.{lastAt}
+use Rattle.items.specs.Items.{textAt}
+use Rattle.items.specs.Tables.{formatIn, packageText}
+use Rattle.repeats.specs.declared.Told.{Told}
+use Rattle.repeats.specs.declared.Told.the-variants.{Old, Stop, On}
+use Rattle.repeats.specs.declared.Outcome.{Outcome}
+use Rattle.repeats.specs.declared.Outcome.the-variants.{Done, Tired}
+use Rattle.repeats.specs.Repeats.{repeatAt, FirstRepeat}
+
+-- ---- the hash, under a key a
+abbrev pub mixed : ℕ → ℕ → ℕ → ℕ
+mixed a h w = bitXor h w % 4294967296 * a + bitXor h w / 4294967296
+
+unfoldable pub bytesHash : ℕ → ℕ → List ℕ → ℕ
+bytesHash a h [] = h
+bytesHash a h (x ∷ []) = mixed a h x
+bytesHash a h (x ∷ y ∷ []) = mixed a (mixed a h x) y
+bytesHash a h (x ∷ y ∷ z ∷ []) = mixed a (mixed a (mixed a h x) y) z
+bytesHash a h (x ∷ y ∷ z ∷ w ∷ r) = bytesHash a (mixed a h (little (x ∷ y ∷ z ∷ w ∷ []))) r
+
+pub record HashIs (a h : ℕ) (x : List ℕ) (q : ℕ) : Type 0 where
+  pub is : q ≡ bytesHash a h x
+
+unfoldable pub textHash : ℕ → ℕ → List ℕ → ℕ
+textHash a h x = bytesHash a (mixed a h (length x)) x
+
+pub record TextHash (a h : ℕ) (s : List ℕ) (p q : ℕ) : Type 0 where
+  pub is : q ≡ textHash a h (textAt s p)
+
+pub record PackageHash (a h : ℕ) (t : Table) (s : List ℕ) (p q : ℕ) : Type 0 where
+  pub is : q ≡ textHash a h (packageText t s p)
+
+unfoldable pub keyHash : ℕ → Table → List ℕ → ℕ → ℕ
+keyHash a t s p = mixed a (mixed a (textHash a (textHash a 0 (textAt s p)) (packageText t s p)) 0) 0
+
+pub record KeyHash (a : ℕ) (t : Table) (s : List ℕ) (p q : ℕ) : Type 0 where
+  pub is : q ≡ keyHash a t s p
+
+-- of item k
+unfoldable pub hashAt : ℕ → Table → List ℕ → ℕ → ℕ → ℕ
+hashAt a t s from k = keyHash a t s (lastAt (formatIn t) k s from)
+
+-- ---- its class, its word of the filter, and its four bits there
+abbrev pub class : ℕ → ℕ
+class h = h / 281474976710656 % 65536
+
+abbrev pub spot : ℕ → ℕ
+spot h = h % 32768
+
+unfoldable pub maskOf : ℕ → ℕ
+maskOf h =
+    bitOr (bitOr (bitOr (1 * 2 ^ (h / 32768 % 64) % 2 ^ 64) (1 * 2 ^ (h / 2097152 % 64) % 2 ^ 64)) (1 * 2 ^ (h / 134217728 % 64) % 2 ^ 64))
+    (1 * 2 ^ (h / 8589934592 % 64) % 2 ^ 64)
+
+-- item k is of a class from lo to hi
+pub record Classed (a : ℕ) (t : Table) (s : List ℕ) (from lo hi k : ℕ) : Type 0 where
+  pub low : lo ≤ class (hashAt a t s from k)
+  pub high : class (hashAt a t s from k) < hi
+
+-- each of the first i items that is of such a class has its bits in f
+pub record Filter (a : ℕ) (t : Table) (s : List ℕ) (from i lo hi : ℕ) (f : List ℕ) : Type 0 where
+  pub size : length f ≡ 32768
+  pub has : (k : ℕ) → k < i → Classed a t s from lo hi k → bitAnd (getD f (spot (hashAt a t s from k)) 0) (maskOf (hashAt a t s from k)) ≡ maskOf (hashAt a t s from k)
+
+-- what is told of item i
+pub data Known (a : ℕ) (t : Table) (s : List ℕ) (from i lo hi : ℕ) (f : List ℕ) : Told → Type 0 where
+  isOld : repeatAt t s from i ≡ true → Known a t s from i lo hi f Old
+  isStop : Known a t s from i lo hi f Stop
+  isOn : {left : ℕ} → Filter a t s from (i + 1) lo hi f → (Classed a t s from lo hi i → repeatAt t s from i ≡ false) → Known a t s from i lo hi f (On left)
+
+-- the first repeat among the items of such a class
+pub record Passed (a : ℕ) (t : Table) (s : List ℕ) (from n lo hi q : ℕ) : Type 0 where
+  pub within : q ≤ n
+  pub new : (k : ℕ) → k < q → Classed a t s from lo hi k → repeatAt t s from k ≡ false
+  pub found : q < n → repeatAt t s from q ≡ true
+
+pub data PassedOr (a : ℕ) (t : Table) (s : List ℕ) (from n lo hi : ℕ) : Outcome → Type 0 where
+  done : {q : ℕ} → Passed a t s from n lo hi q → PassedOr a t s from n lo hi (Done q)
+  tired : PassedOr a t s from n lo hi Tired
+
+pub data FirstOr (t : Table) (s : List ℕ) (from n : ℕ) : Outcome → Type 0 where
+  first : {q : ℕ} → FirstRepeat t s from n q → FirstOr t s from n (Done q)
+  none : FirstOr t s from n Tired

@@ -1,0 +1,285 @@
+// The first item of a table that repeats one before it. A filter says which items are to be compared with all before them.
+// Stands in for the HashMap and HashSet by which serialize.rs finds repeats.
+ghost use mathlib.Core.Path.{_≡_};
+ghost use Prim.Native.Nat.{_+_, _≤_, _<_};
+ghost use lib.ListN.{length};
+ghost use Rattle.format.specs.Reading.{part};
+ghost use Rattle.items.specs.Tables.{formatIn};
+ghost use Rattle.repeats.specs.Repeats.{repeatAt, ExemptIs, Standing, FirstRepeat};
+ghost use Rattle.repeats.specs.Filter.{mixed, HashIs, TextHash, PackageHash, KeyHash, maskOf, Filter, Known, PassedOr, FirstOr};
+ghost use Rattle.items.specs.Contract.{TextAt, Placed, Items};
+use items::Table;
+
+// An item's key was seen before; too many were compared in vain; or go on, with so many comparisons left.
+enum Told {
+    Old,
+    Stop,
+    On(usize),
+}
+
+enum Outcome {
+    Done(usize),
+    Tired,
+}
+
+// ---- whether an item repeats one before it
+
+// May the name at p be repeated?
+fn exempt(s: &[u8], table: Table, p: usize) -> bool
+    requires { ⌜ TextAt (now s) p ⌝ }
+    ensures { λ q. ⌜ ExemptIs table (now (s .entry)) p q ⌝ }
+{
+    match table {
+        Table::Fields => items::blank(s, p),
+        Table::Methods(_) => false,
+        Table::Identities => items::blank(s, p),
+    }
+}
+
+// Does the item at p repeat one of the i before it?
+fn repeats_one(s: &[u8], table: Table, from: usize, i: usize, p: usize) -> bool
+    requires { ⌜ Standing table (now s) from i p ⌝ }
+    ensures { λ q. ⌜ q ≡ repeatAt table (now (s .entry)) from i ⌝ }
+{
+    if exempt(s, table, p) {
+        return false;
+    }
+    items::seen(s, table, from, i, p)
+}
+
+// The first of the n items from `from` on that repeats one before it, or n: each is compared with all before it.
+fn scan(s: &[u8], table: Table, from: usize, n: usize) -> usize
+    requires { ⌜ Items (formatIn table) n (now s) from ⌝ }
+    ensures { λ q. ⌜ FirstRepeat table (now (s .entry)) from n q ⌝ }
+{
+    let mut p = from;
+    let mut i = 0;
+    while i < n {
+        if repeats_one(s, table, from, i, p) {
+            return i;
+        }
+        p = items::past_item(s, table, p);
+        i += 1;
+    }
+    n
+}
+
+// ---- a hash of an item's key, four bytes at a time
+
+fn wide(b: u8) -> u64
+    ensures { λ q. ⌜ (q ≡ b) × (q < 256) ⌝ }
+{
+    b as u64
+}
+
+fn mix(a: u64, h: u64, w: u64) -> u64
+    requires { ⌜ a < 4294967296 ⌝ }
+    ensures { λ q. ⌜ q ≡ mixed a h w ⌝ }
+{
+    let x = h ^ w;
+    (x % 4294967296) * a + x / 4294967296
+}
+
+// The hash h taken on over the len bytes at start.
+fn hash_bytes(s: &[u8], start: usize, len: usize, a: u64, h: u64) -> u64
+    requires { ⌜ (start + len ≤ length (now s)) × (a < 4294967296) ⌝ }
+    ensures { λ q. ⌜ HashIs a h (part (now (s .entry)) start len) q ⌝ }
+{
+    let mut g = h;
+    let mut p = start;
+    let mut k = len;
+    while 4 <= k {
+        g = mix(a, g, items::word_at(s, p) as u64);
+        p += 4;
+        k -= 4;
+    }
+    while 0 < k {
+        g = mix(a, g, wide(s[p]));
+        p += 1;
+        k -= 1;
+    }
+    g
+}
+
+// The hash h taken on over the text at p. Its length goes in too, or a name and a package would have the hash of each other split of their bytes.
+fn hash_text(s: &[u8], p: usize, a: u64, h: u64) -> u64
+    requires { ⌜ (TextAt (now s) p) × (a < 4294967296) ⌝ }
+    ensures { λ q. ⌜ TextHash a h (now (s .entry)) p q ⌝ }
+{
+    let n = items::word_at(s, p);
+    hash_bytes(s, p + 4, n, a, mix(a, h, n as u64))
+}
+
+fn hash_package(s: &[u8], table: Table, p: usize, a: u64, h: u64) -> u64
+    requires { ⌜ (Placed (formatIn table) (now s) p) × (a < 4294967296) ⌝ }
+    ensures { λ q. ⌜ PackageHash a h table (now (s .entry)) p q ⌝ }
+{
+    match table {
+        Table::Fields => mix(a, h, 0),
+        Table::Methods(_) => mix(a, h, 0),
+        Table::Identities => {
+            let package = items::package_at(s, p);
+            hash_text(s, package, a, h)
+        }
+    }
+}
+
+fn hash_key(s: &[u8], table: Table, p: usize, a: u64) -> u64
+    requires { ⌜ (Placed (formatIn table) (now s) p) × (a < 4294967296) ⌝ }
+    ensures { λ q. ⌜ KeyHash a table (now (s .entry)) p q ⌝ }
+{
+    let h = hash_package(s, table, p, a, hash_text(s, p, a, 0));
+    mix(a, mix(a, h, 0), 0)
+}
+
+// ---- the filter: a key that was seen has left four bits in one of its words
+
+fn mask(h: u64) -> u64
+    ensures { λ q. ⌜ q ≡ maskOf h ⌝ }
+{
+    (1 << (h / 32768 % 64))
+        | (1 << (h / 2097152 % 64))
+        | (1 << (h / 134217728 % 64))
+        | (1 << (h / 8589934592 % 64))
+}
+
+// Does the item at p repeat one of the i before it? Asked where its class is from lo to hi. At most `left` items are still to be compared
+// with all before them in vain.
+fn known(
+    s: &[u8],
+    table: Table,
+    from: usize,
+    i: usize,
+    p: usize,
+    lo: u64,
+    hi: u64,
+    a: u64,
+    left: usize,
+    f: &mut [u64; 32768],
+) -> Told
+    requires { ⌜ (Standing table (now s) from i p) × (Filter a table (now s) from i lo hi (now f)) × (a < 4294967296) ⌝ }
+    ensures { λ q. ⌜ Known a table (now (s .entry)) from i lo hi (now (f .exit)) q ⌝ }
+{
+    let h = hash_key(s, table, p, a);
+    let class = h / 281474976710656 % 65536;
+    if class < lo {
+        return Told::On(left);
+    }
+    if hi <= class {
+        return Told::On(left);
+    }
+    let k = (h % 32768) as usize;
+    let m = mask(h);
+    let w = f[k];
+    f[k] = w | m;
+    let x = w & m;
+    if x != m {
+        return Told::On(left);
+    }
+    if exempt(s, table, p) {
+        return Told::On(left);
+    }
+    if left == 0 {
+        return Told::Stop;
+    }
+    if items::seen(s, table, from, i, p) {
+        return Told::Old;
+    }
+    Told::On(left - 1)
+}
+
+// The first repeat, of the items whose class is from lo to hi.
+fn pass(
+    s: &[u8],
+    table: Table,
+    from: usize,
+    n: usize,
+    lo: u64,
+    hi: u64,
+    a: u64,
+    most: usize,
+) -> Outcome
+    requires { ⌜ (Items (formatIn table) n (now s) from) × (a < 4294967296) ⌝ }
+    ensures { λ q. ⌜ PassedOr a table (now (s .entry)) from n lo hi q ⌝ }
+{
+    let mut f = [0u64; 32768];
+    let mut left = most;
+    let mut p = from;
+    let mut i = 0;
+    while i < n {
+        match known(s, table, from, i, p, lo, hi, a, left, &mut f) {
+            Told::Old => {
+                return Outcome::Done(i);
+            }
+            Told::Stop => {
+                return Outcome::Tired;
+            }
+            Told::On(l) => {
+                left = l;
+            }
+        }
+        p = items::past_item(s, table, p);
+        i += 1;
+    }
+    Outcome::Done(n)
+}
+
+// The first repeat by the key a: a pass for each 32768 items.
+fn filtered(s: &[u8], table: Table, from: usize, n: usize, a: u64) -> Outcome
+    requires { ⌜ (Items (formatIn table) n (now s) from) × (a < 4294967296) ⌝ }
+    ensures { λ q. ⌜ FirstOr table (now (s .entry)) from n q ⌝ }
+{
+    let parts = n / 32768 + 1;
+    let classes = 65536 / (parts as u64) + 1;
+    let mut lim = n;
+    let mut lo: u64 = 0;
+    while lo < 65536 {
+        let hi = lo + classes;
+        let Outcome::Done(q) = pass(s, table, from, lim, lo, hi, a, 32) else {
+            return Outcome::Tired;
+        };
+        lim = q;
+        lo = hi;
+    }
+    Outcome::Done(lim)
+}
+
+// A key that depends on every name of the table: names can't be made to collide under it without changing it.
+fn fresh_key(s: &[u8], table: Table, from: usize, n: usize, a: u64) -> u64
+    requires { ⌜ (Items (formatIn table) n (now s) from) × (a < 4294967296) ⌝ }
+    ensures { λ q. ⌜ q < 4294967296 ⌝ }
+{
+    let mut h: u64 = 0;
+    let mut p = from;
+    let mut i = 0;
+    while i < n {
+        h = mix(a, h, hash_key(s, table, p, a));
+        p = items::past_item(s, table, p);
+        i += 1;
+    }
+    2147483649 + h % 1073741824 * 2
+}
+
+// The first of the n items from `from` on that repeats one before it, or n. A few of them are compared directly. Names that were made to
+// have the same hash under one key are told apart under the next.
+pub fn first_repeat(s: &[u8], table: Table, from: usize, n: usize) -> usize
+    requires { ⌜ Items (formatIn table) n (now s) from ⌝ }
+    ensures { λ q. ⌜ FirstRepeat table (now (s .entry)) from n q ⌝ }
+{
+    if 40 <= n {
+        let mut a: u64 = 2654435761;
+        let mut k: usize = 0;
+        while k < 16 {
+            match filtered(s, table, from, n, a) {
+                Outcome::Done(lim) => {
+                    return lim;
+                }
+                Outcome::Tired => {
+                    a = fresh_key(s, table, from, n, a);
+                }
+            }
+            k += 1;
+        }
+    }
+    scan(s, table, from, n)
+}
