@@ -1,4 +1,4 @@
 pub mod Laws
 pub mod Moving
+pub mod Number
 pub mod Thin
-pub mod ThinOf
