@@ -131,17 +131,17 @@ module _ {a : ℕ} {t : Table} {s : List ℕ} {from i p lo hi h : ℕ} {f : List
   known-above b = known-out (λ x y. omega arith)
 
   module _ {v : ℕ} (y : v ≡ maskOf h) where
-    pub known-new : {left : ℕ} → (bitAnd (getD f (h % 32768) 0) v ≡ v → ⊥) → Known a t s from i lo hi (set f (h % 32768) (bitOr (getD f (h % 32768) 0) v)) (On left)
+    pub known-new : {left : ℕ} → (bitAnd (getD f (h % 65536) 0) v ≡ v → ⊥) → Known a t s from i lo hi (set f (h % 65536) (bitOr (getD f (h % 65536) 0) v)) (On left)
     known-new {left} b = let z = hash-is in rw (y, ← z) (isOn {left = left} (filter-in l) (λ c. filter-new l w c (rw (y, ← z) at b)))
 
-    known-not : {left : ℕ} → repeatAt t s from i ≡ false → Known a t s from i lo hi (set f (h % 32768) (bitOr (getD f (h % 32768) 0) v)) (On left)
+    known-not : {left : ℕ} → repeatAt t s from i ≡ false → Known a t s from i lo hi (set f (h % 65536) (bitOr (getD f (h % 65536) 0) v)) (On left)
     known-not {left} b = let z = hash-is in rw (y, ← z) (isOn {left = left} (filter-in l) (λ c. b))
 
     module _ {b : Bool} (x : ExemptIs t s p b) where
-      pub known-exempt : {left : ℕ} → b ≡ true → Known a t s from i lo hi (set f (h % 32768) (bitOr (getD f (h % 32768) 0) v)) (On left)
+      pub known-exempt : {left : ℕ} → b ≡ true → Known a t s from i lo hi (set f (h % 65536) (bitOr (getD f (h % 65536) 0) v)) (On left)
       known-exempt q = known-not (repeat-exempt w x q)
 
-      pub known-unseen : {left : ℕ} {q : Bool} → b ≡ false → Seen t s from i p q → q ≡ false → Known a t s from i lo hi (set f (h % 32768) (bitOr (getD f (h % 32768) 0) v)) (On left)
+      pub known-unseen : {left : ℕ} {q : Bool} → b ≡ false → Seen t s from i p q → q ≡ false → Known a t s from i lo hi (set f (h % 65536) (bitOr (getD f (h % 65536) 0) v)) (On left)
       known-unseen g u r = known-not (repeat-seen w x g u ∙ r)
 
 pub known-old : {a : ℕ} {t : Table} {s : List ℕ} {from i p lo hi : ℕ} {f : List ℕ} {b q : Bool} → Standing t s from i p → ExemptIs t s p b → b ≡ false → Seen t s from i p q → q ≡ true → Known a t s from i lo hi f Old
@@ -159,11 +159,11 @@ pub record Passing (a : ℕ) (t : Table) (s : List ℕ) (from n lo hi : ℕ) (f 
   pub new : (k : ℕ) → k < i → Classed a t s from lo hi k → repeatAt t s from k ≡ false
 
 module _ {a : ℕ} {t : Table} {s : List ℕ} {from n lo hi : ℕ} where
-  pub passing-start : Items (formatIn t) n s from → Passing a t s from n lo hi (replicate 32768 0) from 0
+  pub passing-start : Items (formatIn t) n s from → Passing a t s from n lo hi (replicate 65536 0) from 0
   passing-start h =
       record {
         walk = walking-start h;
-        filter = record { size = length-replicate {A = ℕ} 32768 0; has = λ k d. absurd (omega arith) };
+        filter = record { size = length-replicate {A = ℕ} 65536 0; has = λ k d. absurd (omega arith) };
         new = λ k d. absurd (omega arith);
       }
 

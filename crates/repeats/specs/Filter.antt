@@ -49,17 +49,17 @@ pub record KeyHash (a : ℕ) (t : Table) (s : List ℕ) (p q : ℕ) : Type 0 whe
 unfoldable pub hashAt : ℕ → Table → List ℕ → ℕ → ℕ → ℕ
 hashAt a t s from k = keyHash a t s (lastAt (formatIn t) k s from)
 
--- ---- its class, its word of the filter, and its four bits there
+-- ---- its class, its word of the filter, and its six bits there
 abbrev pub class : ℕ → ℕ
 class h = h / 281474976710656 % 65536
 
 abbrev pub spot : ℕ → ℕ
-spot h = h % 32768
+spot h = h % 65536
 
 unfoldable pub maskOf : ℕ → ℕ
 maskOf h =
-    bitOr (bitOr (bitOr (1 * 2 ^ (h / 32768 % 64) % 2 ^ 64) (1 * 2 ^ (h / 2097152 % 64) % 2 ^ 64)) (1 * 2 ^ (h / 134217728 % 64) % 2 ^ 64))
-    (1 * 2 ^ (h / 8589934592 % 64) % 2 ^ 64)
+    bitOr (bitOr (bitOr (bitOr (bitOr (1 * 2 ^ (h / 65536 % 64) % 2 ^ 64) (1 * 2 ^ (h / 4194304 % 64) % 2 ^ 64)) (1 * 2 ^ (h / 268435456 % 64) % 2 ^ 64)) (1 * 2 ^ (h / 17179869184 % 64) % 2 ^ 64)) (1 * 2 ^ (h / 1099511627776 % 64) % 2 ^ 64))
+    (1 * 2 ^ (h / 70368744177664 % 64) % 2 ^ 64)
 
 -- item k is of a class from lo to hi
 pub record Classed (a : ℕ) (t : Table) (s : List ℕ) (from lo hi k : ℕ) : Type 0 where
@@ -68,7 +68,7 @@ pub record Classed (a : ℕ) (t : Table) (s : List ℕ) (from lo hi k : ℕ) : T
 
 -- each of the first i items that is of such a class has its bits in f
 pub record Filter (a : ℕ) (t : Table) (s : List ℕ) (from i lo hi : ℕ) (f : List ℕ) : Type 0 where
-  pub size : length f ≡ 32768
+  pub size : length f ≡ 65536
   pub has : (k : ℕ) → k < i → Classed a t s from lo hi k → bitAnd (getD f (spot (hashAt a t s from k)) 0) (maskOf (hashAt a t s from k)) ≡ maskOf (hashAt a t s from k)
 
 -- what is told of item i

@@ -132,15 +132,17 @@ fn hash_key(s: &[u8], table: Table, p: usize, a: u64) -> u64
     mix(a, mix(a, h, 0), 0)
 }
 
-// ---- the filter: a key that was seen has left four bits in one of its words
+// ---- the filter: a key that was seen has left six bits in one of its words
 
 fn mask(h: u64) -> u64
     ensures { λ q. ⌜ q ≡ maskOf h ⌝ }
 {
-    (1 << (h / 32768 % 64))
-        | (1 << (h / 2097152 % 64))
-        | (1 << (h / 134217728 % 64))
-        | (1 << (h / 8589934592 % 64))
+    (1 << (h / 65536 % 64))
+        | (1 << (h / 4194304 % 64))
+        | (1 << (h / 268435456 % 64))
+        | (1 << (h / 17179869184 % 64))
+        | (1 << (h / 1099511627776 % 64))
+        | (1 << (h / 70368744177664 % 64))
 }
 
 // Does the item at p repeat one of the i before it? Asked where its class is from lo to hi. At most `left` items are still to be compared
@@ -155,7 +157,7 @@ fn known(
     hi: u64,
     a: u64,
     left: usize,
-    f: &mut [u64; 32768],
+    f: &mut [u64; 65536],
 ) -> Told
     requires { ⌜ (Standing table (now s) from i p) × (Filter a table (now s) from i lo hi (now f)) × (a < 4294967296) ⌝ }
     ensures { λ q. ⌜ Known a table (now (s .entry)) from i lo hi (now (f .exit)) q ⌝ }
@@ -168,7 +170,7 @@ fn known(
     if hi <= class {
         return Told::On(left);
     }
-    let k = (h % 32768) as usize;
+    let k = (h % 65536) as usize;
     let m = mask(h);
     let w = f[k];
     f[k] = w | m;
@@ -202,7 +204,7 @@ fn pass(
     requires { ⌜ (Items (formatIn table) n (now s) from) × (a < 4294967296) ⌝ }
     ensures { λ q. ⌜ PassedOr a table (now (s .entry)) from n lo hi q ⌝ }
 {
-    let mut f = [0u64; 32768];
+    let mut f = [0u64; 65536];
     let mut left = most;
     let mut p = from;
     let mut i = 0;
@@ -224,12 +226,12 @@ fn pass(
     Outcome::Done(n)
 }
 
-// The first repeat by the key a: a pass for each 32768 items.
+// The first repeat by the key a: a pass for each 65536 items.
 fn filtered(s: &[u8], table: Table, from: usize, n: usize, a: u64) -> Outcome
     requires { ⌜ (Items (formatIn table) n (now s) from) × (a < 4294967296) ⌝ }
     ensures { λ q. ⌜ FirstOr table (now (s .entry)) from n q ⌝ }
 {
-    let parts = n / 32768 + 1;
+    let parts = n / 65536 + 1;
     let classes = 65536 / (parts as u64) + 1;
     let mut lim = n;
     let mut lo: u64 = 0;
@@ -261,25 +263,26 @@ fn fresh_key(s: &[u8], table: Table, from: usize, n: usize, a: u64) -> u64
 }
 
 // The first of the n items from `from` on that repeats one before it, or n. A few of them are compared directly. Names that were made to
-// have the same hash under one key are told apart under the next.
+// have the same hash under one key are told apart under the next. The first key is tried apart from the others: `filtered` is called
+// twice, so that no compiler merges its large frame into this function, which small tables are asked in too.
 pub fn first_repeat(s: &[u8], table: Table, from: usize, n: usize) -> usize
     requires { ⌜ Items (formatIn table) n (now s) from ⌝ }
     ensures { λ q. ⌜ FirstRepeat table (now (s .entry)) from n q ⌝ }
 {
-    if 40 <= n {
-        let mut a: u64 = 2654435761;
-        let mut k: usize = 0;
-        while k < 16 {
-            match filtered(s, table, from, n, a) {
-                Outcome::Done(lim) => {
-                    return lim;
-                }
-                Outcome::Tired => {
-                    a = fresh_key(s, table, from, n, a);
-                }
-            }
-            k += 1;
+    if n < 40 {
+        return scan(s, table, from, n);
+    }
+    let mut a: u64 = 2654435761;
+    if let Outcome::Done(lim) = filtered(s, table, from, n, a) {
+        return lim;
+    }
+    let mut k: usize = 1;
+    while k < 16 {
+        a = fresh_key(s, table, from, n, a);
+        if let Outcome::Done(lim) = filtered(s, table, from, n, a) {
+            return lim;
         }
+        k += 1;
     }
     scan(s, table, from, n)
 }

@@ -19,10 +19,10 @@ div-classes : tie.Need-div-classes Inv-loop μ-loop
 div-classes c = search (needs, firsts)
 
 add-classes : tie.Need-add-classes Inv-loop μ-loop
-add-classes c = omega (arith, div-le-self 65536 (c .before .args .n / 32768 + 1))
+add-classes c = omega (arith, div-le-self 65536 (c .before .args .n / 65536 + 1))
 
 loop-holds : tie.Need-loop-holds Inv-loop μ-loop
-loop-holds c = (firsts-start, omega arith, omega (arith, div-le-self 65536 (c .before .args .n / 32768 + 1)))
+loop-holds c = (firsts-start, omega arith, omega (arith, div-le-self 65536 (c .before .args .n / 65536 + 1)))
 
 add-hi : tie.Need-add-hi Inv-loop μ-loop
 add-hi c = search (needs, firsts)

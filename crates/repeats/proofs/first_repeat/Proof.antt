@@ -10,8 +10,11 @@ Inv-loop s table from n a₀ k₀ a k = a < 4294967296
 abbrev μ-loop : tie.MeasureT-loop
 μ-loop s table from n a₀ k₀ a k = 16 - k
 
-loop-holds : tie.Need-loop-holds Inv-loop μ-loop
-loop-holds c = search (needs, firsts)
+scan-requires : tie.Need-scan-requires Inv-loop μ-loop
+scan-requires c κs = search (needs, firsts)
+
+returns : tie.Need-returns Inv-loop μ-loop
+returns c = search (needs, firsts)
 
 filtered-requires : tie.Need-filtered-requires Inv-loop μ-loop
 filtered-requires c κs = search (needs, firsts)
@@ -19,14 +22,29 @@ filtered-requires c κs = search (needs, firsts)
 enum-known-lim : tie.Need-enum-known-lim Inv-loop μ-loop
 enum-known-lim c = search (needs, firsts)
 
-returns : tie.Need-returns Inv-loop μ-loop
-returns c = search (needs, firsts)
+returns-2 : tie.Need-returns-2 Inv-loop μ-loop
+returns-2 c = search (needs, firsts)
 
 enum-told : tie.Need-enum-told Inv-loop μ-loop
 enum-told c = search (needs, firsts)
 
+loop-holds : tie.Need-loop-holds Inv-loop μ-loop
+loop-holds c = search (needs, firsts)
+
 fresh-key-requires : tie.Need-fresh-key-requires Inv-loop μ-loop
 fresh-key-requires c κs = search (needs, firsts)
+
+filtered-requires-2 : tie.Need-filtered-requires-2 Inv-loop μ-loop
+filtered-requires-2 c κs = search (needs, firsts)
+
+enum-known-lim-2 : tie.Need-enum-known-lim-2 Inv-loop μ-loop
+enum-known-lim-2 c = search (needs, firsts)
+
+returns-3 : tie.Need-returns-3 Inv-loop μ-loop
+returns-3 c = search (needs, firsts)
+
+enum-told-2 : tie.Need-enum-told-2 Inv-loop μ-loop
+enum-told-2 c = search (needs, firsts)
 
 add-k : tie.Need-add-k Inv-loop μ-loop
 add-k c = search (needs, firsts)
@@ -37,11 +55,32 @@ loop-less c = search (needs, firsts)
 loop-again : tie.Need-loop-again Inv-loop μ-loop
 loop-again c = search (needs, firsts)
 
-scan-requires : tie.Need-scan-requires Inv-loop μ-loop
-scan-requires c κs = search (needs, firsts)
+scan-requires-2 : tie.Need-scan-requires-2 Inv-loop μ-loop
+scan-requires-2 c κs = search (needs, firsts)
 
-returns-2 : tie.Need-returns-2 Inv-loop μ-loop
-returns-2 c = search (needs, firsts)
+returns-4 : tie.Need-returns-4 Inv-loop μ-loop
+returns-4 c = search (needs, firsts)
 
 pub first-repeat-spec : {M : Type 1} → statement M
-first-repeat-spec = tie.close (tie.spec Inv-loop μ-loop loop-holds filtered-requires enum-known-lim returns enum-told fresh-key-requires add-k loop-less loop-again scan-requires returns-2)
+first-repeat-spec =
+    tie.close
+    (tie.spec
+    Inv-loop
+    μ-loop
+    scan-requires
+    returns
+    filtered-requires
+    enum-known-lim
+    returns-2
+    enum-told
+    loop-holds
+    fresh-key-requires
+    filtered-requires-2
+    enum-known-lim-2
+    returns-3
+    enum-told-2
+    add-k
+    loop-less
+    loop-again
+    scan-requires-2
+    returns-4)
