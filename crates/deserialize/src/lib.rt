@@ -49,7 +49,7 @@ fn sections(s: &[u8], r: Step, tape: &mut [u32]) -> Step
     let r5 = tables::itabs(s, r4, tape);
     let r6 = runtime_type::runtime_types(s, r5, tape);
     let r7 = tables::well_known(s, r6, tape);
-    let r8 = tables::constants(s, r7, tape);
+    let r8 = constants::constants(s, r7, tape);
     let r9 = tables::globals(s, r8, tape);
     functions_on(s, r9, tape)
 }
@@ -78,7 +78,7 @@ pub fn to_artifacts(s: &[u8], r: Step, tape: &mut [u32]) -> Step
     let r7 = tables::itabs(s, r6, tape);
     let r8 = runtime_type::runtime_types(s, r7, tape);
     let r9 = tables::well_known(s, r8, tape);
-    let r10 = tables::constants(s, r9, tape);
+    let r10 = constants::constants(s, r9, tape);
     let r11 = tables::globals(s, r10, tape);
     let r12 = functions::functions(s, r11, tape);
     let r13 = tables::externs(s, r12, tape);

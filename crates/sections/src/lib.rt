@@ -99,12 +99,12 @@ pub fn read_constants(pack: &[u8], place: usize, budget: u64, tape: &mut [u32]) 
     ensures { λ q. ⌜ SectionCall 0 vob.constants (now (pack .entry)) place budget (now (tape .entry)) q (now (tape .exit)) ⌝ }
 {
     let start = calls::opening(pack, place, budget);
-    let first = tables::constants(pack, start, &mut tape[..0]);
+    let first = constants::constants(pack, start, &mut tape[..0]);
     let answer = calls::closed(first, place, budget, tape.len());
     let Answer::Taken { .. } = answer else {
         return answer;
     };
-    tables::constants(pack, start, tape);
+    constants::constants(pack, start, tape);
     answer
 }
 

@@ -1,4 +1,4 @@
-// Runs the readers of crate tables on parts of packs: itabs, well-known ids, constants, globals, externs, entry, island init and artifacts.
+// Runs the readers of crates tables and constants on parts of packs: itabs, well-known ids, constants, globals, externs, entry, island init and artifacts.
 // Prints a line for each part; stdout holds what the oracle answers.
 use reader::Step;
 ghost use Rattle.reader.specs.Contract.{Ready};
@@ -9,7 +9,7 @@ fn read(which: u64, s: &[u8], r: Step, tape: &mut [u32]) -> Step
     match which {
         1 => tables::itabs(s, r, tape),
         2 => tables::well_known(s, r, tape),
-        3 => tables::constants(s, r, tape),
+        3 => constants::constants(s, r, tape),
         4 => tables::globals(s, r, tape),
         5 => tables::externs(s, r, tape),
         6 => tables::entry(s, r, tape),

@@ -1,10 +1,10 @@
-use Rattle.tables.proofs.Laws.{constants}
+use Rattle.constants.proofs.Laws.{constants}
 use borrow.Author.Needs.{needs}
-use Rattle.tables.proofs.constant_bool.Statement.{statement}
-use Rattle.tables.proofs.constant_bool.Tie as tie
+use Rattle.constants.proofs.constant_text.Statement.{statement}
+use Rattle.constants.proofs.constant_text.Tie as tie
 
-number-bool-requires : tie.Need-number-bool-requires
-number-bool-requires c κs = search needs
+span-str-requires : tie.Need-span-str-requires
+span-str-requires c κs = search needs
 
 enum-known-q : tie.Need-enum-known-q
 enum-known-q c = search needs
@@ -12,8 +12,8 @@ enum-known-q c = search needs
 enum-told : tie.Need-enum-told
 enum-told c = search needs
 
-refused-requires : tie.Need-refused-requires
-refused-requires c κs = search needs
+refused-payload-requires : tie.Need-refused-payload-requires
+refused-payload-requires c κs = search needs
 
 refused-constant-requires : tie.Need-refused-constant-requires
 refused-constant-requires c κs = search needs
@@ -30,14 +30,14 @@ same-length-2 c = search needs
 returns-2 : tie.Need-returns-2
 returns-2 c = search (needs, constants)
 
-pub constant-bool-spec : {M : Type 1} → statement M
-constant-bool-spec =
+pub constant-text-spec : {M : Type 1} → statement M
+constant-text-spec =
     tie.close
     (tie.spec
-    number-bool-requires
+    span-str-requires
     enum-known-q
     enum-told
-    refused-requires
+    refused-payload-requires
     refused-constant-requires
     same-length
     returns

@@ -1,8 +1,8 @@
 use Rattle.reader.proofs.Reading.{reading}
-use Rattle.tables.proofs.Laws.{constants}
+use Rattle.constants.proofs.Laws.{constants}
 use borrow.Author.Needs.{needs}
-use Rattle.tables.proofs.constant.Statement.{statement}
-use Rattle.tables.proofs.constant.Tie as tie
+use Rattle.constants.proofs.constant.Statement.{statement}
+use Rattle.constants.proofs.constant.Tie as tie
 
 number-constant-tag-requires : tie.Need-number-constant-tag-requires
 number-constant-tag-requires c κs = search needs

@@ -2,9 +2,9 @@ use borrow.Author.Needs.{needs}
 use Rattle.reader.proofs.Reading.{reading}
 use Rattle.reader.proofs.Laws.{Turns}
 use Rattle.reader.proofs.Parts.{list-done, list-refused}
-use Rattle.tables.specs.Constants.{constantFormat}
-use Rattle.tables.proofs.constants.Statement.{statement}
-use Rattle.tables.proofs.constants.Tie as tie
+use Rattle.constants.specs.Constants.{constantFormat}
+use Rattle.constants.proofs.constants.Statement.{statement}
+use Rattle.constants.proofs.constants.Tie as tie
 
 abbrev Inv-loop : tie.InvT-loop
 Inv-loop s tape₀ n k₀ here₀ tape k here = Turns constantFormat s tape₀ here₀ k₀ tape here k

@@ -1,8 +1,8 @@
 use mathlib.Core.Path.{ap, sym}
-use Rattle.tables.specs.Constants.{stepOfConstant}
+use Rattle.constants.specs.Constants.{stepOfConstant}
 use borrow.Author.Needs.{needs}
-use Rattle.tables.proofs.constant_step.Statement.{statement}
-use Rattle.tables.proofs.constant_step.Tie as tie
+use Rattle.constants.proofs.constant_step.Statement.{statement}
+use Rattle.constants.proofs.constant_step.Tie as tie
 
 enum-known-q : tie.Need-enum-known-q
 enum-known-q c = search needs

@@ -11,8 +11,8 @@ use Rattle.vob24.specs.Settings.{settings}
 use Rattle.vob24.specs.Grammar as vob
 use Rattle.reader.specs.declared.Step.{Step}
 use Rattle.reader.specs.declared.Step.the-variants.{Taken, Refused}
-use Rattle.tables.specs.declared.answers.Constant.{Constant}
-use Rattle.tables.specs.declared.answers.ConstantRead.{ConstantRead}
+use Rattle.constants.specs.declared.answers.Constant.{Constant}
+use Rattle.constants.specs.declared.answers.ConstantRead.{ConstantRead}
 
 abbrev pub constantFormat : Format
 constantFormat = vob.constant settings

@@ -1,7 +1,7 @@
 use mathlib.Core.Path.{sym}
 use borrow.Author.Needs.{needs}
-use Rattle.tables.proofs.refused_constant.Statement.{statement}
-use Rattle.tables.proofs.refused_constant.Tie as tie
+use Rattle.constants.proofs.refused_constant.Statement.{statement}
+use Rattle.constants.proofs.refused_constant.Tie as tie
 
 enum-known-r : tie.Need-enum-known-r
 enum-known-r c = search needs

@@ -1,10 +1,10 @@
-use Rattle.tables.proofs.Laws.{constants}
+use Rattle.constants.proofs.Laws.{constants}
 use borrow.Author.Needs.{needs}
-use Rattle.tables.proofs.constant_float.Statement.{statement}
-use Rattle.tables.proofs.constant_float.Tie as tie
+use Rattle.constants.proofs.constant_int.Statement.{statement}
+use Rattle.constants.proofs.constant_int.Tie as tie
 
-read-f64-requires : tie.Need-read-f64-requires
-read-f64-requires c κs = search needs
+read-i64-requires : tie.Need-read-i64-requires
+read-i64-requires c κs = search needs
 
 enum-known-q : tie.Need-enum-known-q
 enum-known-q c = search needs
@@ -12,8 +12,8 @@ enum-known-q c = search needs
 enum-told : tie.Need-enum-told
 enum-told c = search needs
 
-refused-float-requires : tie.Need-refused-float-requires
-refused-float-requires c κs = search needs
+refused-signed-requires : tie.Need-refused-signed-requires
+refused-signed-requires c κs = search needs
 
 refused-constant-requires : tie.Need-refused-constant-requires
 refused-constant-requires c κs = search needs
@@ -30,14 +30,14 @@ same-length c = search needs
 returns-2 : tie.Need-returns-2
 returns-2 c = search (needs, constants)
 
-pub constant-float-spec : {M : Type 1} → statement M
-constant-float-spec =
+pub constant-int-spec : {M : Type 1} → statement M
+constant-int-spec =
     tie.close
     (tie.spec
-    read-f64-requires
+    read-i64-requires
     enum-known-q
     enum-told
-    refused-float-requires
+    refused-signed-requires
     refused-constant-requires
     returns
     keep-pair-requires

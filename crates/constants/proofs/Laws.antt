@@ -31,8 +31,8 @@ use Rattle.reader.proofs.Parts.{span-of, tag-most-bare}
 use Rattle.reader.proofs.Keeping.{long-lost, long-kept, wordy8}
 use Rattle.records.specs.Recorded.{Recorded}
 use Rattle.records.proofs.Recording.{lostHere, lostLast, recordedNot, recordedEmpty, recordedValue, recordedThen, recordedLast}
-use Rattle.tables.specs.declared.answers.Constant.{Constant}
-use Rattle.tables.specs.Constants.{constantFormat, constantOf, constantBy, boolOf, intOf, floatOf, textOf}
+use Rattle.constants.specs.declared.answers.Constant.{Constant}
+use Rattle.constants.specs.Constants.{constantFormat, constantOf, constantBy, boolOf, intOf, floatOf, textOf}
 
 -- ---- what stands behind the tag
 

@@ -1,8 +1,8 @@
 use Rattle.reader.proofs.Reading.{reading}
-use Rattle.tables.proofs.Laws.{constants}
+use Rattle.constants.proofs.Laws.{constants}
 use borrow.Author.Needs.{needs}
-use Rattle.tables.proofs.constant_field.Statement.{statement}
-use Rattle.tables.proofs.constant_field.Tie as tie
+use Rattle.constants.proofs.constant_field.Statement.{statement}
+use Rattle.constants.proofs.constant_field.Tie as tie
 
 enum-known-r : tie.Need-enum-known-r
 enum-known-r c = search needs
