@@ -100,7 +100,7 @@ pub fn field_bool(s: &[u8], r: Step, tape: &mut [u32]) -> Step
     let Step::Taken(c) = r else {
         return r;
     };
-    let q = reader::read_small(s, c, 1, numbers::INVALID_BOOLEAN);
+    let q = leaves::read_small(s, c, 1, numbers::INVALID_BOOLEAN);
     let Number::Got(n, d) = q else {
         return reader::refused(q);
     };
@@ -114,7 +114,7 @@ pub fn field_slot_type(s: &[u8], r: Step, tape: &mut [u32]) -> Step
     let Step::Taken(c) = r else {
         return r;
     };
-    let q = reader::read_small(s, c, 5, numbers::INVALID_SLOT_TYPE);
+    let q = leaves::read_small(s, c, 5, numbers::INVALID_SLOT_TYPE);
     let Number::Got(n, d) = q else {
         return reader::refused(q);
     };
@@ -128,7 +128,7 @@ pub fn field_value_kind(s: &[u8], r: Step, tape: &mut [u32]) -> Step
     let Step::Taken(c) = r else {
         return r;
     };
-    let q = reader::read_small(s, c, 24, numbers::INVALID_VALUE_KIND);
+    let q = leaves::read_small(s, c, 24, numbers::INVALID_VALUE_KIND);
     let Number::Got(n, d) = q else {
         return reader::refused(q);
     };
@@ -142,7 +142,7 @@ pub fn field_direction(s: &[u8], r: Step, tape: &mut [u32]) -> Step
     let Step::Taken(c) = r else {
         return r;
     };
-    let q = reader::read_small(s, c, 2, numbers::INVALID_CHAN_DIR);
+    let q = leaves::read_small(s, c, 2, numbers::INVALID_CHAN_DIR);
     let Number::Got(n, d) = q else {
         return reader::refused(q);
     };
@@ -156,7 +156,7 @@ pub fn field_value_meta(s: &[u8], r: Step, tape: &mut [u32]) -> Step
     let Step::Taken(c) = r else {
         return r;
     };
-    let q = reader::read_packed_word(s, c, numbers::INVALID_PACKED_VALUE_META);
+    let q = leaves::read_packed_word(s, c, numbers::INVALID_PACKED_VALUE_META);
     let Number::Got(n, d) = q else {
         return reader::refused(q);
     };
@@ -170,7 +170,7 @@ pub fn field_value_rttid(s: &[u8], r: Step, tape: &mut [u32]) -> Step
     let Step::Taken(c) = r else {
         return r;
     };
-    let q = reader::read_packed_word(s, c, numbers::INVALID_PACKED_VALUE_RTTID);
+    let q = leaves::read_packed_word(s, c, numbers::INVALID_PACKED_VALUE_RTTID);
     let Number::Got(n, d) = q else {
         return reader::refused(q);
     };
@@ -184,7 +184,7 @@ pub fn field_assert_kind(s: &[u8], r: Step, tape: &mut [u32]) -> Step
     let Step::Taken(c) = r else {
         return r;
     };
-    let q = reader::read_bare(s, c, 1, numbers::INVALID_INSTRUCTION_METADATA);
+    let q = leaves::read_bare(s, c, 1, numbers::INVALID_INSTRUCTION_METADATA);
     let Number::Got(n, d) = q else {
         return reader::refused(q);
     };
@@ -198,7 +198,7 @@ pub fn field_source_u32(s: &[u8], r: Step, tape: &mut [u32]) -> Step
     let Step::Taken(c) = r else {
         return r;
     };
-    let q = reader::read_source_u32(s, c);
+    let q = leaves::read_source_u32(s, c);
     let Number::Got(n, d) = q else {
         return reader::refused(q);
     };
@@ -212,7 +212,7 @@ pub fn field_extern_count(s: &[u8], r: Step, tape: &mut [u32]) -> Step
     let Step::Taken(c) = r else {
         return r;
     };
-    let q = reader::read_extern_count(s, c);
+    let q = payloads::read_extern_count(s, c);
     let Number::Got(n, d) = q else {
         return reader::refused(q);
     };
@@ -276,7 +276,7 @@ pub fn number_bool(s: &[u8], c: Cursor, tape: &mut [u32]) -> Number
     requires { ⌜ ReadyAt (now s) c ⌝ }
     ensures { λ q. ⌜ NumberOf bool number (now (s .entry)) c (now (tape .entry)) q (now (tape .exit)) ⌝ }
 {
-    let q = reader::read_small(s, c, 1, numbers::INVALID_BOOLEAN);
+    let q = leaves::read_small(s, c, 1, numbers::INVALID_BOOLEAN);
     let Number::Got(n, d) = q else {
         return q;
     };
@@ -287,7 +287,7 @@ pub fn number_value_kind(s: &[u8], c: Cursor, tape: &mut [u32]) -> Number
     requires { ⌜ ReadyAt (now s) c ⌝ }
     ensures { λ q. ⌜ NumberOf valueKind number (now (s .entry)) c (now (tape .entry)) q (now (tape .exit)) ⌝ }
 {
-    let q = reader::read_small(s, c, 24, numbers::INVALID_VALUE_KIND);
+    let q = leaves::read_small(s, c, 24, numbers::INVALID_VALUE_KIND);
     let Number::Got(n, d) = q else {
         return q;
     };
@@ -298,7 +298,7 @@ pub fn number_direction(s: &[u8], c: Cursor, tape: &mut [u32]) -> Number
     requires { ⌜ ReadyAt (now s) c ⌝ }
     ensures { λ q. ⌜ NumberOf direction number (now (s .entry)) c (now (tape .entry)) q (now (tape .exit)) ⌝ }
 {
-    let q = reader::read_small(s, c, 2, numbers::INVALID_CHAN_DIR);
+    let q = leaves::read_small(s, c, 2, numbers::INVALID_CHAN_DIR);
     let Number::Got(n, d) = q else {
         return q;
     };
@@ -309,7 +309,7 @@ pub fn number_value_rttid(s: &[u8], c: Cursor, tape: &mut [u32]) -> Number
     requires { ⌜ ReadyAt (now s) c ⌝ }
     ensures { λ q. ⌜ NumberOf valueRttid number (now (s .entry)) c (now (tape .entry)) q (now (tape .exit)) ⌝ }
 {
-    let q = reader::read_packed_word(s, c, numbers::INVALID_PACKED_VALUE_RTTID);
+    let q = leaves::read_packed_word(s, c, numbers::INVALID_PACKED_VALUE_RTTID);
     let Number::Got(n, d) = q else {
         return q;
     };
@@ -320,7 +320,7 @@ pub fn number_assert_kind(s: &[u8], c: Cursor, tape: &mut [u32]) -> Number
     requires { ⌜ ReadyAt (now s) c ⌝ }
     ensures { λ q. ⌜ NumberOf (assertKind settings) number (now (s .entry)) c (now (tape .entry)) q (now (tape .exit)) ⌝ }
 {
-    let q = reader::read_bare(s, c, 1, numbers::INVALID_INSTRUCTION_METADATA);
+    let q = leaves::read_bare(s, c, 1, numbers::INVALID_INSTRUCTION_METADATA);
     let Number::Got(n, d) = q else {
         return q;
     };
@@ -331,7 +331,7 @@ pub fn number_runtime_tag(s: &[u8], c: Cursor, tape: &mut [u32]) -> Number
     requires { ⌜ ReadyAt (now s) c ⌝ }
     ensures { λ q. ⌜ NumberOf runtimeTag number (now (s .entry)) c (now (tape .entry)) q (now (tape .exit)) ⌝ }
 {
-    let q = reader::read_small(s, c, 12, numbers::INVALID_RUNTIME_TYPE);
+    let q = leaves::read_small(s, c, 12, numbers::INVALID_RUNTIME_TYPE);
     let Number::Got(n, d) = q else {
         return q;
     };
@@ -342,7 +342,7 @@ pub fn number_constant_tag(s: &[u8], c: Cursor, tape: &mut [u32]) -> Number
     requires { ⌜ ReadyAt (now s) c ⌝ }
     ensures { λ q. ⌜ NumberOf constantTag number (now (s .entry)) c (now (tape .entry)) q (now (tape .exit)) ⌝ }
 {
-    let q = reader::read_bare(s, c, 4, numbers::INVALID_CONSTANT);
+    let q = leaves::read_bare(s, c, 4, numbers::INVALID_CONSTANT);
     let Number::Got(n, d) = q else {
         return q;
     };
@@ -353,7 +353,7 @@ pub fn number_select_tag(s: &[u8], c: Cursor, tape: &mut [u32]) -> Number
     requires { ⌜ ReadyAt (now s) c ⌝ }
     ensures { λ q. ⌜ NumberOf selectTag number (now (s .entry)) c (now (tape .entry)) q (now (tape .exit)) ⌝ }
 {
-    let q = reader::read_bare(s, c, 1, numbers::INVALID_INSTRUCTION_METADATA);
+    let q = leaves::read_bare(s, c, 1, numbers::INVALID_INSTRUCTION_METADATA);
     let Number::Got(n, d) = q else {
         return q;
     };
@@ -364,7 +364,7 @@ pub fn number_metadata_tag(s: &[u8], c: Cursor, tape: &mut [u32]) -> Number
     requires { ⌜ ReadyAt (now s) c ⌝ }
     ensures { λ q. ⌜ NumberOf metadataTagged number (now (s .entry)) c (now (tape .entry)) q (now (tape .exit)) ⌝ }
 {
-    let q = reader::read_metadata_tag(s, c);
+    let q = leaves::read_metadata_tag(s, c);
     let Number::Got(n, d) = q else {
         return q;
     };
@@ -376,7 +376,7 @@ pub fn number_count(s: &[u8], c: Cursor, kind: usize, tape: &mut [u32]) -> Numbe
     requires { ⌜ ReadyAt (now s) c ⌝ }
     ensures { λ q. ⌜ NumberOf (listCount kind) number (now (s .entry)) c (now (tape .entry)) q (now (tape .exit)) ⌝ }
 {
-    let q = reader::read_count(s, c, kind);
+    let q = payloads::read_count(s, c, kind);
     let Number::Got(n, d) = q else {
         return q;
     };
@@ -394,7 +394,7 @@ pub fn number_debug_count(
     requires { ⌜ ReadyAt (now s) c ⌝ }
     ensures { λ q. ⌜ NumberOf (debugCount context most kind) number (now (s .entry)) c (now (tape .entry)) q (now (tape .exit)) ⌝ }
 {
-    let q = reader::read_debug_count(s, c, context, most, kind);
+    let q = payloads::read_debug_count(s, c, context, most, kind);
     let Number::Got(n, d) = q else {
         return q;
     };
@@ -405,7 +405,7 @@ pub fn number_artifact_count(s: &[u8], c: Cursor, tape: &mut [u32]) -> Number
     requires { ⌜ ReadyAt (now s) c ⌝ }
     ensures { λ q. ⌜ NumberOf artifactCount number (now (s .entry)) c (now (tape .entry)) q (now (tape .exit)) ⌝ }
 {
-    let q = reader::read_artifact_count(s, c);
+    let q = payloads::read_artifact_count(s, c);
     let Number::Got(n, d) = q else {
         return q;
     };
@@ -416,7 +416,7 @@ pub fn number_method_count(s: &[u8], c: Cursor, tape: &mut [u32]) -> Number
     requires { ⌜ ReadyAt (now s) c ⌝ }
     ensures { λ q. ⌜ NumberOf methodCount number (now (s .entry)) c (now (tape .entry)) q (now (tape .exit)) ⌝ }
 {
-    let q = reader::read_method_count(s, c);
+    let q = payloads::read_method_count(s, c);
     let Number::Got(n, d) = q else {
         return q;
     };
@@ -432,7 +432,7 @@ pub fn field_str(s: &[u8], r: Step, tape: &mut [u32]) -> Step
     let Step::Taken(c) = r else {
         return r;
     };
-    let q = reader::read_string(s, c);
+    let q = payloads::read_string(s, c);
     let Text::Got(start, length, _, d) = q else {
         return reader::refused_text(q);
     };
@@ -472,7 +472,12 @@ pub fn field_artifact_name(s: &[u8], r: Step, tape: &mut [u32]) -> Step
     let Step::Taken(c) = r else {
         return r;
     };
-    let q = reader::read_artifact_string(s, c, numbers::ARTIFACT_NAME, limits::ARTIFACT_NAME_BYTES);
+    let q = payloads::read_artifact_string(
+        s,
+        c,
+        numbers::ARTIFACT_NAME,
+        limits::ARTIFACT_NAME_BYTES,
+    );
     let Text::Got(start, length, _, d) = q else {
         return reader::refused_text(q);
     };
@@ -486,7 +491,7 @@ pub fn field_artifact_payload(s: &[u8], r: Step, tape: &mut [u32]) -> Step
     let Step::Taken(c) = r else {
         return r;
     };
-    let q = reader::read_artifact_bytes(
+    let q = payloads::read_artifact_bytes(
         s,
         c,
         numbers::ARTIFACT_PAYLOAD,
@@ -502,7 +507,7 @@ pub fn span_str(s: &[u8], c: Cursor, tape: &mut [u32]) -> Payload
     requires { ⌜ ReadyAt (now s) c ⌝ }
     ensures { λ q. ⌜ SpanOf str (now (s .entry)) c (now (tape .entry)) q (now (tape .exit)) ⌝ }
 {
-    let q = reader::read_string(s, c);
+    let q = payloads::read_string(s, c);
     let Text::Got(start, length, _, d) = q else {
         return reader::span(q);
     };
@@ -517,7 +522,12 @@ pub fn span_artifact_name(s: &[u8], c: Cursor, tape: &mut [u32]) -> Payload
     requires { ⌜ ReadyAt (now s) c ⌝ }
     ensures { λ q. ⌜ SpanOf artifactName (now (s .entry)) c (now (tape .entry)) q (now (tape .exit)) ⌝ }
 {
-    let q = reader::read_artifact_string(s, c, numbers::ARTIFACT_NAME, limits::ARTIFACT_NAME_BYTES);
+    let q = payloads::read_artifact_string(
+        s,
+        c,
+        numbers::ARTIFACT_NAME,
+        limits::ARTIFACT_NAME_BYTES,
+    );
     let Text::Got(start, length, _, d) = q else {
         return reader::span(q);
     };
@@ -532,7 +542,7 @@ pub fn span_artifact_payload(s: &[u8], c: Cursor, tape: &mut [u32]) -> Payload
     requires { ⌜ ReadyAt (now s) c ⌝ }
     ensures { λ q. ⌜ SpanOf artifactPayload (now (s .entry)) c (now (tape .entry)) q (now (tape .exit)) ⌝ }
 {
-    let q = reader::read_artifact_bytes(
+    let q = payloads::read_artifact_bytes(
         s,
         c,
         numbers::ARTIFACT_PAYLOAD,
@@ -557,7 +567,7 @@ pub fn field_magic(s: &[u8], r: Step, tape: &mut [u32]) -> Step
     let Step::Taken(c) = r else {
         return r;
     };
-    reader::read_magic(s, c)
+    leaves::read_magic(s, c)
 }
 
 pub fn field_version(s: &[u8], r: Step, tape: &mut [u32]) -> Step
@@ -567,5 +577,5 @@ pub fn field_version(s: &[u8], r: Step, tape: &mut [u32]) -> Step
     let Step::Taken(c) = r else {
         return r;
     };
-    reader::read_version(s, c)
+    leaves::read_version(s, c)
 }

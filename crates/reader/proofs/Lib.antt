@@ -5,9 +5,6 @@ pub mod Laws
 pub mod Asks
 pub mod Leaves
 pub mod Signs
-pub mod Marks
-pub mod Packing
-pub mod Texts
 pub mod Keeping
 pub mod Parts
 pub mod Reading

@@ -43,14 +43,14 @@ fn packed(s: &[u8]) {
     if MOST < s.len() {
         return;
     }
-    number(reader::read_source_u32(s, start()));
+    number(leaves::read_source_u32(s, start()));
 }
 
 fn value_meta(s: &[u8]) {
     if MOST < s.len() {
         return;
     }
-    number(reader::read_packed_word(s, start(), numbers::INVALID_PACKED_VALUE_META));
+    number(leaves::read_packed_word(s, start(), numbers::INVALID_PACKED_VALUE_META));
 }
 
 // The text stands after its length word.
@@ -58,7 +58,7 @@ fn text(s: &[u8]) {
     if MOST < s.len() {
         return;
     }
-    match reader::read_string(s, start()) {
+    match payloads::read_string(s, start()) {
         Text::Got(_, _, n, d) => line(true, n as u64, d.place),
         Text::Not(x) => line(false, x.number, x.place),
     }
