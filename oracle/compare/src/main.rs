@@ -1,16 +1,9 @@
-//! The proved reader and the Rust original in one process, compared call by call.
+//! The program: rounds of the comparison.
 
-mod calls;
-mod inputs;
-mod memory;
-mod model;
-mod proved;
-mod round;
-mod shrink;
-
-use model::{Mistake, Model};
-use proved::Proved;
-use round::{Round, Stop};
+use compare::model::{self, Mistake, Model};
+use compare::proved::{self, Proved};
+use compare::round::{Round, Stop};
+use compare::{calls, shrink};
 use std::panic::AssertUnwindSafe;
 use std::process::ExitCode;
 use std::time::Duration;

@@ -2,6 +2,7 @@
 
 pub mod answer;
 pub mod cases;
+pub mod corpus;
 pub mod packs;
 pub mod record;
 pub mod sizes;
