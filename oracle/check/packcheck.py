@@ -1,7 +1,7 @@
 #!/usr/bin/env python3
 """Runs a packcheck program on the stored packs and compares the lines it prints.
 
-usage: packcheck.py PROGRAM [PACKCHECK.BIN]
+usage: packcheck.py PROGRAM [LIST...]
 """
 
 import os
@@ -13,13 +13,20 @@ sys.path.insert(0, HERE)
 from records import records
 
 
+RUST_BUDGET, TAPE = 536_870_912, 16_384
+
+
+def asked(record):
+    return (record.kind, record.budget, record.tape) == ("whole", RUST_BUDGET, TAPE)
+
+
 def line(record):
     fields = record.fields if record.status else record.fields[:4]
     return " ".join(["refused" if record.status else "taken", *map(str, fields)]) + "\n"
 
 
-def main(program, path):
-    cases = [(record.pack, line(record)) for record in records(path)]
+def main(program, lists):
+    cases = [(record.pack, line(record)) for path in lists for record in records(path) if asked(record)]
     cases += [(bytes(length), "too long for packcheck\n") for length in (65_537, 131_072)]
     bad = 0
     for pack, wanted in cases:
@@ -33,6 +40,7 @@ def main(program, path):
 
 
 if __name__ == "__main__":
-    if len(sys.argv) not in (2, 3):
+    if len(sys.argv) < 2:
         sys.exit(__doc__)
-    sys.exit(main(sys.argv[1], sys.argv[2] if len(sys.argv) == 3 else os.path.join(HERE, "..", "answers", "packcheck.bin")))
+    stored = [os.path.join(HERE, "..", "answers", name) for name in ("packcheck.bin", "corpus.bin")]
+    sys.exit(main(sys.argv[1], sys.argv[2:] or stored))

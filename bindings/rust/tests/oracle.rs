@@ -111,3 +111,8 @@ fn lookups() {
 fn sections() {
     replay_list("sections.bin");
 }
+
+#[test]
+fn corpus() {
+    replay_list("corpus.bin");
+}

@@ -1,6 +1,7 @@
 //! Which answers are stored, and which more are written for a comparison that is too large to keep.
 
 use crate::answer::{self, opening_part, Answer, NO_END, RUST_BUDGET};
+use crate::corpus;
 use crate::packs::{self, Chance, Pack};
 use crate::record::{Book, Edit, SectionCall, LONG_TAPE, PACKCHECK_TAPE};
 use std::collections::{BTreeMap, HashSet};
@@ -164,6 +165,51 @@ pub fn repeats() -> Vec<Vec<u8>> {
     out.push(Edit::byte(at, b'_').apply(&pack));
     out.push(packs::with_named_methods(&accents));
     out
+}
+
+/// Each table with 40 names, new and with a repeat: from there on the reader searches by a filter. Once with names of one
+/// hash, for which it takes another key.
+fn wide_tables() -> Vec<Vec<u8>> {
+    let mut out = Vec::new();
+    for names in [(10..50).map(|i| i.to_string()).collect(), one_hash(40)] {
+        let names: Vec<&str> = names.iter().map(String::as_str).collect();
+        let fields: Vec<(&str, &str)> = names.iter().map(|name| ("p", *name)).collect();
+        for pack in [
+            packs::with_struct_fields(&names),
+            packs::with_interface(&names, &[]),
+            packs::with_interface(&[], &names),
+            packs::with_named_methods(&names),
+            packs::with_runtime_struct(&fields),
+            packs::with_runtime_interface(&names),
+        ] {
+            let [first, last] = [names[0], names[39]].map(str::as_bytes);
+            let at = pack.windows(last.len()).position(|bytes| bytes == last).expect("the name was written");
+            let mut repeated = pack.clone();
+            repeated[at..at + last.len()].copy_from_slice(first);
+            out.extend([pack, repeated]);
+        }
+    }
+    out
+}
+
+/// Names of twelve characters that all have the same hash under the first key of the reader's filter (crate `names`): the
+/// second and the third word of each make up for the first.
+fn one_hash(count: usize) -> Vec<String> {
+    const KEY: u64 = 2_654_435_761;
+    const HALF: u64 = 1 << 32;
+    let mixed = |hash: u64, word: u64| ((hash ^ word) % HALF) * KEY + (hash ^ word) / HALF;
+    let (upper, last) = (1 << 30, 1 << 30);
+    let start = mixed(0, 12);
+    let name = |i: u32| {
+        let first = u32::from_le_bytes([0, 5, 10, 15].map(|shift| b'@' + (i >> shift) as u8 % 32));
+        let hash = mixed(start, first as u64);
+        // The hash after the second word has this upper half, and that after the third word is last * KEY + upper.
+        let second = ((upper * HALF - hash / HALF).div_ceil(KEY) ^ hash) % HALF;
+        let third = (last ^ mixed(hash, second)) % HALF;
+        let words = [first, second as u32, third as u32].map(u32::to_le_bytes).concat();
+        String::from_utf8(words).ok().filter(|name| name.chars().all(|c| c.is_ascii_graphic()))
+    };
+    (0..1 << 20).filter_map(name).take(count).collect()
 }
 
 /// Limits of artifacts and inline sources, exact and one past them.
@@ -382,7 +428,7 @@ fn packcheck() -> Book {
             book.packcheck(pack);
         }
     };
-    for pack in ends().iter().chain(&marked()).chain(&repeats()).chain(&limits()) {
+    for pack in ends().iter().chain(&marked()).chain(&repeats()).chain(&wide_tables()).chain(&limits()) {
         add(&mut book, pack);
     }
     for pack in packs::small() {
@@ -669,6 +715,26 @@ fn lookups() -> Book {
     book
 }
 
+/// The packs that libFuzzer kept, with the calls that it made on them.
+fn kept() -> Book {
+    let mut book = Book::default();
+    for pack in corpus::packs() {
+        let reading = answer::read(&pack, NO_END as u64, u64::MAX);
+        for call in corpus::calls(&pack, &reading) {
+            match call {
+                corpus::Call::Whole { budget, tape } => {
+                    book.whole(&pack, pack.len(), NO_EDIT, budget, tape, false);
+                }
+                corpus::Call::Section(call) => {
+                    book.section(&pack, NO_EDIT, call, false);
+                }
+                corpus::Call::Lookup(name) => book.lookup(&pack, &name),
+            }
+        }
+    }
+    book
+}
+
 /// The stored lists, by file name.
 pub fn stored() -> Vec<(&'static str, Book)> {
     vec![
@@ -678,6 +744,7 @@ pub fn stored() -> Vec<(&'static str, Book)> {
         ("damage.bin", damage()),
         ("sections.bin", sections()),
         ("lookups.bin", lookups()),
+        ("corpus.bin", kept()),
     ]
 }
 

@@ -494,6 +494,13 @@ pub fn with_runtime_struct(fields: &[(&str, &str)]) -> Vec<u8> {
     bytes_of(&m)
 }
 
+pub fn with_runtime_interface(names: &[&str]) -> Vec<u8> {
+    let mut m = module();
+    let methods = names.iter().map(|n| InterfaceMethod::new(n.to_string(), rttid(9, ValueKind::String))).collect();
+    m.runtime_types = vec![RuntimeType::Interface { meta_id: 0, methods }];
+    bytes_of(&m)
+}
+
 /// A global with this many slot types: one byte and one word each.
 pub fn with_slots(count: usize) -> Vec<u8> {
     let mut m = module();
