@@ -7,7 +7,7 @@ use native.Mathlib.Omega.{arith}
 use native.Mathlib.Nat.{min-le-left, min-le-right, le-max-left, le-min, max-le, le-antisymm}
 use lib.ListN.{length, getD, set, replicate, length-set, length-replicate}
 use lib.Seq.{getD-set-same, getD-set-other}
-use lib.Bits.{bitAnd, bitOr, and-step, or-step, and-zero-r, and-self, or-comm}
+use lib.Bits.{bitAnd, bitOr, and-step, or-step, and-zero-r, and-self, or-comm, and-le-r}
 use lib.Arith.{bin-ind}
 use lib.Dec.{eqb, ltb}
 use borrow.Author.Count.{below-more}
@@ -84,9 +84,9 @@ among-none t s (suc i) from x a h =
     (among-none t s i (nextAt (formatIn t) s from) x (a .1) (λ k l. h (suc k) (omega arith)))
 
 -- ---- the filter
-module _ {a : ℕ} {t : Table} {s : List ℕ} {from i lo hi : ℕ} {f : List ℕ} (l : Filter a t s from i lo hi f) where
+module _ {a : ℕ} {t : Table} {s : List ℕ} {from i lo hi top : ℕ} {f : List ℕ} (l : Filter a t s from i lo hi top f) where
   -- an item whose bits are not all there repeats none
-  filter-new : {p : ℕ} → Standing t s from i p → Classed a t s from lo hi i → (bitAnd (getD f (spot (hashAt a t s from i)) 0) (maskOf (hashAt a t s from i)) ≡ maskOf (hashAt a t s from i) → ⊥) → repeatAt t s from i ≡ false
+  filter-new : {p : ℕ} → Standing t s from i p → Classed a t s from lo hi i → (bitAnd (getD f (spot top (hashAt a t s from i)) 0) (maskOf (hashAt a t s from i)) ≡ maskOf (hashAt a t s from i) → ⊥) → repeatAt t s from i ≡ false
   unfolding repeats hashAt keyHash pick
   filter-new {p} w c h = repeat-is w ∙ go (exempt t (content (nameOf (itemOf t) (valueAt (formatIn t) s p))))
     where
@@ -104,84 +104,87 @@ module _ {a : ℕ} {t : Table} {s : List ℕ} {from i lo hi : ℕ} {f : List ℕ
       go true = refl
       go false = none-before
 
-  filter-out : (Classed a t s from lo hi i → ⊥) → Filter a t s from (i + 1) lo hi f
+  -- its word is there
+  pub filter-spot : (h : ℕ) → bitAnd h top < length f
+  filter-spot h = omega (arith, l .size, and-le-r h top)
+
+  filter-out : (Classed a t s from lo hi i → ⊥) → Filter a t s from (i + 1) lo hi top f
   filter-out h = record { size = l .size; has = below-more _ i (l .has) (λ c. absurd (h c)) }
 
-  filter-in : Filter a t s from (i + 1) lo hi (set f (spot (hashAt a t s from i)) (bitOr (getD f (spot (hashAt a t s from i)) 0) (maskOf (hashAt a t s from i))))
+  filter-in : Filter a t s from (i + 1) lo hi top (set f (spot top (hashAt a t s from i)) (bitOr (getD f (spot top (hashAt a t s from i)) 0) (maskOf (hashAt a t s from i))))
   filter-in =
-      let small : spot (hashAt a t s from i) < length f = rw (l .size) (omega arith) in
+      let small : spot top (hashAt a t s from i) < length f = filter-spot (hashAt a t s from i) in
       record {
         size = simp length-set (l .size);
-        has = below-more _ i (λ k d c. word-stays f _ _ _ (maskOf (hashAt a t s from k)) small (l .has k d c)) (λ c. rw (getD-set-same f (spot (hashAt a t s from i)) (bitOr (getD f (spot (hashAt a t s from i)) 0) (maskOf (hashAt a t s from i))) 0 small) (bits-set (getD f (spot (hashAt a t s from i)) 0) (maskOf (hashAt a t s from i))));
+        has = below-more _ i (λ k d c. word-stays f _ _ _ (maskOf (hashAt a t s from k)) small (l .has k d c)) (λ c. rw (getD-set-same f (spot top (hashAt a t s from i)) (bitOr (getD f (spot top (hashAt a t s from i)) 0) (maskOf (hashAt a t s from i))) 0 small) (bits-set (getD f (spot top (hashAt a t s from i)) 0) (maskOf (hashAt a t s from i))));
       }
 
 -- ---- the answers of `known`, for an item of hash h
-module _ {a : ℕ} {t : Table} {s : List ℕ} {from i p lo hi h : ℕ} {f : List ℕ} (w : Standing t s from i p) (e : KeyHash a t s p h) (l : Filter a t s from i lo hi f) where
+module _ {a : ℕ} {t : Table} {s : List ℕ} {from i p lo hi top h : ℕ} {f : List ℕ} (w : Standing t s from i p) (e : KeyHash a t s p h) (l : Filter a t s from i lo hi top f) where
   hash-is : hashAt a t s from i ≡ h
   unfolding hashAt
   hash-is = ap (keyHash a t s) (sym (w .place)) ∙ sym (e .is)
 
-  known-out : {left : ℕ} → (lo ≤ class h → class h < hi → ⊥) → Known a t s from i lo hi f (On left)
+  known-out : {left : ℕ} → (lo ≤ class h → class h < hi → ⊥) → Known a t s from i lo hi top f (On left)
   known-out {left} b = let z = hash-is in isOn {left = left} (filter-out l (λ c. b (rw z at (c .low)) (rw z at (c .high)))) (λ c. absurd (b (rw z at (c .low)) (rw z at (c .high))))
 
-  pub known-below : {left : ℕ} → class h < lo → Known a t s from i lo hi f (On left)
+  pub known-below : {left : ℕ} → class h < lo → Known a t s from i lo hi top f (On left)
   known-below b = known-out (λ x y. omega arith)
 
-  pub known-above : {left : ℕ} → hi ≤ class h → Known a t s from i lo hi f (On left)
+  pub known-above : {left : ℕ} → hi ≤ class h → Known a t s from i lo hi top f (On left)
   known-above b = known-out (λ x y. omega arith)
 
   module _ {v : ℕ} (y : v ≡ maskOf h) where
-    pub known-new : {left : ℕ} → (bitAnd (getD f (h % 65536) 0) v ≡ v → ⊥) → Known a t s from i lo hi (set f (h % 65536) (bitOr (getD f (h % 65536) 0) v)) (On left)
+    pub known-new : {left : ℕ} → (bitAnd (getD f (bitAnd h top) 0) v ≡ v → ⊥) → Known a t s from i lo hi top (set f (bitAnd h top) (bitOr (getD f (bitAnd h top) 0) v)) (On left)
     known-new {left} b = let z = hash-is in rw (y, ← z) (isOn {left = left} (filter-in l) (λ c. filter-new l w c (rw (y, ← z) at b)))
 
-    known-not : {left : ℕ} → repeatAt t s from i ≡ false → Known a t s from i lo hi (set f (h % 65536) (bitOr (getD f (h % 65536) 0) v)) (On left)
+    known-not : {left : ℕ} → repeatAt t s from i ≡ false → Known a t s from i lo hi top (set f (bitAnd h top) (bitOr (getD f (bitAnd h top) 0) v)) (On left)
     known-not {left} b = let z = hash-is in rw (y, ← z) (isOn {left = left} (filter-in l) (λ c. b))
 
     module _ {b : Bool} (x : ExemptIs t s p b) where
-      pub known-exempt : {left : ℕ} → b ≡ true → Known a t s from i lo hi (set f (h % 65536) (bitOr (getD f (h % 65536) 0) v)) (On left)
+      pub known-exempt : {left : ℕ} → b ≡ true → Known a t s from i lo hi top (set f (bitAnd h top) (bitOr (getD f (bitAnd h top) 0) v)) (On left)
       known-exempt q = known-not (repeat-exempt w x q)
 
-      pub known-unseen : {left : ℕ} {q : Bool} → b ≡ false → Seen t s from i p q → q ≡ false → Known a t s from i lo hi (set f (h % 65536) (bitOr (getD f (h % 65536) 0) v)) (On left)
+      pub known-unseen : {left : ℕ} {q : Bool} → b ≡ false → Seen t s from i p q → q ≡ false → Known a t s from i lo hi top (set f (bitAnd h top) (bitOr (getD f (bitAnd h top) 0) v)) (On left)
       known-unseen g u r = known-not (repeat-seen w x g u ∙ r)
 
-pub known-old : {a : ℕ} {t : Table} {s : List ℕ} {from i p lo hi : ℕ} {f : List ℕ} {b q : Bool} → Standing t s from i p → ExemptIs t s p b → b ≡ false → Seen t s from i p q → q ≡ true → Known a t s from i lo hi f Old
+pub known-old : {a : ℕ} {t : Table} {s : List ℕ} {from i p lo hi top : ℕ} {f : List ℕ} {b q : Bool} → Standing t s from i p → ExemptIs t s p b → b ≡ false → Seen t s from i p q → q ≡ true → Known a t s from i lo hi top f Old
 known-old w x g u r = isOld (repeat-seen w x g u ∙ r)
 
-pub known-stop : {a : ℕ} {t : Table} {s : List ℕ} {from i lo hi : ℕ} {f : List ℕ} → Known a t s from i lo hi f Stop
+pub known-stop : {a : ℕ} {t : Table} {s : List ℕ} {from i lo hi top : ℕ} {f : List ℕ} → Known a t s from i lo hi top f Stop
 known-stop = isStop
 
 pub ruleset knowing = (known-below, known-above, known-new, known-exempt, known-unseen, known-old, known-stop)
 
 -- ---- the loop of `pass`
-pub record Passing (a : ℕ) (t : Table) (s : List ℕ) (from n lo hi : ℕ) (f : List ℕ) (p i : ℕ) : Type 0 where
+pub record Passing (a : ℕ) (t : Table) (s : List ℕ) (from n lo hi top : ℕ) (f : List ℕ) (p i : ℕ) : Type 0 where
   pub walk : Walking (formatIn t) s from n p i
-  pub filter : Filter a t s from i lo hi f
+  pub filter : Filter a t s from i lo hi top f
   pub new : (k : ℕ) → k < i → Classed a t s from lo hi k → repeatAt t s from k ≡ false
 
-module _ {a : ℕ} {t : Table} {s : List ℕ} {from n lo hi : ℕ} where
-  pub passing-start : Items (formatIn t) n s from → Passing a t s from n lo hi (replicate 65536 0) from 0
-  passing-start h =
-      record {
-        walk = walking-start h;
-        filter = record { size = length-replicate {A = ℕ} 65536 0; has = λ k d. absurd (omega arith) };
-        new = λ k d. absurd (omega arith);
-      }
+-- an empty filter
+pub filter-empty : (a : ℕ) (t : Table) (s : List ℕ) (from lo hi top m : ℕ) → top < m → Filter a t s from 0 lo hi top (replicate m 0)
+filter-empty a t s from lo hi top m h = record { size = rw (length-replicate {A = ℕ} m 0) h; has = λ k d. absurd (omega arith) }
 
-  module _ {f : List ℕ} {p i : ℕ} (l : Passing a t s from n lo hi f p i) where
+module _ {a : ℕ} {t : Table} {s : List ℕ} {from n lo hi top : ℕ} where
+  pub passing-start : {f : List ℕ} → Items (formatIn t) n s from → Filter a t s from 0 lo hi top f → Passing a t s from n lo hi top f from 0
+  passing-start h l = record { walk = walking-start h; filter = l; new = λ k d. absurd (omega arith) }
+
+  module _ {f : List ℕ} {p i : ℕ} (l : Passing a t s from n lo hi top f p i) where
     pub passing-done : n ≤ i → PassedOr a t s from n lo hi (Done n)
     passing-done h = done {q = n} (record { within = omega arith; new = λ k d. l .new k (omega arith); found = λ d. absurd (omega arith) })
 
-    module _ (h : i < n) {g : List ℕ} {r : Told} (k : Known a t s from i lo hi g r) where
+    module _ (h : i < n) {g : List ℕ} {r : Told} (k : Known a t s from i lo hi top g r) where
       pub passing-found : r ≡ Old → PassedOr a t s from n lo hi (Done i)
       passing-found e = go (rw e at k)
         where
-          go : Known a t s from i lo hi g Old → PassedOr a t s from n lo hi (Done i)
+          go : Known a t s from i lo hi top g Old → PassedOr a t s from n lo hi (Done i)
           go (isOld x) = done {q = i} (record { within = omega arith; new = l .new; found = λ d. x })
 
-      pub passing-more : {left z : ℕ} → r ≡ On left → Past (formatIn t) s p z → Passing a t s from n lo hi g z (i + 1)
+      pub passing-more : {left z : ℕ} → r ≡ On left → Past (formatIn t) s p z → Passing a t s from n lo hi top g z (i + 1)
       passing-more {left} {z} e w = go (rw e at k)
         where
-          go : Known a t s from i lo hi g (On left) → Passing a t s from n lo hi g z (i + 1)
+          go : Known a t s from i lo hi top g (On left) → Passing a t s from n lo hi top g z (i + 1)
           go (isOn u v) = record { walk = walking-next h (l .walk) w; filter = u; new = below-more _ i (l .new) v }
 
 pub passing-tired : {a : ℕ} {t : Table} {s : List ℕ} {from n lo hi : ℕ} → PassedOr a t s from n lo hi Tired
@@ -232,6 +235,11 @@ module _ {a : ℕ} {t : Table} {s : List ℕ} {from n : ℕ} where
 
   pub firsts-done : {lo q : ℕ} → Firsts a t s from n lo q → 65536 ≤ lo → FirstOr t s from n (Done q)
   firsts-done l h = first (record { within = l .within; new = λ k d. l .new k d (omega arith); found = l .found })
+
+-- one pass over all classes
+pub pass-first : {a : ℕ} {t : Table} {s : List ℕ} {from n : ℕ} {o : Outcome} → PassedOr a t s from n 0 65536 o → FirstOr t s from n o
+pass-first (done p) = first (record { within = p .within; new = λ k d. p .new k d (record { low = omega arith; high = omega arith }); found = p .found })
+pass-first tired = none
 
 pub firsts-tired : {t : Table} {s : List ℕ} {from n : ℕ} → FirstOr t s from n Tired
 firsts-tired = none

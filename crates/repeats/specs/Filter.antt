@@ -53,8 +53,9 @@ hashAt a t s from k = keyHash a t s (lastAt (formatIn t) k s from)
 abbrev pub class : ℕ → ℕ
 class h = h / 281474976710656 % 65536
 
-abbrev pub spot : ℕ → ℕ
-spot h = h % 65536
+-- of the filter whose last word is numbered top
+abbrev pub spot : ℕ → ℕ → ℕ
+spot top h = bitAnd h top
 
 unfoldable pub maskOf : ℕ → ℕ
 maskOf h =
@@ -67,15 +68,15 @@ pub record Classed (a : ℕ) (t : Table) (s : List ℕ) (from lo hi k : ℕ) : T
   pub high : class (hashAt a t s from k) < hi
 
 -- each of the first i items that is of such a class has its bits in f
-pub record Filter (a : ℕ) (t : Table) (s : List ℕ) (from i lo hi : ℕ) (f : List ℕ) : Type 0 where
-  pub size : length f ≡ 65536
-  pub has : (k : ℕ) → k < i → Classed a t s from lo hi k → bitAnd (getD f (spot (hashAt a t s from k)) 0) (maskOf (hashAt a t s from k)) ≡ maskOf (hashAt a t s from k)
+pub record Filter (a : ℕ) (t : Table) (s : List ℕ) (from i lo hi top : ℕ) (f : List ℕ) : Type 0 where
+  pub size : top < length f
+  pub has : (k : ℕ) → k < i → Classed a t s from lo hi k → bitAnd (getD f (spot top (hashAt a t s from k)) 0) (maskOf (hashAt a t s from k)) ≡ maskOf (hashAt a t s from k)
 
 -- what is told of item i
-pub data Known (a : ℕ) (t : Table) (s : List ℕ) (from i lo hi : ℕ) (f : List ℕ) : Told → Type 0 where
-  isOld : repeatAt t s from i ≡ true → Known a t s from i lo hi f Old
-  isStop : Known a t s from i lo hi f Stop
-  isOn : {left : ℕ} → Filter a t s from (i + 1) lo hi f → (Classed a t s from lo hi i → repeatAt t s from i ≡ false) → Known a t s from i lo hi f (On left)
+pub data Known (a : ℕ) (t : Table) (s : List ℕ) (from i lo hi top : ℕ) (f : List ℕ) : Told → Type 0 where
+  isOld : repeatAt t s from i ≡ true → Known a t s from i lo hi top f Old
+  isStop : Known a t s from i lo hi top f Stop
+  isOn : {left : ℕ} → Filter a t s from (i + 1) lo hi top f → (Classed a t s from lo hi i → repeatAt t s from i ≡ false) → Known a t s from i lo hi top f (On left)
 
 -- the first repeat among the items of such a class
 pub record Passed (a : ℕ) (t : Table) (s : List ℕ) (from n lo hi q : ℕ) : Type 0 where

@@ -10,6 +10,11 @@ ghost use Rattle.repeats.specs.Filter.{mixed, HashIs, TextHash, PackageH
 ghost use Rattle.items.specs.Contract.{TextAt, Placed, Items};
 use items::Table;
 
+// Of fewer items each is compared with all before it; from so many on the filter is large.
+const FEW: usize = 24;
+
+const MANY: usize = 1024;
+
 // An item's key was seen before; too many were compared in vain; or go on, with so many comparisons left.
 enum Told {
     Old,
@@ -157,10 +162,11 @@ fn known(
     hi: u64,
     a: u64,
     left: usize,
-    f: &mut [u64; 65536],
+    top: u64,
+    f: &mut [u64],
 ) -> Told
-    requires { ⌜ (Standing table (now s) from i p) × (Filter a table (now s) from i lo hi (now f)) × (a < 4294967296) ⌝ }
-    ensures { λ q. ⌜ Known a table (now (s .entry)) from i lo hi (now (f .exit)) q ⌝ }
+    requires { ⌜ (Standing table (now s) from i p) × (Filter a table (now s) from i lo hi top (now f)) × (a < 4294967296) ⌝ }
+    ensures { λ q. ⌜ Known a table (now (s .entry)) from i lo hi top (now (f .exit)) q ⌝ }
 {
     let h = hash_key(s, table, p, a);
     let class = h / 281474976710656 % 65536;
@@ -170,7 +176,7 @@ fn known(
     if hi <= class {
         return Told::On(left);
     }
-    let k = (h % 65536) as usize;
+    let k = (h & top) as usize;
     let m = mask(h);
     let w = f[k];
     f[k] = w | m;
@@ -190,7 +196,7 @@ fn known(
     Told::On(left - 1)
 }
 
-// The first repeat, of the items whose class is from lo to hi.
+// The first repeat, of the items whose class is from lo to hi, by a filter that is empty yet.
 fn pass(
     s: &[u8],
     table: Table,
@@ -199,17 +205,17 @@ fn pass(
     lo: u64,
     hi: u64,
     a: u64,
-    most: usize,
+    top: u64,
+    f: &mut [u64],
 ) -> Outcome
-    requires { ⌜ (Items (formatIn table) n (now s) from) × (a < 4294967296) ⌝ }
+    requires { ⌜ (Items (formatIn table) n (now s) from) × (Filter a table (now s) from 0 lo hi top (now f)) × (a < 4294967296) ⌝ }
     ensures { λ q. ⌜ PassedOr a table (now (s .entry)) from n lo hi q ⌝ }
 {
-    let mut f = [0u64; 65536];
-    let mut left = most;
+    let mut left: usize = 32;
     let mut p = from;
     let mut i = 0;
     while i < n {
-        match known(s, table, from, i, p, lo, hi, a, left, &mut f) {
+        match known(s, table, from, i, p, lo, hi, a, left, top, f) {
             Told::Old => {
                 return Outcome::Done(i);
             }
@@ -226,8 +232,25 @@ fn pass(
     Outcome::Done(n)
 }
 
-// The first repeat by the key a: a pass for each 65536 items.
-fn filtered(s: &[u8], table: Table, from: usize, n: usize, a: u64) -> Outcome
+// The first repeat of a small table by the key a: one pass with a small filter.
+fn few(s: &[u8], table: Table, from: usize, n: usize, a: u64) -> Outcome
+    requires { ⌜ (Items (formatIn table) n (now s) from) × (a < 4294967296) ⌝ }
+    ensures { λ q. ⌜ FirstOr table (now (s .entry)) from n q ⌝ }
+{
+    let mut f = [0u64; 1024];
+    pass(s, table, from, n, 0, 65536, a, 1023, &mut f)
+}
+
+fn large_pass(s: &[u8], table: Table, from: usize, n: usize, lo: u64, hi: u64, a: u64) -> Outcome
+    requires { ⌜ (Items (formatIn table) n (now s) from) × (a < 4294967296) ⌝ }
+    ensures { λ q. ⌜ PassedOr a table (now (s .entry)) from n lo hi q ⌝ }
+{
+    let mut f = [0u64; 65536];
+    pass(s, table, from, n, lo, hi, a, 65535, &mut f)
+}
+
+// The first repeat of any table by the key a: a pass with a large filter for each 65536 items.
+fn many(s: &[u8], table: Table, from: usize, n: usize, a: u64) -> Outcome
     requires { ⌜ (Items (formatIn table) n (now s) from) × (a < 4294967296) ⌝ }
     ensures { λ q. ⌜ FirstOr table (now (s .entry)) from n q ⌝ }
 {
@@ -237,7 +260,7 @@ fn filtered(s: &[u8], table: Table, from: usize, n: usize, a: u64) -> Outcome
     let mut lo: u64 = 0;
     while lo < 65536 {
         let hi = lo + classes;
-        let Outcome::Done(q) = pass(s, table, from, lim, lo, hi, a, 32) else {
+        let Outcome::Done(q) = large_pass(s, table, from, lim, lo, hi, a) else {
             return Outcome::Tired;
         };
         lim = q;
@@ -262,27 +285,39 @@ fn fresh_key(s: &[u8], table: Table, from: usize, n: usize, a: u64) -> u64
     2147483649 + h % 1073741824 * 2
 }
 
-// The first of the n items from `from` on that repeats one before it, or n. A few of them are compared directly. Names that were made to
-// have the same hash under one key are told apart under the next. The first key is tried apart from the others: `filtered` is called
-// twice, so that no compiler merges its large frame into this function, which small tables are asked in too.
+// The first repeat, with a large filter or a small one. Names that were made to have the same hash under one key are told apart under the
+// next.
+fn searched(s: &[u8], table: Table, from: usize, n: usize, large: bool) -> usize
+    requires { ⌜ Items (formatIn table) n (now s) from ⌝ }
+    ensures { λ q. ⌜ FirstRepeat table (now (s .entry)) from n q ⌝ }
+{
+    let mut a: u64 = 2654435761;
+    let mut k: usize = 0;
+    while k < 16 {
+        if large {
+            if let Outcome::Done(lim) = many(s, table, from, n, a) {
+                return lim;
+            }
+        } else if let Outcome::Done(lim) = few(s, table, from, n, a) {
+            return lim;
+        }
+        a = fresh_key(s, table, from, n, a);
+        k += 1;
+    }
+    scan(s, table, from, n)
+}
+
+// The first of the n items from `from` on that repeats one before it, or n. A function that is called twice is not merged into this one: the
+// filters' frames stay out of it, since most tables need none.
 pub fn first_repeat(s: &[u8], table: Table, from: usize, n: usize) -> usize
     requires { ⌜ Items (formatIn table) n (now s) from ⌝ }
     ensures { λ q. ⌜ FirstRepeat table (now (s .entry)) from n q ⌝ }
 {
-    if n < 40 {
+    if n < FEW {
         return scan(s, table, from, n);
     }
-    let mut a: u64 = 2654435761;
-    if let Outcome::Done(lim) = filtered(s, table, from, n, a) {
-        return lim;
+    if n < MANY {
+        return searched(s, table, from, n, false);
     }
-    let mut k: usize = 1;
-    while k < 16 {
-        a = fresh_key(s, table, from, n, a);
-        if let Outcome::Done(lim) = filtered(s, table, from, n, a) {
-            return lim;
-        }
-        k += 1;
-    }
-    scan(s, table, from, n)
+    searched(s, table, from, n, true)
 }

@@ -3,8 +3,8 @@ use Rattle.repeats.proofs.Filters.{firsts, Firsts, firsts-start, firsts
 use Prim.Native.Nat.{_+_, _/_, _-_, _≤_, _<_}
 use native.Mathlib.Nat.{div-le-self}
 use native.Mathlib.Omega.{arith}
-use Rattle.repeats.proofs.filtered.Statement.{statement}
-use Rattle.repeats.proofs.filtered.Tie as tie
+use Rattle.repeats.proofs.many.Statement.{statement}
+use Rattle.repeats.proofs.many.Tie as tie
 
 abbrev Inv-loop : tie.InvT-loop
 Inv-loop s table from n a parts classes lim₀ lo₀ lim lo = (Firsts a table s from n lo lim) × (0 < classes) × (classes ≤ 65537)
@@ -27,8 +27,8 @@ loop-holds c = (firsts-start, omega arith, omega (arith, div-le-self 65536 (c .b
 add-hi : tie.Need-add-hi Inv-loop μ-loop
 add-hi c = search (needs, firsts)
 
-pass-requires : tie.Need-pass-requires Inv-loop μ-loop
-pass-requires c κs = (firsts-items ((c .before .loop) .inv .0) ((c .before .before .before .pre) .0), (c .before .before .before .pre) .1)
+large-pass-requires : tie.Need-large-pass-requires Inv-loop μ-loop
+large-pass-requires c κs = (firsts-items ((c .before .loop) .inv .0) ((c .before .before .before .pre) .0), (c .before .before .before .pre) .1)
 
 enum-known-q : tie.Need-enum-known-q Inv-loop μ-loop
 enum-known-q c = search (needs, firsts)
@@ -48,5 +48,5 @@ loop-again c = search (needs, firsts)
 returns-2 : tie.Need-returns-2 Inv-loop μ-loop
 returns-2 c = search (needs, firsts)
 
-pub filtered-spec : {M : Type 1} → statement M
-filtered-spec = tie.close (tie.spec Inv-loop μ-loop add-parts div-classes add-classes loop-holds add-hi pass-requires enum-known-q enum-told returns loop-less loop-again returns-2)
+pub many-spec : {M : Type 1} → statement M
+many-spec = tie.close (tie.spec Inv-loop μ-loop add-parts div-classes add-classes loop-holds add-hi large-pass-requires enum-known-q enum-told returns loop-less loop-again returns-2)

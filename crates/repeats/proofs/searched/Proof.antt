@@ -1,0 +1,78 @@
+use borrow.Author.Needs.{needs}
+use Rattle.repeats.proofs.Filters.{firsts}
+use Prim.Native.Nat.{_-_, _<_}
+use Rattle.repeats.proofs.searched.Statement.{statement}
+use Rattle.repeats.proofs.searched.Tie as tie
+
+abbrev Inv-loop : tie.InvT-loop
+Inv-loop s table from n large a₀ k₀ a k = a < 4294967296
+
+abbrev μ-loop : tie.MeasureT-loop
+μ-loop s table from n large a₀ k₀ a k = 16 - k
+
+loop-holds : tie.Need-loop-holds Inv-loop μ-loop
+loop-holds c = search (needs, firsts)
+
+many-requires : tie.Need-many-requires Inv-loop μ-loop
+many-requires c κs = search (needs, firsts)
+
+enum-known-lim : tie.Need-enum-known-lim Inv-loop μ-loop
+enum-known-lim c = search (needs, firsts)
+
+returns : tie.Need-returns Inv-loop μ-loop
+returns c = search (needs, firsts)
+
+enum-told : tie.Need-enum-told Inv-loop μ-loop
+enum-told c = search (needs, firsts)
+
+few-requires : tie.Need-few-requires Inv-loop μ-loop
+few-requires c κs = search (needs, firsts)
+
+enum-known-lim-2 : tie.Need-enum-known-lim-2 Inv-loop μ-loop
+enum-known-lim-2 c = search (needs, firsts)
+
+returns-2 : tie.Need-returns-2 Inv-loop μ-loop
+returns-2 c = search (needs, firsts)
+
+enum-told-2 : tie.Need-enum-told-2 Inv-loop μ-loop
+enum-told-2 c = search (needs, firsts)
+
+fresh-key-requires : tie.Need-fresh-key-requires Inv-loop μ-loop
+fresh-key-requires c κs = search (needs, firsts)
+
+add-k : tie.Need-add-k Inv-loop μ-loop
+add-k c = search (needs, firsts)
+
+loop-less : tie.Need-loop-less Inv-loop μ-loop
+loop-less c = search (needs, firsts)
+
+loop-again : tie.Need-loop-again Inv-loop μ-loop
+loop-again c = search (needs, firsts)
+
+scan-requires : tie.Need-scan-requires Inv-loop μ-loop
+scan-requires c κs = search (needs, firsts)
+
+returns-3 : tie.Need-returns-3 Inv-loop μ-loop
+returns-3 c = search (needs, firsts)
+
+pub searched-spec : {M : Type 1} → statement M
+searched-spec =
+    tie.close
+    (tie.spec
+    Inv-loop
+    μ-loop
+    loop-holds
+    many-requires
+    enum-known-lim
+    returns
+    enum-told
+    few-requires
+    enum-known-lim-2
+    returns-2
+    enum-told-2
+    fresh-key-requires
+    add-k
+    loop-less
+    loop-again
+    scan-requires
+    returns-3)
