@@ -167,7 +167,7 @@ pub fn repeats() -> Vec<Vec<u8>> {
     out
 }
 
-/// Each table with 40 names, new and with a repeat: from there on the reader searches by a filter. Once with names of one
+/// Each table with 40 names, new and with a repeat: of so many the reader searches by a filter. Once with names of one
 /// hash, for which it takes another key.
 fn wide_tables() -> Vec<Vec<u8>> {
     let mut out = Vec::new();
