@@ -5,8 +5,8 @@ use mathlib.Core.List.{List, [], _∷_, _++_}
 use mathlib.Core.Bool.{Bool, true, false, not}
 use native.Mathlib.Omega.{arith}
 use native.Mathlib.Nat.{zero-add}
-use lib.ListN.{length, drop}
-use lib.Seq.{sets-eq}
+use lib.ListN.{length, take, drop}
+use lib.Seq.{sets-eq, paste, take-append-seam}
 use lib.Dec.{T, leb, eqb, leb→le, nleb→lt}
 use borrow.Author.Tests.{le-leb, lt-leb, eq-eqb, ne-eqb}
 use Rattle.format.specs.Trace.{wrong, Trace, guard, refused, taken, settle, pick}
@@ -151,6 +151,53 @@ closed-as p b room c = go (leb (c .at) room) (leb→le _ _) (nleb→lt _ _)
     go true x y = fits (x tt)
     go false x y = short (y tt)
 
+-- a pass over a tape that has the room writes the record
+written : {f : Format} {s : List ℕ} {p b : ℕ} {tape : List ℕ} {v : Value} {q l : ℕ} {r : Step} {t₂ : List ℕ} → settle b (trace f s p) ≡ taken v q l → length (words f v) ≤ length tape → Reads f s (Taken (from p b)) tape r t₂ → t₂ ≡ words f v ++ drop (length (words f v)) tape
+written {f} {tape = tape} {v = v} i h (takes {v = u} k) =
+    let e : v ≡ u = cc (i, k .settles) in
+    let m : 0 + length (words f v) ≤ length tape = omega arith in
+    k .writes ∙ rw (← e) (sets-eq (words f v) tape 0 m ∙ rw zero-add)
+written i h (refuses k) = let z : _≡_ {A = ℕ} 0 1 = cc (i, k .settles) in absurd (omega arith)
+
+-- What a call that takes w words leaves on the tape: they are the record's.
+record Recorded (f : Format) (s : List ℕ) (p b : ℕ) (r₀ : Step) (tape : List ℕ) (w : ℕ) (t₂ : List ℕ) : Type 0 where
+  is : (v : Value) (k o : ℕ) → r₀ ≡ Taken (from p b) → settle b (trace f s p) ≡ taken v k o → length (words f v) ≤ length tape → w ≡ length (words f v) → t₂ ≡ words f v ++ drop (length (words f v)) tape
+
+module _ {f : Format} {s : List ℕ} {p b : ℕ} {r₀ r : Step} {tape t₂ : List ℕ} {w : ℕ} where
+  -- two passes: the second writes the record
+  twice : Reads f s r₀ tape r t₂ → Recorded f s p b r₀ tape w t₂
+  twice z = record { is = λ v k o e i h j. written i h (rw e at z) }
+
+  -- one pass, over a tape of its own with a word for each byte: what it has written is copied
+  once : {e e′ : List ℕ} → p ≤ length s → length s ≤ length e → Reads f s r₀ e r e′ → t₂ ≡ paste tape 0 e′ w → Recorded f s p b r₀ tape w t₂
+  once {e} {e′} h m z y =
+      record {
+        is =
+            λ v k o x i g j.
+            let a = settle-taken b (trace f s p) v k o .0 i in
+            let l = trace-place f s p (a .0) in
+            let n : length (words f v) ≤ length e = omega (arith, l .0, l .1 h) in
+            let u : e′ ≡ words f v ++ drop (length (words f v)) e = written i n (rw x at z) in
+            y ∙ rw (u, j, take-append-seam, zero-add);
+      }
+
+closed-taken : (p b room : ℕ) (r : Step) {q : Answer} {w i n l : ℕ} → q ≡ closed p b room r → q ≡ Answer.Taken w i n l → (c : Cursor) × (r ≡ Taken c) × (w ≡ c .at) × (c .at ≤ room)
+closed-taken p b room (Refused x) e j = let no : _≡_ {A = ℕ} 0 1 = cc in absurd (omega arith)
+closed-taken p b room (Taken c) {w = w} e j = go (closed-as p b room c) (sym e ∙ j)
+  where
+    go : {a : Answer} {i n l : ℕ} → Closed p b room c a → a ≡ Answer.Taken w i n l → (d : Cursor) × (Taken c ≡ Taken d) × (w ≡ d .at) × (d .at ≤ room)
+    go (fits h) j = (c, refl, cc, h)
+    go (short h) j = let no : _≡_ {A = ℕ} 0 1 = cc in absurd (omega arith)
+
+ended-taken : (n : ℕ) (r : Step) {c : Cursor} → ended n r ≡ Taken c → r ≡ Taken c
+unfolding pick
+ended-taken n (Refused x) e = e
+ended-taken n (Taken d) {c} e = go _ (eqb (d .place) n) e
+  where
+    go : (x : Refusal) (b : Bool) → pick b (Taken d) (Refused x) ≡ Taken c → Taken d ≡ Taken c
+    go x true e = e
+    go x false e = let no : _≡_ {A = ℕ} 0 1 = cc in absurd (omega arith)
+
 module _ (f : Format) (t : Trace Value) (p b : ℕ) (tape : List ℕ) where
   closing-denied : {x : Refusal} → settle b t ≡ refused (wrongOf x) (x .place) (x .left) → vob.closing f p b tape (settle b t) ≡ record { answer = answerOf (Answer.Refused x); tape = tape }
   closing-denied i = ap (vob.closing f p b tape) i
@@ -174,22 +221,14 @@ module _ (f : Format) (t : Trace Value) (p b : ℕ) (tape : List ℕ) where
   refused-so (denied {x = y} i) e j = closing-denied i ∙ rw e
   refused-so (passed {c = c} o i k m) e j = rw e (short-so i m (closed-as p b (length tape) c) (sym e ∙ j))
 
-  -- taken: the second pass writes the record
-  written : {s : List ℕ} {v : Value} {q l : ℕ} {r : Step} {t₂ : List ℕ} → settle b (trace f s p) ≡ taken v q l → length (words f v) ≤ length tape → Reads f s (Taken (from p b)) tape r t₂ → t₂ ≡ words f v ++ drop (length (words f v)) tape
-  written {v = v} i h (takes {v = u} k) =
-      let e : v ≡ u = cc (i, k .settles) in
-      let m : 0 + length (words f v) ≤ length tape = omega arith in
-      k .writes ∙ rw (← e) (sets-eq (words f v) tape 0 m ∙ rw zero-add)
-  written i h (refuses k) = let z : _≡_ {A = ℕ} 0 1 = cc (i, k .settles) in absurd (omega arith)
+  fits-so : {v : Value} {c : Cursor} {q : Answer} {t₂ : List ℕ} {w n m l : ℕ} → settle b t ≡ taken v (c .place) (c .left) → c .at ≡ length (words f v) → Closed p b (length tape) c q → q ≡ Answer.Taken w n m l
+      → (length (words f v) ≤ length tape → w ≡ length (words f v) → t₂ ≡ words f v ++ drop (length (words f v)) tape) → vob.closing f p b tape (settle b t) ≡ record { answer = answerOf q; tape = t₂ }
+  fits-so i j (short h) e z = let no : _≡_ {A = ℕ} 0 1 = cc in absurd (omega arith)
+  fits-so i j (fits h) e z = closing-fits i j h ∙ rw (z (omega arith) (cc))
 
-  fits-so : {s : List ℕ} {v : Value} {c : Cursor} {q : Answer} {r : Step} {t₂ : List ℕ} {w n m l : ℕ} → settle b t ≡ taken v (c .place) (c .left) → settle b (trace f s p) ≡ taken v (c .place) (c .left) → c .at ≡ length (words f v)
-      → Closed p b (length tape) c q → q ≡ Answer.Taken w n m l → Reads f s (Taken (from p b)) tape r t₂ → vob.closing f p b tape (settle b t) ≡ record { answer = answerOf q; tape = t₂ }
-  fits-so i k j (short h) e z = let no : _≡_ {A = ℕ} 0 1 = cc in absurd (omega arith)
-  fits-so {v = v} i k j (fits h) e z = closing-fits i j h ∙ rw (written k (omega arith) z)
-
-  taken-so : {s : List ℕ} {r₀ r r₂ : Step} {q : Answer} {t₂ : List ℕ} {w n m l : ℕ} → Passed f t s p b r₀ r → q ≡ closed p b (length tape) r → q ≡ Answer.Taken w n m l → Reads f s r₀ tape r₂ t₂ → vob.closing f p b tape (settle b t) ≡ record { answer = answerOf q; tape = t₂ }
+  taken-so : {s : List ℕ} {r₀ r : Step} {q : Answer} {t₂ : List ℕ} {w n m l : ℕ} → Passed f t s p b r₀ r → q ≡ closed p b (length tape) r → q ≡ Answer.Taken w n m l → Recorded f s p b r₀ tape w t₂ → vob.closing f p b tape (settle b t) ≡ record { answer = answerOf q; tape = t₂ }
   taken-so (denied i) e j z = let no : _≡_ {A = ℕ} 0 1 = cc in absurd (omega arith)
-  taken-so {s} {r₀} {r} {r₂} {q} {t₂} (passed {c = c} o i k m) e j z = rw e (fits-so i k m (closed-as p b (length tape) c) (sym e ∙ j) (rw o at z))
+  taken-so (passed {c = c} o i k m) e j z = rw e (fits-so i m (closed-as p b (length tape) c) (sym e ∙ j) (z .is _ _ _ o k))
 
 nil : (e : List ℕ) → length e ≡ 0 → e ≡ []
 nil [] h = refl
@@ -211,7 +250,7 @@ module _ (n : ℕ) (x : Section) {s : List ℕ} {p b : ℕ} {r₀ r : Step} {t�
 
     pub section-taken : {w i c l : ℕ} {r₂ : Step} {t₂ : List ℕ} → q ≡ Answer.Taken w i c l → Reader (section settings n x) s r₀ (e ++ t) r₂ t₂ → SectionCall n x s p b t q t₂
     unfolding vob.sectionOutcome
-    section-taken j k₂ = let i = nil e z in record { is = taken-so _ _ p b t section-passed (m .is ∙ rw i) j (rw i at (k₂ .reads)) }
+    section-taken j k₂ = let i = nil e z in record { is = taken-so _ _ p b t section-passed (m .is ∙ rw i) j (twice (rw i at (k₂ .reads))) }
 
 -- ---- the call on a whole pack
 
@@ -233,4 +272,21 @@ module _ {s : List ℕ} {b : ℕ} {r₀ r : Step} {t₀ e : List ℕ} (o : Opens
 
       pub read-taken : {w i c l : ℕ} {r₂ : Step} {t₂ : List ℕ} → q ≡ Answer.Taken w i c l → Reader (pack settings) s r₀ (e ++ t) r₂ t₂ → ReadCall s b t q t₂
       unfolding vob.readOutcome
-      read-taken j k₂ = let i = nil e z in record { is = taken-so _ _ 0 b t read-passed (m .is ∙ rw i) j (rw i at (k₂ .reads)) }
+      read-taken j k₂ = let i = nil e z in record { is = taken-so _ _ 0 b t read-passed (m .is ∙ rw i) j (twice (rw i at (k₂ .reads))) }
+
+    -- a pack has no more words than bytes, and a call that takes it has the room
+    pub read-room : {room : ℕ} {q : Answer} {w i n l : ℕ} → Closes 0 b room r′ q → q ≡ Answer.Taken w i n l → (w ≤ length s) × (w ≤ room)
+    read-room {room} m j =
+        let d = closed-taken 0 b room r′ (m .is) j in
+        let y : ReadyAt s (d .0) = rw (ended-taken (length s) r (sym (g .is) ∙ d .1)) at (k .ready) in
+        (omega (arith, y .behind, y .within, d .2), omega (arith, d .2, d .3))
+
+    -- a small pack: read once, over a tape of its own
+    module _ {t : List ℕ} {q : Answer} (m : Closes 0 b (length t) r′ q) where
+      pub small-refused : {y : Refusal} → q ≡ Answer.Refused y → ReadCall s b t q t
+      unfolding vob.readOutcome
+      small-refused j = record { is = refused-so _ _ 0 b t read-passed (m .is) j }
+
+      pub small-taken : {w i c l : ℕ} {t₂ : List ℕ} → length s ≤ length t₀ → q ≡ Answer.Taken w i c l → t₂ ≡ paste t 0 e w → ReadCall s b t (Answer.Taken w i c l) t₂
+      unfolding vob.readOutcome
+      small-taken {t₂ = t₂} h j y = let a : ReadCall s b t q t₂ = record { is = taken-so _ _ 0 b t read-passed (m .is) j (once (omega arith) h (k .reads) y) } in rw j at a

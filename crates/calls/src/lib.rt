@@ -1,5 +1,9 @@
 // What the public calls share: the questions before a first pass, the question of room after it, and their contracts.
 // A call reads twice by the same code: first with an empty tape, which counts the words, then, where there is room, with the tape.
+ghost use mathlib.Core.Path.{_≡_};
+ghost use Prim.Native.Nat.{_≤_};
+ghost use lib.ListN.{length};
+ghost use lib.Seq.{paste};
 ghost use Rattle.calls.specs.Call.{Opens, Since, Within, Ends, Closes};
 use reader::Cursor;
 use reader::Refusal;
@@ -98,5 +102,17 @@ pub fn closed(first: Step, place: usize, budget: u64, room: usize) -> Answer
                 left: c.left,
             }
         }
+    }
+}
+
+// The first n words of a tape, to another.
+pub fn copy_words(from: &[u32], n: usize, to: &mut [u32])
+    requires { ⌜ (n ≤ length (now from)) × (n ≤ length (now to)) ⌝ }
+    ensures { λ q. ⌜ now (to .exit) ≡ paste (now (to .entry)) 0 (now (from .entry)) n ⌝ }
+{
+    let mut i = 0;
+    while i < n {
+        to[i] = from[i];
+        i += 1;
     }
 }

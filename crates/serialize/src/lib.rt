@@ -1,6 +1,8 @@
 // The public calls on a whole pack: reading it under a budget, and the lookup of an artifact.
 // Port the callers' side of Module::deserialize and Module::artifact; the budget and the tape are added.
-ghost use Rattle.calls.specs.Call.{ReadCall};
+ghost use Prim.Native.Nat.{_≤_};
+ghost use lib.ListN.{length};
+ghost use Rattle.calls.specs.Call.{Opens, ReadCall};
 ghost use Rattle.serialize.specs.Find.{Whole, Located, LocateCall, FindCall};
 use calls::Answer;
 use lookup::Found;
@@ -10,11 +12,33 @@ use reader::Step;
 // The Rust's own, under which the lookup reads.
 const STARTING_BUDGET: u64 = 536_870_912;
 
+// A pack of at most so many bytes, and so of no more words, is read once.
+const SMALL: usize = 128;
+
+// A small pack: its words go to a tape of the call's own, and are copied where it is taken.
+fn read_small(pack: &[u8], start: Step, budget: u64, tape: &mut [u32]) -> Answer
+    requires { ⌜ (length (now pack) ≤ 128) × Opens (now pack) 0 budget start ⌝ }
+    ensures { λ q. ⌜ ReadCall (now (pack .entry)) budget (now (tape .entry)) q (now (tape .exit)) ⌝ }
+{
+    let mut own = [0u32; SMALL];
+    let only = deserialize::deserialize(pack, start, &mut own);
+    let ended = calls::ended(only, pack.len());
+    let answer = calls::closed(ended, 0, budget, tape.len());
+    let Answer::Taken { words, .. } = answer else {
+        return answer;
+    };
+    calls::copy_words(&own, words, tape);
+    answer
+}
+
 // A pack under a budget. Taken, the tape's counted words are the record; refused, the tape is as it was.
 pub fn read(pack: &[u8], budget: u64, tape: &mut [u32]) -> Answer
     ensures { λ q. ⌜ ReadCall (now (pack .entry)) budget (now (tape .entry)) q (now (tape .exit)) ⌝ }
 {
     let start = calls::opening(pack, 0, budget);
+    if pack.len() <= SMALL {
+        return read_small(pack, start, budget, tape);
+    }
     let first = deserialize::deserialize(pack, start, &mut tape[..0]);
     let end = calls::ended(first, pack.len());
     let answer = calls::closed(end, 0, budget, tape.len());

@@ -6,6 +6,15 @@ use Rattle.serialize.proofs.read.Tie as tie
 opening-requires : tie.Need-opening-requires
 opening-requires c κs = search needs
 
+read-small-requires : tie.Need-read-small-requires
+read-small-requires c κs = search needs
+
+same-length : tie.Need-same-length
+same-length c = search needs
+
+returns : tie.Need-returns
+returns c = search needs
+
 slice-relend-prefix-deserialize : tie.Need-slice-relend-prefix-deserialize
 slice-relend-prefix-deserialize c = search needs
 
@@ -16,10 +25,10 @@ deserialize-requires : tie.Need-deserialize-requires
 deserialize-requires c κs = search needs
 
 ended-requires : tie.Need-ended-requires
-ended-requires c κs = read-within ((c .before .before .before .before .opening) .ensures) ((c .before .before .deserialize) .ensures)
+ended-requires c κs = read-within ((c .before .before .before .before .before .opening) .ensures) ((c .before .before .deserialize) .ensures)
 
 closed-requires : tie.Need-closed-requires
-closed-requires c κs = read-since ((c .before .before .before .before .before .opening) .ensures) ((c .before .before .before .deserialize) .ensures) ((c .ended) .ensures)
+closed-requires c κs = read-since ((c .before .before .before .before .before .before .opening) .ensures) ((c .before .before .before .deserialize) .ensures) ((c .ended) .ensures)
 
 enum-told : tie.Need-enum-told
 enum-told c = search needs
@@ -27,26 +36,29 @@ enum-told c = search needs
 enum-told-2 : tie.Need-enum-told-2
 enum-told-2 c = search needs
 
-same-length : tie.Need-same-length
-same-length c = search needs
-
-returns : tie.Need-returns
-returns c = read-refused ((c .before .before .before .before .before .before .before .before .opening) .ensures) ((c .before .before .before .before .before .before .deserialize) .ensures) ((c .before .before .before .ended) .ensures) (search needs) ((c .before .before .closed) .ensures) ((c .enum-told2) .given .1)
-
-deserialize-requires-2 : tie.Need-deserialize-requires-2
-deserialize-requires-2 c κs = search needs
-
 same-length-2 : tie.Need-same-length-2
 same-length-2 c = search needs
 
 returns-2 : tie.Need-returns-2
-returns-2 c = read-taken ((c .before .before .before .before .before .before .before .before .before .before .before .before .opening) .ensures) ((c .before .before .before .before .before .before .before .before .before .before .deserialize) .ensures) ((c .before .before .before .before .before .before .before .ended) .ensures) (search needs) ((c .before .before .before .before .before .before .closed) .ensures) ((c .before .before .before .before .enum-told) .given .1) ((c .before .before .deserialize2) .ensures)
+returns-2 c = read-refused ((c .before .before .before .before .before .before .before .before .before .opening) .ensures) ((c .before .before .before .before .before .before .deserialize) .ensures) ((c .before .before .before .ended) .ensures) (search needs) ((c .before .before .closed) .ensures) ((c .enum-told2) .given .1)
+
+deserialize-requires-2 : tie.Need-deserialize-requires-2
+deserialize-requires-2 c κs = search needs
+
+same-length-3 : tie.Need-same-length-3
+same-length-3 c = search needs
+
+returns-3 : tie.Need-returns-3
+returns-3 c = read-taken ((c .before .before .before .before .before .before .before .before .before .before .before .before .before .opening) .ensures) ((c .before .before .before .before .before .before .before .before .before .before .deserialize) .ensures) ((c .before .before .before .before .before .before .before .ended) .ensures) (search needs) ((c .before .before .before .before .before .before .closed) .ensures) ((c .before .before .before .before .enum-told) .given .1) ((c .before .before .deserialize2) .ensures)
 
 pub read-spec : {M : Type 1} → statement M
 read-spec =
     tie.close
     (tie.spec
     opening-requires
+    read-small-requires
+    same-length
+    returns
     slice-relend-prefix-deserialize
     slice-aggregate-deserialize
     deserialize-requires
@@ -54,8 +66,8 @@ read-spec =
     closed-requires
     enum-told
     enum-told-2
-    same-length
-    returns
-    deserialize-requires-2
     same-length-2
-    returns-2)
+    returns-2
+    deserialize-requires-2
+    same-length-3
+    returns-3)

@@ -1,0 +1,54 @@
+use Rattle.calls.proofs.Laws.{read-within, read-since, read-room, small-refused, small-taken}
+use native.Mathlib.Omega.{arith}
+use borrow.Author.Needs.{needs}
+use Rattle.serialize.proofs.read_small.Statement.{statement}
+use Rattle.serialize.proofs.read_small.Tie as tie
+
+slice-aggregate-deserialize : tie.Need-slice-aggregate-deserialize
+slice-aggregate-deserialize c = search needs
+
+deserialize-requires : tie.Need-deserialize-requires
+deserialize-requires c κs = search needs
+
+ended-requires : tie.Need-ended-requires
+ended-requires c κs = read-within ((c .before .before .before .before .before .pre) .1) ((c .before .deserialize) .ensures)
+
+closed-requires : tie.Need-closed-requires
+closed-requires c κs = read-since ((c .before .before .before .before .before .before .pre) .1) ((c .before .before .deserialize) .ensures) ((c .ended) .ensures)
+
+enum-known-answer : tie.Need-enum-known-answer
+enum-known-answer c = search needs
+
+enum-told : tie.Need-enum-told
+enum-told c = search needs
+
+returns : tie.Need-returns
+returns c = small-refused ((c .before .before .before .before .before .before .before .before .before .pre) .1) ((c .before .before .before .before .before .deserialize) .ensures) ((c .before .before .before .ended) .ensures) ((c .before .before .closed) .ensures) ((c .enum-told) .given .1)
+
+slice-aggregate-copy-words : tie.Need-slice-aggregate-copy-words
+slice-aggregate-copy-words c = search needs
+
+copy-words-requires : tie.Need-copy-words-requires
+copy-words-requires c κs = let h = read-room ((c .before .before .before .before .before .before .before .before .before .before .before .before .pre) .1) ((c .before .before .before .before .before .before .before .before .deserialize) .ensures) ((c .before .before .before .before .before .before .ended) .ensures) ((c .before .before .before .before .before .closed) .ensures) ((c .before .before .before .answer) .given .1) in (omega (arith, h .0, (c .before .before .before .before .before .before .before .before .before .before .before .before .pre) .0), h .1)
+
+same-length : tie.Need-same-length
+same-length c = search needs
+
+returns-2 : tie.Need-returns-2
+returns-2 c = small-taken ((c .before .before .before .before .before .before .before .before .before .before .before .before .before .before .before .pre) .1) ((c .before .before .before .before .before .before .before .before .before .before .before .deserialize) .ensures) ((c .before .before .before .before .before .before .before .before .before .ended) .ensures) ((c .before .before .before .before .before .before .before .before .closed) .ensures) (omega (arith, (c .before .before .before .before .before .before .before .before .before .before .before .before .before .before .before .pre) .0)) ((c .before .before .before .before .before .before .answer) .given .1) ((c .before .before .copy-words) .ensures)
+
+pub read-small-spec : {M : Type 1} → statement M
+read-small-spec =
+    tie.close
+    (tie.spec
+    slice-aggregate-deserialize
+    deserialize-requires
+    ended-requires
+    closed-requires
+    enum-known-answer
+    enum-told
+    returns
+    slice-aggregate-copy-words
+    copy-words-requires
+    same-length
+    returns-2)
