@@ -67,6 +67,13 @@ module _ {p b room : ℕ} {r : Step} where
   unfolding pick
   closes-taken e h = record { is = rw (e, le-leb _ _ h) }
 
+module _ {n p b : ℕ} {r r′ : Step} (g : Ends n r r′) where
+  pub since-ended : Since p b (ended n r) → Since p b r′
+  since-ended h = rw (g .is) h
+
+  pub closes-ended : {room : ℕ} {q : Answer} → Closes p b room r′ q → Closes p b room (ended n r) q
+  closes-ended {room} m = record { is = m .is ∙ ap (closed p b room) (g .is) }
+
 pub ruleset questions = (opens-long, opens-past, opens-at, ends-refused, ends-at, ends-past, closes-refused, closes-short, closes-taken)
 
 -- ---- the passes
@@ -258,35 +265,37 @@ module _ {s : List ℕ} {b : ℕ} {r₀ r : Step} {t₀ e : List ℕ} (o : Opens
   pub read-within : Within (length s) r
   read-within = record { place = λ c i. let y : ReadyAt s c = rw i at (k .ready) in y .within }
 
-  module _ {r′ : Step} (g : Ends (length s) r r′) where
-    pub read-passed : Passed (pack settings) (vob.wholeTrace settings s) s 0 b r₀ r′
-    read-passed = rw (g .is) (whole-cases s b (rw (o .is) (opened-as s 0 b)) (k .reads))
+  pub read-passed : {r′ : Step} → Ends (length s) r r′ → Passed (pack settings) (vob.wholeTrace settings s) s 0 b r₀ r′
+  read-passed g = rw (g .is) (whole-cases s b (rw (o .is) (opened-as s 0 b)) (k .reads))
 
-    pub read-since : Since 0 b r′
-    read-since = passed-since read-passed
+  whole-passed : Passed (pack settings) (vob.wholeTrace settings s) s 0 b r₀ (ended (length s) r)
+  whole-passed = read-passed record { is = refl }
 
-    module _ {t : List ℕ} {q : Answer} (z : length e ≡ 0) (m : Closes 0 b (length (e ++ t)) r′ q) where
-      pub read-refused : {y : Refusal} → q ≡ Answer.Refused y → ReadCall s b t q (e ++ t)
-      unfolding vob.readOutcome
-      read-refused j = let i = nil e z in record { is = rw i (refused-so _ _ 0 b t read-passed (m .is ∙ rw i) j) }
+  pub read-since : Since 0 b (ended (length s) r)
+  read-since = passed-since whole-passed
 
-      pub read-taken : {w i c l : ℕ} {r₂ : Step} {t₂ : List ℕ} → q ≡ Answer.Taken w i c l → Reader (pack settings) s r₀ (e ++ t) r₂ t₂ → ReadCall s b t q t₂
-      unfolding vob.readOutcome
-      read-taken j k₂ = let i = nil e z in record { is = taken-so _ _ 0 b t read-passed (m .is ∙ rw i) j (twice (rw i at (k₂ .reads))) }
+  module _ {t : List ℕ} {q : Answer} (z : length e ≡ 0) (m : Closes 0 b (length (e ++ t)) (ended (length s) r) q) where
+    pub read-refused : {y : Refusal} → q ≡ Answer.Refused y → ReadCall s b t q (e ++ t)
+    unfolding vob.readOutcome
+    read-refused j = let i = nil e z in record { is = rw i (refused-so _ _ 0 b t whole-passed (m .is ∙ rw i) j) }
 
-    -- a pack has no more words than bytes, and a call that takes it has the room
-    pub read-room : {room : ℕ} {q : Answer} {w i n l : ℕ} → Closes 0 b room r′ q → q ≡ Answer.Taken w i n l → (w ≤ length s) × (w ≤ room)
-    read-room {room} m j =
-        let d = closed-taken 0 b room r′ (m .is) j in
-        let y : ReadyAt s (d .0) = rw (ended-taken (length s) r (sym (g .is) ∙ d .1)) at (k .ready) in
-        (omega (arith, y .behind, y .within, d .2), omega (arith, d .2, d .3))
+    pub read-taken : {w i c l : ℕ} {r₂ : Step} {t₂ : List ℕ} → q ≡ Answer.Taken w i c l → Reader (pack settings) s r₀ (e ++ t) r₂ t₂ → ReadCall s b t q t₂
+    unfolding vob.readOutcome
+    read-taken j k₂ = let i = nil e z in record { is = taken-so _ _ 0 b t whole-passed (m .is ∙ rw i) j (twice (rw i at (k₂ .reads))) }
 
-    -- a small pack: read once, over a tape of its own
-    module _ {t : List ℕ} {q : Answer} (m : Closes 0 b (length t) r′ q) where
-      pub small-refused : {y : Refusal} → q ≡ Answer.Refused y → ReadCall s b t q t
-      unfolding vob.readOutcome
-      small-refused j = record { is = refused-so _ _ 0 b t read-passed (m .is) j }
+  -- a pack has no more words than bytes, and a call that takes it has the room
+  pub read-room : {room : ℕ} {q : Answer} {w i n l : ℕ} → Closes 0 b room (ended (length s) r) q → q ≡ Answer.Taken w i n l → (w ≤ length s) × (w ≤ room)
+  read-room {room} m j =
+      let d = closed-taken 0 b room (ended (length s) r) (m .is) j in
+      let y : ReadyAt s (d .0) = rw (ended-taken (length s) r (d .1)) at (k .ready) in
+      (omega (arith, y .behind, y .within, d .2), omega (arith, d .2, d .3))
 
-      pub small-taken : {w i c l : ℕ} {t₂ : List ℕ} → length s ≤ length t₀ → q ≡ Answer.Taken w i c l → t₂ ≡ paste t 0 e w → ReadCall s b t (Answer.Taken w i c l) t₂
-      unfolding vob.readOutcome
-      small-taken {t₂ = t₂} h j y = let a : ReadCall s b t q t₂ = record { is = taken-so _ _ 0 b t read-passed (m .is) j (once (omega arith) h (k .reads) y) } in rw j at a
+  -- a small pack: read once, over a tape of its own
+  module _ {t : List ℕ} {q : Answer} (m : Closes 0 b (length t) (ended (length s) r) q) where
+    pub small-refused : {y : Refusal} → q ≡ Answer.Refused y → ReadCall s b t q t
+    unfolding vob.readOutcome
+    small-refused j = record { is = refused-so _ _ 0 b t whole-passed (m .is) j }
+
+    pub small-taken : {w i c l : ℕ} {t₂ : List ℕ} → length s ≤ length t₀ → q ≡ Answer.Taken w i c l → t₂ ≡ paste t 0 e w → ReadCall s b t (Answer.Taken w i c l) t₂
+    unfolding vob.readOutcome
+    small-taken {t₂ = t₂} h j y = let a : ReadCall s b t q t₂ = record { is = taken-so _ _ 0 b t whole-passed (m .is) j (once (omega arith) h (k .reads) y) } in rw j at a

@@ -4,7 +4,7 @@ ghost use mathlib.Core.Path.{_≡_};
 ghost use Prim.Native.Nat.{_≤_};
 ghost use lib.ListN.{length};
 ghost use lib.Seq.{paste};
-ghost use Rattle.calls.specs.Call.{Opens, Since, Within, Ends, Closes};
+ghost use Rattle.calls.specs.Call.{Opens, Since, Within, Ends, Closes, ended};
 use reader::Cursor;
 use reader::Refusal;
 use reader::Step;
@@ -115,4 +115,21 @@ pub fn copy_words(from: &[u32], n: usize, to: &mut [u32])
         to[i] = from[i];
         i += 1;
     }
+}
+
+// ---- the call on a whole pack
+
+pub fn opening_whole(pack: &[u8], budget: u64) -> Step
+    ensures { λ q. ⌜ Opens (now (pack .entry)) 0 budget q ⌝ }
+{
+    opening(pack, 0, budget)
+}
+
+pub fn closed_whole(first: Step, length: usize, budget: u64, room: usize) -> Answer
+    requires { ⌜ Within length first ⌝ }
+    requires { ⌜ Since 0 budget (ended length first) ⌝ }
+    ensures { λ q. ⌜ Closes 0 budget room (ended length first) q ⌝ }
+{
+    let end = ended(first, length);
+    closed(end, 0, budget, room)
 }

@@ -20,7 +20,7 @@ use Rattle.vob24.specs.Calls as vob
 use Rattle.reader.specs.declared.Cursor.{Cursor}
 use Rattle.items.specs.Walk.{Stands, valueAt, nextAt, itemsAt, parts, passed, items-more, items-none, stand-more}
 use Rattle.items.specs.Contract.{Items, WordIs}
-use Rattle.lookup.specs.Look.{IsName, Looks}
+use Rattle.lookup.specs.Look.{IsName, Looks, Counted, LooksFrom}
 use Rattle.lookup.specs.declared.Found.{Found}
 
 -- the length word of the payload of an artifact at p
@@ -153,3 +153,12 @@ module _ {s : List ℕ} {from n : ℕ} {name : List ℕ} {c : Cursor} where
   pub looking-done : {at k : ℕ} → Looking s from n name c at k → k ≤ 0 → Looks s from n name c (Found.Not (record { number = Refusals.noSuchArtifact; context = 0; detail1 = 0; detail2 = 0; place = c .place; left = c .left }))
   unfolding vob.lookIn
   looking-done {at} {k} h l = record { is = sym (h .rest ∙ rw (items-none (artifact settings) k s at l)); room = record { fits = λ p n i. let no : _≡_ {A = ℕ} 0 1 = cc in absurd (omega arith) } }
+
+-- ---- the count before the artifacts
+
+module _ {s : List ℕ} {p n : ℕ} (w : WordIs s p n) where
+  pub counted-items : Counted s p → Items (artifact settings) n s (p + 4)
+  counted-items h = rw (w .is) (h .items)
+
+  pub looks-from : {name : List ℕ} {c : Cursor} {q : Found} → Looks s (p + 4) n name c q → LooksFrom s p name c q
+  looks-from h = record { looks = rw (w .is) at h }

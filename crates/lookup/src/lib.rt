@@ -5,7 +5,7 @@ ghost use lib.ListN.{length};
 ghost use Rattle.vob24.specs.Settings.{settings};
 ghost use Rattle.vob24.specs.Grammar.{artifact};
 ghost use Rattle.items.specs.Contract.{Items};
-ghost use Rattle.lookup.specs.Look.{IsName, Looks};
+ghost use Rattle.lookup.specs.Look.{IsName, Looks, Counted, LooksFrom};
 use reader::Cursor;
 use reader::Refusal;
 use reader::numbers;
@@ -35,7 +35,7 @@ fn is_name(s: &[u8], p: usize, n: usize, name: &[u8]) -> bool
 }
 
 // The payload of the first of n artifacts from `from` on that has this name; 27 shows where the reading ended.
-pub fn look(s: &[u8], from: usize, n: usize, name: &[u8], end: Cursor) -> Found
+fn look(s: &[u8], from: usize, n: usize, name: &[u8], end: Cursor) -> Found
     requires { ⌜ Items (artifact settings) n (now s) from ⌝ }
     ensures { λ q. ⌜ Looks (now (s .entry)) from n (now (name .entry)) end q ⌝ }
 {
@@ -60,4 +60,13 @@ pub fn look(s: &[u8], from: usize, n: usize, name: &[u8], end: Cursor) -> Found
         place: end.place,
         left: end.left,
     })
+}
+
+// The same among the artifacts that a count at `at` says.
+pub fn look_from(s: &[u8], at: usize, name: &[u8], end: Cursor) -> Found
+    requires { ⌜ Counted (now s) at ⌝ }
+    ensures { λ q. ⌜ LooksFrom (now (s .entry)) at (now (name .entry)) end q ⌝ }
+{
+    let n = items::word_at(s, at);
+    look(s, at + 4, n, name, end)
 }

@@ -7,15 +7,15 @@ use lib.ListN.{length}
 use Rattle.format.specs.Trace.{refused, taken, settle}
 use Rattle.format.specs.Format.{Value, entries}
 use Rattle.format.specs.Reading.{little, part, trace}
-use Rattle.vob24.specs.Settings.{settings, maxPackBytes, startingBudget}
+use Rattle.vob24.specs.Settings.{settings, startingBudget}
 use Rattle.vob24.specs.Calls.{wholeTrace, findOutcome}
 use Rattle.vob24.specs.Grammar.{artifacts, pack, artifact}
 use Rattle.vob24.specs.Cost.{partOf}
 use Rattle.calls.specs.Call.{from, Opens, Ends}
 use Rattle.calls.proofs.Laws.{Passed, passed, denied, read-passed}
-use Rattle.lookup.specs.Look.{Looks}
+use Rattle.lookup.specs.Look.{Counted, LooksFrom}
 use Rattle.lookup.specs.declared.Found.{Found}
-use Rattle.items.specs.Contract.{Items, WordIs}
+use Rattle.items.specs.Contract.{Items}
 use Rattle.items.specs.Walk.{itemsAt}
 use Rattle.reader.specs.Contract.{wrongOf, Ready, Reader}
 use Rattle.reader.specs.declared.Cursor.{Cursor}
@@ -34,15 +34,11 @@ module _ {s : List ℕ} {r r′ : Step} {c : Cursor} (w : Whole s r c) (h : Reac
     at-artifacts : (v : Value) → On (pack settings) s v (c .place) (c .left) r → Items (artifact settings) (little (part s (a .place) 4)) s (a .place + 4) × (entries (partOf artifacts v) ≡ itemsAt (artifact settings) (little (part s (a .place) 4)) s (a .place + 4)) × (a .place + 4 ≤ length s)
     at-artifacts v o = let k = h .reach v (c .place) (c .left) o in let i : k .0 ≡ a = cc (k .1) in (rw i at (k .2), rw i at (k .3), rw i at (k .4))
 
-    pub located-room : (a .place + 4 ≤ length s) × (length s ≤ maxPackBytes)
-    located-room = let k = at-artifacts (w .value) (w .on) in (k .2, k .0 .small)
+    pub located-counted : Counted s (a .place)
+    located-counted = let k = at-artifacts (w .value) (w .on) in record { count = k .2; items = k .0 }
 
-    module _ {n : ℕ} (x : WordIs s (a .place) n) where
-      pub located-items : Items (artifact settings) n s (a .place + 4)
-      located-items = rw (x .is) (at-artifacts (w .value) (w .on) .0)
-
-      pub located-look : {name : List ℕ} {q : Found} → Looks s (a .place + 4) n name c q → Located s r name c q
-      located-look l = record { is = λ v o. l .is ∙ rw (x .is, at-artifacts v o .1); room = l .room }
+    pub located-look : {name : List ℕ} {q : Found} → LooksFrom s (a .place) name c q → Located s r name c q
+    located-look l = record { is = λ v o. l .looks .is ∙ rw (at-artifacts v o .1); room = l .looks .room }
 
 module _ {s : List ℕ} {r : Step} where
   whole-of : {b : ℕ} {c : Cursor} {r′ : Step} → Passed (pack settings) (wholeTrace settings s) s 0 b r r′ → r′ ≡ Taken c → Ready s r → (w : Whole s r c) × (settle b (wholeTrace settings s) ≡ taken (w .value) (c .place) (c .left))

@@ -21,9 +21,8 @@ fn read_small(pack: &[u8], start: Step, budget: u64, tape: &mut [u32]) -> Answer
     ensures { λ q. ⌜ ReadCall (now (pack .entry)) budget (now (tape .entry)) q (now (tape .exit)) ⌝ }
 {
     let mut own = [0u32; SMALL];
-    let only = deserialize::deserialize(pack, start, &mut own);
-    let ended = calls::ended(only, pack.len());
-    let answer = calls::closed(ended, 0, budget, tape.len());
+    let read = deserialize::deserialize(pack, start, &mut own);
+    let answer = calls::closed_whole(read, pack.len(), budget, tape.len());
     let Answer::Taken { words, .. } = answer else {
         return answer;
     };
@@ -35,13 +34,12 @@ fn read_small(pack: &[u8], start: Step, budget: u64, tape: &mut [u32]) -> Answer
 pub fn read(pack: &[u8], budget: u64, tape: &mut [u32]) -> Answer
     ensures { λ q. ⌜ ReadCall (now (pack .entry)) budget (now (tape .entry)) q (now (tape .exit)) ⌝ }
 {
-    let start = calls::opening(pack, 0, budget);
+    let start = calls::opening_whole(pack, budget);
     if pack.len() <= SMALL {
         return read_small(pack, start, budget, tape);
     }
     let first = deserialize::deserialize(pack, start, &mut tape[..0]);
-    let end = calls::ended(first, pack.len());
-    let answer = calls::closed(end, 0, budget, tape.len());
+    let answer = calls::closed_whole(first, pack.len(), budget, tape.len());
     let Answer::Taken { .. } = answer else {
         return answer;
     };
@@ -58,11 +56,7 @@ fn located(s: &[u8], r: Step, name: &[u8], end: Cursor) -> Found
     let at = deserialize::to_artifacts(s, r, &mut none[..0]);
     match at {
         Step::Refused(x) => Found::Not(x),
-        Step::Taken(a) => {
-            let place = a.place;
-            let n = items::word_at(s, place);
-            lookup::look(s, place + 4, n, name, end)
-        }
+        Step::Taken(a) => lookup::look_from(s, a.place, name, end),
     }
 }
 
@@ -71,7 +65,7 @@ pub fn locate_artifact(pack: &[u8], name: &[u8]) -> Found
     ensures { λ q. ⌜ LocateCall (now (pack .entry)) (now (name .entry)) q ⌝ }
 {
     let mut none = [0u32; 1];
-    let start = calls::opening(pack, 0, STARTING_BUDGET);
+    let start = calls::opening_whole(pack, STARTING_BUDGET);
     let first = deserialize::deserialize(pack, start, &mut none[..0]);
     let end = calls::ended(first, pack.len());
     match end {

@@ -4,8 +4,8 @@ use borrow.Author.Needs.{needs}
 use Rattle.serialize.proofs.locate_artifact.Statement.{statement}
 use Rattle.serialize.proofs.locate_artifact.Tie as tie
 
-opening-requires : tie.Need-opening-requires
-opening-requires c κs = search needs
+opening-whole-requires : tie.Need-opening-whole-requires
+opening-whole-requires c κs = search needs
 
 array-borrow-prefix-none : tie.Need-array-borrow-prefix-none
 array-borrow-prefix-none c = search needs
@@ -17,7 +17,7 @@ deserialize-requires : tie.Need-deserialize-requires
 deserialize-requires c κs = search needs
 
 ended-requires : tie.Need-ended-requires
-ended-requires c κs = read-within ((c .before .before .before .opening) .ensures) ((c .before .deserialize) .ensures)
+ended-requires c κs = read-within ((c .before .before .before .opening-whole) .ensures) ((c .before .deserialize) .ensures)
 
 enum-known-end : tie.Need-enum-known-end
 enum-known-end c = search needs
@@ -26,19 +26,19 @@ enum-known-end-2 : tie.Need-enum-known-end-2
 enum-known-end-2 c = search needs
 
 located-requires : tie.Need-located-requires
-located-requires c κs = locate-whole ((c .before .before .before .before .before .before .before .opening) .ensures) ((c .before .before .before .before .before .deserialize) .ensures) ((c .before .before .before .ended) .ensures) ((c .before .end2) .given .1)
+located-requires c κs = locate-whole ((c .before .before .before .before .before .before .before .opening-whole) .ensures) ((c .before .before .before .before .before .deserialize) .ensures) ((c .before .before .before .ended) .ensures) ((c .before .end2) .given .1)
 
 returns : tie.Need-returns
-returns c = locate-refused ((c .before .before .before .before .before .before .before .opening) .ensures) ((c .before .before .before .before .before .deserialize) .ensures) ((c .before .before .before .ended) .ensures) ((c .before .end) .given .1)
+returns c = locate-refused ((c .before .before .before .before .before .before .before .opening-whole) .ensures) ((c .before .before .before .before .before .deserialize) .ensures) ((c .before .before .before .ended) .ensures) ((c .before .end) .given .1)
 
 returns-2 : tie.Need-returns-2
-returns-2 c = locate-found ((c .before .before .before .before .before .before .before .before .opening) .ensures) ((c .before .before .before .before .before .before .deserialize) .ensures) ((c .before .before .before .before .ended) .ensures) ((c .before .before .end2) .given .1) ((c .located) .ensures)
+returns-2 c = locate-found ((c .before .before .before .before .before .before .before .before .opening-whole) .ensures) ((c .before .before .before .before .before .before .deserialize) .ensures) ((c .before .before .before .before .ended) .ensures) ((c .before .before .end2) .given .1) ((c .located) .ensures)
 
 pub locate-artifact-spec : {M : Type 1} → statement M
 locate-artifact-spec =
     tie.close
     (tie.spec
-    opening-requires
+    opening-whole-requires
     array-borrow-prefix-none
     slice-aggregate-deserialize
     deserialize-requires

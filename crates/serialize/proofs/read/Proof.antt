@@ -3,8 +3,8 @@ use borrow.Author.Needs.{needs}
 use Rattle.serialize.proofs.read.Statement.{statement}
 use Rattle.serialize.proofs.read.Tie as tie
 
-opening-requires : tie.Need-opening-requires
-opening-requires c κs = search needs
+opening-whole-requires : tie.Need-opening-whole-requires
+opening-whole-requires c κs = search needs
 
 read-small-requires : tie.Need-read-small-requires
 read-small-requires c κs = search needs
@@ -24,11 +24,8 @@ slice-aggregate-deserialize c = search needs
 deserialize-requires : tie.Need-deserialize-requires
 deserialize-requires c κs = search needs
 
-ended-requires : tie.Need-ended-requires
-ended-requires c κs = read-within ((c .before .before .before .before .before .opening) .ensures) ((c .before .before .deserialize) .ensures)
-
-closed-requires : tie.Need-closed-requires
-closed-requires c κs = read-since ((c .before .before .before .before .before .before .opening) .ensures) ((c .before .before .before .deserialize) .ensures) ((c .ended) .ensures)
+closed-whole-requires : tie.Need-closed-whole-requires
+closed-whole-requires c κs = (read-within ((c .before .before .before .before .before .opening-whole) .ensures) ((c .before .before .deserialize) .ensures), read-since ((c .before .before .before .before .before .opening-whole) .ensures) ((c .before .before .deserialize) .ensures))
 
 enum-told : tie.Need-enum-told
 enum-told c = search needs
@@ -40,7 +37,7 @@ same-length-2 : tie.Need-same-length-2
 same-length-2 c = search needs
 
 returns-2 : tie.Need-returns-2
-returns-2 c = read-refused ((c .before .before .before .before .before .before .before .before .before .opening) .ensures) ((c .before .before .before .before .before .before .deserialize) .ensures) ((c .before .before .before .ended) .ensures) (search needs) ((c .before .before .closed) .ensures) ((c .enum-told2) .given .1)
+returns-2 c = read-refused ((c .before .before .before .before .before .before .before .before .opening-whole) .ensures) ((c .before .before .before .before .before .deserialize) .ensures) (search needs) ((c .before .before .closed-whole) .ensures) ((c .enum-told2) .given .1)
 
 deserialize-requires-2 : tie.Need-deserialize-requires-2
 deserialize-requires-2 c κs = search needs
@@ -49,21 +46,20 @@ same-length-3 : tie.Need-same-length-3
 same-length-3 c = search needs
 
 returns-3 : tie.Need-returns-3
-returns-3 c = read-taken ((c .before .before .before .before .before .before .before .before .before .before .before .before .before .opening) .ensures) ((c .before .before .before .before .before .before .before .before .before .before .deserialize) .ensures) ((c .before .before .before .before .before .before .before .ended) .ensures) (search needs) ((c .before .before .before .before .before .before .closed) .ensures) ((c .before .before .before .before .enum-told) .given .1) ((c .before .before .deserialize2) .ensures)
+returns-3 c = read-taken ((c .before .before .before .before .before .before .before .before .before .before .before .before .opening-whole) .ensures) ((c .before .before .before .before .before .before .before .before .before .deserialize) .ensures) (search needs) ((c .before .before .before .before .before .before .closed-whole) .ensures) ((c .before .before .before .before .enum-told) .given .1) ((c .before .before .deserialize2) .ensures)
 
 pub read-spec : {M : Type 1} → statement M
 read-spec =
     tie.close
     (tie.spec
-    opening-requires
+    opening-whole-requires
     read-small-requires
     same-length
     returns
     slice-relend-prefix-deserialize
     slice-aggregate-deserialize
     deserialize-requires
-    ended-requires
-    closed-requires
+    closed-whole-requires
     enum-told
     enum-told-2
     same-length-2

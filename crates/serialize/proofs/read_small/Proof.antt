@@ -10,11 +10,8 @@ slice-aggregate-deserialize c = search needs
 deserialize-requires : tie.Need-deserialize-requires
 deserialize-requires c κs = search needs
 
-ended-requires : tie.Need-ended-requires
-ended-requires c κs = read-within ((c .before .before .before .before .before .pre) .1) ((c .before .deserialize) .ensures)
-
-closed-requires : tie.Need-closed-requires
-closed-requires c κs = read-since ((c .before .before .before .before .before .before .pre) .1) ((c .before .before .deserialize) .ensures) ((c .ended) .ensures)
+closed-whole-requires : tie.Need-closed-whole-requires
+closed-whole-requires c κs = (read-within ((c .before .before .before .before .before .pre) .1) ((c .before .deserialize) .ensures), read-since ((c .before .before .before .before .before .pre) .1) ((c .before .deserialize) .ensures))
 
 enum-known-answer : tie.Need-enum-known-answer
 enum-known-answer c = search needs
@@ -23,19 +20,19 @@ enum-told : tie.Need-enum-told
 enum-told c = search needs
 
 returns : tie.Need-returns
-returns c = small-refused ((c .before .before .before .before .before .before .before .before .before .pre) .1) ((c .before .before .before .before .before .deserialize) .ensures) ((c .before .before .before .ended) .ensures) ((c .before .before .closed) .ensures) ((c .enum-told) .given .1)
+returns c = small-refused ((c .before .before .before .before .before .before .before .before .pre) .1) ((c .before .before .before .before .deserialize) .ensures) ((c .before .before .closed-whole) .ensures) ((c .enum-told) .given .1)
 
 slice-aggregate-copy-words : tie.Need-slice-aggregate-copy-words
 slice-aggregate-copy-words c = search needs
 
 copy-words-requires : tie.Need-copy-words-requires
-copy-words-requires c κs = let h = read-room ((c .before .before .before .before .before .before .before .before .before .before .before .before .pre) .1) ((c .before .before .before .before .before .before .before .before .deserialize) .ensures) ((c .before .before .before .before .before .before .ended) .ensures) ((c .before .before .before .before .before .closed) .ensures) ((c .before .before .before .answer) .given .1) in (omega (arith, h .0, (c .before .before .before .before .before .before .before .before .before .before .before .before .pre) .0), h .1)
+copy-words-requires c κs = let h = read-room ((c .before .before .before .before .before .before .before .before .before .before .before .pre) .1) ((c .before .before .before .before .before .before .before .deserialize) .ensures) ((c .before .before .before .before .before .closed-whole) .ensures) ((c .before .before .before .answer) .given .1) in (omega (arith, h .0, (c .before .before .before .before .before .before .before .before .before .before .before .pre) .0), h .1)
 
 same-length : tie.Need-same-length
 same-length c = search needs
 
 returns-2 : tie.Need-returns-2
-returns-2 c = small-taken ((c .before .before .before .before .before .before .before .before .before .before .before .before .before .before .before .pre) .1) ((c .before .before .before .before .before .before .before .before .before .before .before .deserialize) .ensures) ((c .before .before .before .before .before .before .before .before .before .ended) .ensures) ((c .before .before .before .before .before .before .before .before .closed) .ensures) (omega (arith, (c .before .before .before .before .before .before .before .before .before .before .before .before .before .before .before .pre) .0)) ((c .before .before .before .before .before .before .answer) .given .1) ((c .before .before .copy-words) .ensures)
+returns-2 c = small-taken ((c .before .before .before .before .before .before .before .before .before .before .before .before .before .before .pre) .1) ((c .before .before .before .before .before .before .before .before .before .before .deserialize) .ensures) ((c .before .before .before .before .before .before .before .before .closed-whole) .ensures) (omega (arith, (c .before .before .before .before .before .before .before .before .before .before .before .before .before .before .pre) .0)) ((c .before .before .before .before .before .before .answer) .given .1) ((c .before .before .copy-words) .ensures)
 
 pub read-small-spec : {M : Type 1} → statement M
 read-small-spec =
@@ -43,8 +40,7 @@ read-small-spec =
     (tie.spec
     slice-aggregate-deserialize
     deserialize-requires
-    ended-requires
-    closed-requires
+    closed-whole-requires
     enum-known-answer
     enum-told
     returns
