@@ -2,19 +2,28 @@
 // Ports InstructionMetadata of bytecode.rs and read_instruction_metadata of serialize.rs. A metadata is answered as an enum without
 // lists, held in a record beside its lists' starts and counts.
 ghost use mathlib.Core.Path.{_≡_};
+ghost use mathlib.Core.Bool.{true};
+ghost use Prim.Native.Nat.{_≤_};
+ghost use lib.ListN.{length, getD};
 ghost use Rattle.format.specs.Format.{counted};
 ghost use Rattle.vob24.specs.Settings.{settings};
 ghost use Rattle.vob24.specs.Leaves.{u32};
 ghost use Rattle.vob24.specs.Grammar.{slotTypes};
-ghost use Rattle.reader.specs.Contract.{stepOf, ReadyAt, NumberOf};
+ghost use Rattle.reader.specs.Contract.{stepOf, Ready, ReadyAt, Reader, NumberOf};
 ghost use Rattle.select_case.specs.Records.{selectList};
 ghost use Rattle.metadata.specs.Records.{metadataFormat, metadataList, twoLayouts, elemLayout, mapGet, slotLayout, ifaceAssert, callIface, bareOf, oneOf, twoOf, elemOf, mapGetOf, loopEndOf, slotOf, assertOf, callIfaceOf, metadataOf};
-ghost use Rattle.metadata.specs.Contract.{metadataStep, MetadataReader};
+ghost use Rattle.metadata.specs.Contract.{metadataStep, MetadataReader, ReaderAt};
 use reader::Cursor;
 use reader::Number;
 use reader::Refusal;
+use reader::Step;
 use reader::sizes;
 use records::Items;
+
+// The tags of the two commonest metadata.
+const NONE: u8 = 0;
+
+const CALL_LAYOUT: u8 = 11;
 
 // What stands beside an instruction, without its lists.
 pub enum Metadata {
@@ -292,14 +301,60 @@ pub fn instruction_metadata(s: &[u8], c: Cursor, tape: &mut [u32]) -> MetadataRe
     }
 }
 
-// An item's refusal, passed up.
-fn metadata_refused(q: MetadataRead) -> Number
-    ensures { λ r. ⌜ stepOf r ≡ metadataStep q ⌝ }
+// ---- lists, in which no record is asked for
+
+// The answer without its record.
+fn without_record(q: MetadataRead) -> Step
+    ensures { λ r. ⌜ r ≡ metadataStep q ⌝ }
 {
     match q {
-        MetadataRead::Got(_, c) => Number::Got(0, c),
-        MetadataRead::Not(x) => Number::Not(x),
+        MetadataRead::Got(_, c) => Step::Taken(c),
+        MetadataRead::Not(x) => Step::Refused(x),
     }
+}
+
+// Is this the byte at the place? Where there is none, it is no tag.
+fn is_tag(s: &[u8], place: usize, tag: u8) -> bool
+    requires { ⌜ place ≤ length (now s) ⌝ }
+    ensures { λ q. ⌜ (q ≡ true → getD (now (s .entry)) place 0 ≡ tag) ⌝ }
+{
+    if s.len() - place < 1 {
+        return false;
+    }
+    s[place] == tag
+}
+
+fn two_layouts(s: &[u8], c: Cursor, tape: &mut [u32]) -> Step
+    requires { ⌜ ReadyAt (now s) c ⌝ }
+    ensures { λ q. ⌜ ReaderAt twoLayouts (now (s .entry)) c (now (tape .entry)) q (now (tape .exit)) ⌝ }
+{
+    let q = slots::number_slot_types(s, c, tape);
+    let Number::Got(_, d) = q else {
+        return reader::refused(q);
+    };
+    reader::refused(slots::number_slot_types(s, d, tape))
+}
+
+// The next of a list: the two commonest, None and CallLayout, are read without their records.
+fn next_metadata(s: &[u8], r: Step, tape: &mut [u32]) -> Step
+    requires { ⌜ Ready (now s) r ⌝ }
+    ensures { λ q. ⌜ Reader metadataFormat (now (s .entry)) r (now (tape .entry)) q (now (tape .exit)) ⌝ }
+{
+    let Step::Taken(c) = r else {
+        return r;
+    };
+    let place = c.place;
+    if is_tag(s, place, NONE) {
+        return reader::refused(fields::number_metadata_tag(s, c, tape));
+    }
+    if is_tag(s, place, CALL_LAYOUT) {
+        let q = fields::number_metadata_tag(s, c, tape);
+        let Number::Got(_, d) = q else {
+            return reader::refused(q);
+        };
+        return two_layouts(s, d, tape);
+    }
+    without_record(instruction_metadata(s, c, tape))
 }
 
 // Hands out how many they are.
@@ -312,14 +367,13 @@ pub fn number_instruction_metadata(s: &[u8], c: Cursor, tape: &mut [u32]) -> Num
         return q;
     };
     let mut k = n;
-    let mut here = d;
+    let mut here = Step::Taken(d);
     while 0 < k {
-        let item = instruction_metadata(s, here, tape);
-        let MetadataRead::Got(_, next) = item else {
-            return metadata_refused(item);
+        here = next_metadata(s, here, tape);
+        let Step::Taken(_) = here else {
+            return reader::with(n, here);
         };
-        here = next;
         k -= 1;
     }
-    Number::Got(n, here)
+    reader::with(n, here)
 }

@@ -1,70 +1,70 @@
-use mathlib.Core.Path.{refl, sym}
-use Rattle.metadata.proofs.Answers.{metadata-got, metadata-not, answers}
-use Rattle.records.proofs.Numbering.{numberedDone, itemRefused, itemTaken, numbering}
+use Rattle.records.proofs.Numbering.{numberedDone, numberedRefused, numbering}
 use borrow.Author.Needs.{needs}
 use Rattle.reader.proofs.Reading.{reading}
 use Rattle.reader.proofs.Laws.{Turns}
-use Rattle.reader.specs.declared.Step.the-variants.{Taken}
 use Rattle.metadata.specs.Records.{metadataFormat}
 use Rattle.metadata.proofs.number_instruction_metadata.Statement.{statement}
 use Rattle.metadata.proofs.number_instruction_metadata.Tie as tie
 
 abbrev Inv-loop : tie.InvT-loop
-Inv-loop s tape₀ n k₀ here₀ tape k here = Turns metadataFormat s tape₀ (Taken here₀) k₀ tape (Taken here) k
+Inv-loop s tape₀ n k₀ here₀ tape k here = Turns metadataFormat s tape₀ here₀ k₀ tape here k
 
 abbrev μ-loop : tie.MeasureT-loop
 μ-loop s tape₀ n k₀ here₀ tape k here = k
 
 number-count-requires : tie.Need-number-count-requires Inv-loop μ-loop
-number-count-requires c κs = search (needs, reading, numbering, answers)
+number-count-requires c κs = search (needs, reading, numbering)
 
 enum-known-q : tie.Need-enum-known-q Inv-loop μ-loop
-enum-known-q c = search (needs, reading, numbering, answers)
+enum-known-q c = search (needs, reading, numbering)
 
 enum-told : tie.Need-enum-told Inv-loop μ-loop
-enum-told c = search (needs, reading, numbering, answers)
+enum-told c = search (needs, reading, numbering)
 
 same-length : tie.Need-same-length Inv-loop μ-loop
-same-length c = search (needs, reading, numbering, answers)
+same-length c = search (needs, reading, numbering)
 
 returns : tie.Need-returns Inv-loop μ-loop
-returns c = search (needs, reading, numbering, answers)
+returns c = search (needs, reading, numbering)
 
 loop-holds : tie.Need-loop-holds Inv-loop μ-loop
-loop-holds c = search (needs, reading, numbering, answers)
+loop-holds c = search (needs, reading, numbering)
 
-instruction-metadata-requires : tie.Need-instruction-metadata-requires Inv-loop μ-loop
-instruction-metadata-requires c κs = search (needs, reading, numbering, answers)
-
-enum-known-item : tie.Need-enum-known-item Inv-loop μ-loop
-enum-known-item c = search (needs, reading, numbering, answers)
+next-metadata-requires : tie.Need-next-metadata-requires Inv-loop μ-loop
+next-metadata-requires c κs = search (needs, reading, numbering)
 
 enum-told-2 : tie.Need-enum-told-2 Inv-loop μ-loop
-enum-told-2 c = search (needs, reading, numbering, answers)
+enum-told-2 c = search (needs, reading, numbering)
 
-metadata-refused-requires : tie.Need-metadata-refused-requires Inv-loop μ-loop
-metadata-refused-requires c κs = search (needs, reading, numbering, answers)
+enum-told-3 : tie.Need-enum-told-3 Inv-loop μ-loop
+enum-told-3 c = search (needs, reading, numbering)
+
+with-requires : tie.Need-with-requires Inv-loop μ-loop
+with-requires c κs = search (needs, reading, numbering)
 
 same-length-2 : tie.Need-same-length-2 Inv-loop μ-loop
-same-length-2 c = search (needs, reading, numbering, answers)
+same-length-2 c = search (needs, reading, numbering)
 
 returns-2 : tie.Need-returns-2 Inv-loop μ-loop
-returns-2 c = itemRefused ((c .before .before .before .before .before .before .before .before .before .before .q) .given .1) ((c .before .before .before .before .before .before .before .before .before .before .before .before .before .before .number-count) .ensures) ((c .before .before .before .before .before .before .before .loop-test) .taken) ((c .before .before .before .before .before .before .before .before .loop) .inv) ((c .before .before .before .before .before .instruction-metadata) .ensures) (sym (metadata-not ((c .before .enum-told2) .given .1))) ((c .metadata-refused) .ensures)
+returns-2 c = numberedRefused ((c .before .before .before .before .before .before .before .before .before .before .q) .given .1) ((c .before .before .before .before .before .before .before .before .before .before .before .before .before .before .number-count) .ensures) ((c .before .before .before .before .before .before .before .loop-test) .taken) ((c .before .before .before .before .before .before .before .before .loop) .inv) ((c .before .before .before .before .before .next-metadata) .ensures) ((c .before .enum-told3) .given .1) ((c .with) .ensures)
 
 sub-k : tie.Need-sub-k Inv-loop μ-loop
-sub-k c = search (needs, reading, numbering, answers)
+sub-k c = search (needs, reading, numbering)
 
 loop-less : tie.Need-loop-less Inv-loop μ-loop
-loop-less c = search (needs, reading, numbering, answers)
+loop-less c = search (needs, reading, numbering)
 
 loop-again : tie.Need-loop-again Inv-loop μ-loop
-loop-again c = itemTaken ((c .before .before .before .before .before .before .before .loop-test) .taken) ((c .before .before .before .before .before .before .before .before .loop) .inv) ((c .before .before .before .before .before .instruction-metadata) .ensures) (sym (metadata-got ((c .before .item) .given .1))) (search needs)
+loop-again c = search (needs, reading, numbering)
+
+with-requires-2 : tie.Need-with-requires-2 Inv-loop μ-loop
+with-requires-2 c κs = search (needs, reading, numbering)
 
 same-length-3 : tie.Need-same-length-3 Inv-loop μ-loop
-same-length-3 c = search (needs, reading, numbering, answers)
+same-length-3 c = search (needs, reading, numbering)
 
 returns-3 : tie.Need-returns-3 Inv-loop μ-loop
-returns-3 c = numberedDone ((c .before .before .before .q) .given .1) ((c .before .before .before .before .before .before .before .number-count) .ensures) ((c .loop-test) .left) ((c .before .loop) .inv) refl
+returns-3 c = numberedDone ((c .before .before .before .before .q) .given .1) ((c .before .before .before .before .before .before .before .before .number-count) .ensures) ((c .before .loop-test) .left) ((c .before .before .loop) .inv) ((c .with2) .ensures)
 
 pub number-instruction-metadata-spec : {M : Type 1} → statement M
 number-instruction-metadata-spec =
@@ -78,14 +78,15 @@ number-instruction-metadata-spec =
     same-length
     returns
     loop-holds
-    instruction-metadata-requires
-    enum-known-item
+    next-metadata-requires
     enum-told-2
-    metadata-refused-requires
+    enum-told-3
+    with-requires
     same-length-2
     returns-2
     sub-k
     loop-less
     loop-again
+    with-requires-2
     same-length-3
     returns-3)

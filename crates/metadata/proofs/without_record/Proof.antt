@@ -1,7 +1,7 @@
 use Rattle.metadata.proofs.Answers.{answers}
 use borrow.Author.Needs.{needs}
-use Rattle.metadata.proofs.metadata_refused.Statement.{statement}
-use Rattle.metadata.proofs.metadata_refused.Tie as tie
+use Rattle.metadata.proofs.without_record.Statement.{statement}
+use Rattle.metadata.proofs.without_record.Tie as tie
 
 enum-known-q : tie.Need-enum-known-q
 enum-known-q c = search needs
@@ -15,5 +15,5 @@ returns c = search (needs, answers)
 returns-2 : tie.Need-returns-2
 returns-2 c = search (needs, answers)
 
-pub metadata-refused-spec : {M : Type 1} → statement M
-metadata-refused-spec = tie.close (tie.spec enum-known-q enum-known-q-2 returns returns-2)
+pub without-record-spec : {M : Type 1} → statement M
+without-record-spec = tie.close (tie.spec enum-known-q enum-known-q-2 returns returns-2)

@@ -1,0 +1,102 @@
+use Rattle.vob24.specs.Grammar.{metadata}
+use Rattle.reader.proofs.Laws.{ready-at, at-step, got-ready}
+use Rattle.reader.proofs.Parts.{partNot}
+use Rattle.reader.proofs.Reading.{reading}
+use Rattle.metadata.proofs.Tags.{noneNext, callNext}
+use borrow.Author.Needs.{needs}
+use Rattle.metadata.proofs.next_metadata.Statement.{statement}
+use Rattle.metadata.proofs.next_metadata.Tie as tie
+
+enum-known-r : tie.Need-enum-known-r
+enum-known-r c = search needs
+
+enum-told : tie.Need-enum-told
+enum-told c = search needs
+
+returns : tie.Need-returns
+returns c = search (needs, reading)
+
+is-tag-requires : tie.Need-is-tag-requires
+is-tag-requires c κs = ready-at (c .before .r .given .1) (c .before .before .before .before .before .pre) .within
+
+number-metadata-tag-requires : tie.Need-number-metadata-tag-requires
+number-metadata-tag-requires c κs = search (needs, reading)
+
+refused-requires : tie.Need-refused-requires
+refused-requires c κs = search needs
+
+same-length : tie.Need-same-length
+same-length c = search needs
+
+returns-2 : tie.Need-returns-2
+returns-2 c = noneNext (c .before .before .before .before .before .before .before .before .r .given .1) (c .before .before .before .number-metadata-tag .ensures) (c .before .before .before .before .before .before .is-tag .ensures (c .before .before .before .before .before .if1 .taken)) (c .refused .ensures)
+
+is-tag-requires-2 : tie.Need-is-tag-requires-2
+is-tag-requires-2 c κs = ready-at (c .before .before .before .r .given .1) (c .before .before .before .before .before .before .before .pre) .within
+
+number-metadata-tag-requires-2 : tie.Need-number-metadata-tag-requires-2
+number-metadata-tag-requires-2 c κs = search (needs, reading)
+
+enum-known-q : tie.Need-enum-known-q
+enum-known-q c = search needs
+
+enum-told-2 : tie.Need-enum-told-2
+enum-told-2 c = search needs
+
+refused-requires-2 : tie.Need-refused-requires-2
+refused-requires-2 c κs = search needs
+
+same-length-2 : tie.Need-same-length-2
+same-length-2 c = search needs
+
+returns-3 : tie.Need-returns-3
+unfolding metadata
+returns-3 c = partNot (c .before .before .before .before .before .before .before .before .before .before .before .before .r .given .1) (c .before .enum-told2 .given .1) (c .refused2 .ensures) (c .before .before .before .before .before .number-metadata-tag2 .ensures)
+
+two-layouts-requires : tie.Need-two-layouts-requires
+two-layouts-requires c κs = got-ready (c .before .before .q .given .1) (c .before .before .before .before .before .before .number-metadata-tag2 .ensures)
+
+same-length-3 : tie.Need-same-length-3
+same-length-3 c = search needs
+
+returns-4 : tie.Need-returns-4
+returns-4 c = callNext (c .before .before .before .before .before .before .before .before .before .before .before .before .before .before .before .before .r .given .1) (c .before .before .before .before .before .before .before .before .before .number-metadata-tag2 .ensures) (c .before .before .before .before .before .before .before .before .before .before .before .before .is-tag2 .ensures (c .before .before .before .before .before .before .before .before .before .before .before .if2 .taken)) (c .before .before .before .before .before .q .given .1) (c .before .before .two-layouts .ensures)
+
+instruction-metadata-requires : tie.Need-instruction-metadata-requires
+instruction-metadata-requires c κs = search (needs, reading)
+
+without-record-requires : tie.Need-without-record-requires
+without-record-requires c κs = search needs
+
+same-length-4 : tie.Need-same-length-4
+same-length-4 c = search needs
+
+returns-5 : tie.Need-returns-5
+returns-5 c = at-step (c .before .before .before .before .before .before .before .before .before .before .r .given .1) (rw (c .without-record .ensures) (c .before .before .before .instruction-metadata .ensures .reader))
+
+pub next-metadata-spec : {M : Type 1} → statement M
+next-metadata-spec =
+    tie.close
+    (tie.spec
+    enum-known-r
+    enum-told
+    returns
+    is-tag-requires
+    number-metadata-tag-requires
+    refused-requires
+    same-length
+    returns-2
+    is-tag-requires-2
+    number-metadata-tag-requires-2
+    enum-known-q
+    enum-told-2
+    refused-requires-2
+    same-length-2
+    returns-3
+    two-layouts-requires
+    same-length-3
+    returns-4
+    instruction-metadata-requires
+    without-record-requires
+    same-length-4
+    returns-5)
