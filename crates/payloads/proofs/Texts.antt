@@ -85,10 +85,16 @@ spans-room {ρ} {k} {s} {c} {q} {p} {n} {d} e h = go (rw e at h)
 scanned : (s : List ℕ) (p n : ℕ) {o : Scan} → o ≡ scan (take (p + n - p) (drop p s)) → scan (part s p n) ≡ o
 scanned s p n h = let j : p + n - p ≡ n = omega arith in sym (rw j at h)
 
-module _ {s : List ℕ} {q : Payload} where
-  module _ {p n : ℕ} {d : Cursor} (e : q ≡ Payload.Got p n d) where
-    pub checked-got : {w : Scanned} {m : ℕ} → w ≡ Characters m → scanOf w ≡ scan (take (p + n - p) (drop p s)) → Checked s q (Text.Got p n m d)
-    checked-got i h = rw e (formed (scanned s p n (rw i at h)))
+module _ {s : List ℕ} {p n : ℕ} {d : Cursor} where
+  pub checked-got : {w : Scanned} {m : ℕ} → w ≡ Characters m → scanOf w ≡ scan (take (p + n - p) (drop p s)) → Checked s (Payload.Got p n d) (Text.Got p n m d)
+  checked-got i h = formed (scanned s p n (rw i at h))
+
+  pub checked-not : {w : Scanned} {x : Refusal} → w ≡ IllFormed → scanOf w ≡ scan (take (p + n - p) (drop p s)) → x ≡ refusal (wrong invalidUtf8 0) (d .place) (d .left) → Checked s (Payload.Got p n d) (Text.Not x)
+  checked-not i h y = malformed (scanned s p n (rw i at h)) y
+
+  module _ {q : Payload} (e : q ≡ Payload.Got p n d) where
+    pub checked-of : {t u : Text} → Checked s (Payload.Got p n d) t → t ≡ u → Checked s q u
+    checked-of h i = rw (e, ← i) h
 
     pub checked-ascii : {b : Bool} → b ≡ true → AsciiText (take (p + n - p) (drop p s)) b → p + n ≤ length s → Checked s q (Text.Got p n n d)
     checked-ascii i h j = rw e (formed (go (rw i at h)))
@@ -96,10 +102,7 @@ module _ {s : List ℕ} {q : Payload} where
         go : AsciiText (take (p + n - p) (drop p s)) true → scan (part s p n) ≡ characters n
         go (allAscii l) = scanned s p n (sym l) ∙ ap characters (let m : p + n - p ≡ n = omega arith in rw m (part-length s p n j))
 
-    pub checked-not : {w : Scanned} {x : Refusal} → w ≡ IllFormed → scanOf w ≡ scan (take (p + n - p) (drop p s)) → x ≡ refusal (wrong invalidUtf8 0) (d .place) (d .left) → Checked s q (Text.Not x)
-    checked-not i h y = rw e (malformed (scanned s p n (rw i at h)) y)
+pub checked-passed : {s : List ℕ} {q : Payload} {t : Text} {x : Refusal} → q ≡ Payload.Not x → textStep t ≡ payloadStep q → Checked s q t
+checked-passed {t = t} e i = rw (text-refusal t (i ∙ ap payloadStep e), e) passed
 
-  pub checked-passed : {t : Text} {x : Refusal} → q ≡ Payload.Not x → textStep t ≡ payloadStep q → Checked s q t
-  checked-passed {t} e i = rw (text-refusal t (i ∙ ap payloadStep e), e) passed
-
-pub ruleset texts = (text-then, checked-got, checked-ascii, checked-not, checked-passed, spans-room)
+pub ruleset texts = (text-then, checked-got, checked-of, checked-ascii, checked-not, checked-passed, spans-room)

@@ -1,6 +1,8 @@
 // Leaves with a length or a count: payloads, texts, and the counts of lists, each with the bytes left and the charge.
 // Ports read_bytes, read_string, read_count and their kin of `impl ByteReader` in serialize.rs.
 ghost use mathlib.Core.Path.{_≡_};
+ghost use Prim.Native.Nat.{_+_, _≤_};
+ghost use lib.ListN.{length as lengthOf};
 ghost use Rattle.format.specs.Format.{Leaf};
 ghost use Rattle.vob24.specs.Refusals;
 ghost use Rattle.vob24.specs.Settings.{settings, sizeOf, ModuleArtifact};
@@ -8,7 +10,8 @@ ghost use Rattle.vob24.specs.Utf8.{wellFormed};
 ghost use Rattle.vob24.specs.Leaves.{free, limit};
 ghost use Rattle.vob24.specs.Grammar.{methodSize, noHostCalls};
 ghost use Rattle.reader.specs.Contract.{refusal, stepOf, payloadStep, textStep, ReadyAt};
-ghost use Rattle.reader.specs.Leaves.{Answers, CountAt, Counted, Spans, Bought, Texts};
+ghost use Rattle.reader.specs.Leaves.{Answers, CountAt, Counted, Spans, Bought, Texts, Checked};
+ghost use Rattle.reader.specs.declared.Payload.{Payload as PayloadAnswer};
 use reader::Cursor;
 use reader::Number;
 use reader::Payload;
@@ -111,6 +114,19 @@ pub fn read_artifact_bytes(s: &[u8], c: Cursor, context: u64, most: u64) -> Payl
     bytes(s, d, n, context)
 }
 
+// A payload's bytes as a text.
+fn text(s: &[u8], start: usize, length: usize, d: Cursor) -> Text
+    requires { ⌜ start + length ≤ lengthOf (now s) ⌝ }
+    ensures { λ q. ⌜ Checked (now (s .entry)) (PayloadAnswer.Got start length d) q ⌝ }
+{
+    let end = start + length;
+    let found = utf8::scan(&s[start..end]);
+    let Scanned::Characters(n) = found else {
+        return Text::Not(reader::refuse(d, numbers::INVALID_UTF8, 0));
+    };
+    Text::Got(start, length, n, d)
+}
+
 pub fn read_string(s: &[u8], c: Cursor) -> Text
     requires { ⌜ ReadyAt (now s) c ⌝ }
     ensures { λ q. ⌜ Texts (Leaf.string free Refusals.byteString wellFormed) (now (s .entry)) c q ⌝ }
@@ -120,15 +136,15 @@ pub fn read_string(s: &[u8], c: Cursor) -> Text
         return not_text(q);
     };
     let end = start + length;
-    let text = &s[start..end];
-    if utf8::is_ascii(text) {
+    if utf8::is_ascii(&s[start..end]) {
         return Text::Got(start, length, length, d);
     }
-    let found = utf8::scan(text);
-    let Scanned::Characters(n) = found else {
-        return Text::Not(reader::refuse(d, numbers::INVALID_UTF8, 0));
+    // Taken apart, so that the short way above makes its answer in place.
+    let found = text(s, start, length, d);
+    let Text::Got(a, b, n, e) = found else {
+        return found;
     };
-    Text::Got(start, length, n, d)
+    Text::Got(a, b, n, e)
 }
 
 pub fn read_artifact_string(s: &[u8], c: Cursor, context: u64, most: u64) -> Text
@@ -139,12 +155,7 @@ pub fn read_artifact_string(s: &[u8], c: Cursor, context: u64, most: u64) -> Tex
     let Payload::Got(start, length, d) = q else {
         return not_text(q);
     };
-    let end = start + length;
-    let found = utf8::scan(&s[start..end]);
-    let Scanned::Characters(n) = found else {
-        return Text::Not(reader::refuse(d, numbers::INVALID_UTF8, 0));
-    };
-    Text::Got(start, length, n, d)
+    text(s, start, length, d)
 }
 
 // ---- counts

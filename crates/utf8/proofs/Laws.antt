@@ -1,11 +1,11 @@
--- The laws of the scan: a character byte by byte, a block of ASCII, and the characters of a part of the bytes.
+-- The laws of the scan: a character byte by byte, bytes of ASCII at once, and the characters of a text.
 use Prim.Native.Nat.{ℕ, suc, zero, _+_, _-_, _≤_, _<_}
 use mathlib.Core.Path.{_≡_, refl, sym, ap, _∙_}
 use mathlib.Core.Bool.{Bool, true, false}
 use mathlib.Core.List.{List, [], _∷_}
 use native.Mathlib.Omega.{arith}
 use native.Mathlib.Numerals.{add-one}
-use borrow.Author.Tests.{ltb-true, ltb-false, ne-eqb}
+use borrow.Author.Tests.{ltb-true, ltb-false, eqb-true, ne-eqb}
 use lib.Bits.{bitOr, or-add-and, and-le-l, and-le-r}
 use lib.Dec.{ltb, eqb}
 use lib.ListN.{length, getD, take, drop}
@@ -14,7 +14,7 @@ use Rattle.format.specs.Trace.{pick}
 use Rattle.vob24.specs.Utf8.{lead, illFormed, characters, scanFrom, scan}
 use Rattle.vob24.specs.Ranges.{inside, below, above}
 use Rattle.vob24.specs.Rows.{lead00, leade1}
-use Rattle.utf8.specs.Answers.{nextOf, scanAt, Ascii, Three, isThree, AsciiText, allAscii, Scans, fails, reaches}
+use Rattle.utf8.specs.Answers.{nextOf, scanAt, Ascii, Both, Run, Three, isThree, AsciiText, allAscii, notAscii, Scans, fails, reaches}
 use Rattle.utf8.specs.declared.Next.{Next}
 use Rattle.utf8.specs.declared.Next.the-variants.{Bad, Want}
 use Rattle.utf8.specs.declared.Upto.{Upto}
@@ -89,29 +89,71 @@ module _ {s : List ℕ} {to n from more lo hi i : ℕ} where
 
 pub ruleset charing = (char-start, char-bad, char-short, char-low, char-high, char-done)
 
--- ---- a block: m below 128 says that each byte passed is
-pub record Oring (s : List ℕ) (from end m k : ℕ) : Type 0 where
-  pub here : from ≤ k
-  pub within : k ≤ end
-  pub fits : end ≤ length s
-  pub all : m < 128 → Ascii s from k
+-- ---- bytes of ASCII
+low-before : {s : List ℕ} {from to : ℕ} → to ≤ from → Ascii s from to
+low-before h = record { low = λ k x y. absurd (omega arith) }
 
-module _ {s : List ℕ} {from end : ℕ} where
-  pub oring-start : from ≤ end → end ≤ length s → Oring s from end 0 from
-  oring-start h k = record { here = omega arith; within = h; fits = k; all = λ m. record { low = λ j a b. absurd (omega arith) } }
+low-byte : {s : List ℕ} {i j : ℕ} → getD s i 0 < 128 → j ≤ i + 1 → Ascii s i j
+low-byte {s} {i} h l = record { low = λ k x y. let e : k ≡ i = omega arith in rw e h }
+
+low-join : {s : List ℕ} {a b c d : ℕ} → Ascii s a b → Ascii s c d → c ≤ b → Ascii s a d
+low-join {s} {a} {b} {c} {d} l m h = record { low = λ k x y. go k x y (ltb k b) refl }
+  where
+    go : (k : ℕ) → a ≤ k → k < d → (t : Bool) → ltb k b ≡ t → getD s k 0 < 128
+    go k x y true e = l .low k x (ltb-true k b e)
+    go k x y false e = m .low k (omega (arith, ltb-false k b e)) y
+
+-- ---- bytes at two places: m below 128 says that each byte passed is
+pub record Oring (s : List ℕ) (a b width m k : ℕ) : Type 0 where
+  pub within : k ≤ width
+  pub all : m < 128 → Both s a b k
+
+module _ {s : List ℕ} {a b width : ℕ} where
+  pub oring-start : Oring s a b width 0 0
+  oring-start = record { within = omega arith; all = λ m. record { first = low-before (omega arith); second = low-before (omega arith) } }
 
   module _ {m k : ℕ} where
-    pub oring-more : k < end → Oring s from end m k → Oring s from end (bitOr m (getD s k 0)) (k + 1)
-    oring-more h l = record { here = omega arith; within = omega arith; fits = l .fits; all = λ b. record { low = λ j x y. go b j x (ltb j k) refl y } }
+    pub oring-more : k < width → Oring s a b width m k → Oring s a b width (bitOr (bitOr m (getD s (a + k) 0)) (getD s (b + k) 0)) (k + 1)
+    oring-more h l = record { within = omega arith; all = both }
       where
-        go : bitOr m (getD s k 0) < 128 → (j : ℕ) → from ≤ j → (t : Bool) → ltb j k ≡ t → j < k + 1 → getD s j 0 < 128
-        go b j x true e y = l .all (omega (arith, or-add-and m (getD s k 0), and-le-r m (getD s k 0))) .low j x (ltb-true j k e)
-        go b j x false e y = let z : j ≡ k = omega (arith, ltb-false j k e) in rw z (omega (arith, or-add-and m (getD s k 0), and-le-l m (getD s k 0)))
+        x : ℕ
+        x = getD s (a + k) 0
 
-    pub oring-done : end ≤ k → Oring s from end m k → ltb m 128 ≡ true → Ascii s from end
-    oring-done h l e = record { low = λ j a b. l .all (ltb-true m 128 e) .low j a (omega arith) }
+        y : ℕ
+        y = getD s (b + k) 0
+
+        both : bitOr (bitOr m x) y < 128 → Both s a b (k + 1)
+        both e =
+            let f : bitOr m x < 128 = omega (arith, or-add-and (bitOr m x) y, and-le-r (bitOr m x) y) in
+            let i : m < 128 = omega (arith, or-add-and m x, and-le-r m x) in
+            let xs : x < 128 = omega (arith, or-add-and m x, and-le-l m x) in
+            let ys : y < 128 = omega (arith, or-add-and (bitOr m x) y, and-le-l (bitOr m x) y) in
+            record {
+              first = low-join (l .all i .first) (low-byte {i = a + k} xs (omega arith)) (omega arith);
+              second = low-join (l .all i .second) (low-byte {i = b + k} ys (omega arith)) (omega arith);
+            }
+
+    pub oring-done : width ≤ k → Oring s a b width m k → ltb m 128 ≡ true → Both s a b width
+    oring-done h l e = let i : k ≡ width = omega (arith, l .within) in rw i at l .all (ltb-true m 128 e)
 
 pub ruleset oring = (oring-start, oring-more, oring-done)
+
+-- ---- runs
+module _ {s : List ℕ} {from to : ℕ} where
+  pub run-start : from ≤ to → Run s from to from
+  run-start h = record { past = omega arith; within = h; low = low-before (omega arith) }
+
+  module _ {i : ℕ} where
+    pub run-byte : i < to → getD s i 0 ≤ 127 → Run s from to i → Run s from to (i + 1)
+    run-byte h e l = record { past = omega (arith, l .past); within = omega arith; low = low-join (l .low) (low-byte {i = i} (omega arith) (omega arith)) (omega arith) }
+
+    pub run-block : 8 ≤ to - i → Both s i i 8 → Run s from to i → Run s from to (i + 8)
+    run-block h e l = record { past = omega (arith, l .past); within = omega arith; low = low-join (l .low) (e .first) (omega arith) }
+
+    pub run-join : {j : ℕ} → Run s from to i → Run s i to j → Run s from to j
+    run-join l m = record { past = omega (arith, l .past, m .past); within = m .within; low = low-join (l .low) (m .low) (omega arith) }
+
+pub ruleset running = (run-start, run-byte, run-join)
 
 -- each byte of ASCII is a character
 ascii-scan : (s : List ℕ) (to k n from : ℕ) → from + k ≤ to → to ≤ length s → Ascii s from (from + k) → scanAt s to n from ≡ scanAt s to (n + k) (from + k)
@@ -123,38 +165,33 @@ ascii-scan s to (suc k) n from h i a =
     ap (scanFrom n 0 0x80 0xbf) (part-cons s from to (omega arith) i) ∙ rw (lead00 (getD s from 0) (omega arith) (omega (arith, a .low from (omega arith) (omega arith))), e, f)
     (ascii-scan s to k (suc n) (from + 1) (omega arith) i (record { low = λ j x y. a .low j (omega arith) (omega arith) }))
 
-pub ascii-step : {s : List ℕ} {to n from k : ℕ} → 0 < k → from + k ≤ to → to ≤ length s → n ≤ from → Ascii s from (from + k) → Scans s to n from (from + 1) (At (from + k) (n + k))
-ascii-step {s} {to} {n} {from} {k} b h i l a = reaches {j = from + k} {m = n + k} (omega arith) h (omega arith) (ascii-scan s to k n from h i a)
+pub run-scan : {s : List ℕ} {to n from end : ℕ} → from < to → to ≤ length s → n ≤ from → getD s from 0 < 128 → Run s (from + 1) to end → Scans s to n from (from + 1) (At end (n + (end - from)))
+run-scan {s} {to} {n} {from} {end} h i l b r =
+    let e : from + (end - from) ≡ end = omega (arith, r .past) in
+    reaches {j = end} {m = n + (end - from)} (r .past) (r .within) (omega (arith, r .past))
+    (rw e at (ascii-scan s to (end - from) n from (omega (arith, r .past, r .within)) i (rw e (low-join {b = from + 1} (low-byte b (omega arith)) (r .low) (omega arith)))))
 
--- ---- a text of ASCII, passed up to i
-pub record Passing (s : List ℕ) (i : ℕ) : Type 0 where
-  pub within : i ≤ length s
-  pub low : Ascii s 0 i
+-- ---- a text of ASCII
+text-ascii : (s : List ℕ) → Ascii s 0 (length s) → AsciiText s true
+unfolding pick
+text-ascii s l =
+    let p : 0 + length s ≡ length s = omega arith in
+    let z : length s - length s ≡ 0 = omega arith in
+    allAscii (sym (whole s) ∙ ascii-scan s (length s) (length s) 0 0 (omega arith) (omega arith) (rw p l) ∙ rw (p, z))
 
-module _ {s : List ℕ} where
-  pub passing-start : Passing s 0
-  passing-start = record { within = omega arith; low = record { low = λ k a b. absurd (omega arith) } }
+pub text-if : {s : List ℕ} {q : Bool} → (q ≡ true → Ascii s 0 (length s)) → AsciiText s q
+text-if {s} {q} f = go q f
+  where
+    go : (q : Bool) → (q ≡ true → Ascii s 0 (length s)) → AsciiText s q
+    go true f = text-ascii s (f refl)
+    go false f = notAscii
 
-  module _ {i : ℕ} where
-    pub passing-block : {j : ℕ} → j ≤ length s → Ascii s i j → Passing s i → Passing s j
-    passing-block {j} h a l = record { within = h; low = record { low = λ k x y. go k x (ltb k i) refl y } }
-      where
-        go : (k : ℕ) → 0 ≤ k → (t : Bool) → ltb k i ≡ t → k < j → getD s k 0 < 128
-        go k x true e y = l .low .low k x (ltb-true k i e)
-        go k x false e y = a .low k (ltb-false k i e) y
+pub text-run : {s : List ℕ} {to i : ℕ} → Run s 0 to i → eqb i (length s) ≡ true → Ascii s 0 (length s)
+text-run {s} {to} {i} l e = rw (eqb-true i (length s) e) at l .low
 
-    pub passing-byte : i < length s → getD s i 0 ≤ 127 → Passing s i → Passing s (i + 1)
-    passing-byte h a l = passing-block (omega arith) (record { low = λ k x y. let z : k ≡ i = omega arith in rw z (omega arith) }) l
-
-    pub passing-done : length s ≤ i → Passing s i → AsciiText s true
-    unfolding pick
-    passing-done h l =
-        let e : i ≡ length s = omega (arith, l .within) in
-        let p : 0 + length s ≡ length s = omega arith in
-        let z : length s - length s ≡ 0 = omega arith in
-        allAscii (sym (whole s) ∙ ascii-scan s (length s) (length s) 0 0 (omega arith) (omega arith) (rw (e ∙ sym p) at l .low) ∙ rw (p, z))
-
-pub ruleset passing = (passing-start, passing-block, passing-byte, passing-done)
+-- the first bytes and the last, which meet
+pub text-ends : {s : List ℕ} {b w : ℕ} → b ≤ w → length s ≤ b + w → Both s 0 b w → Ascii s 0 (length s)
+text-ends h i l = record { low = λ k x y. low-join (l .first) (l .second) (omega arith) .low k x (omega arith) }
 
 -- a character of three bytes, at once
 three-scan : {s : List ℕ} {to n from : ℕ} → from + 3 ≤ to → to ≤ length s → n ≤ from → Three s from true → Scans s to n from (from + 1) (At (from + 3) (n + 1))
@@ -188,10 +225,6 @@ going-past {s} {to} {n} {i} {stop} {j} {m} h e = go (rw e at h)
     go : Scans s to n i stop (At j m) → stop ≤ j
     go (reaches a b c x) = a
 
-pub weaker : {s : List ℕ} {to n i stop less : ℕ} {q : Upto} → Scans s to n i stop q → less ≤ stop → Scans s to n i less q
-weaker (fails e) k = fails e
-weaker (reaches {j} {m} a b c e) k = reaches {j = j} {m = m} (omega arith) b c e
-
 module _ {s : List ℕ} {to n from : ℕ} where
   pub going-start : from ≤ to → to ≤ length s → n ≤ from → Going s to n from from n
   going-start h k l = record { past = omega arith; within = h; count = l; fits = k; leads = refl }
@@ -209,14 +242,8 @@ module _ {s : List ℕ} {to n from : ℕ} where
         go : Scans s to m i (i + 1) Fails → scanAt s to m i ≡ illFormed
         go (fails x) = x
 
-    pub going-stops : {stop : ℕ} {q : Upto} → Scans s to m i (i + 1) q → q ≡ Fails → Going s to n from i m → Scans s to n from stop Fails
-    going-stops h e l = fails (going-lost h e l)
-
-    pub going-done : {stop : ℕ} → stop ≤ i → Going s to n from i m → Scans s to n from stop (At i m)
-    going-done h l = reaches h (l .within) (l .count) (l .leads)
-
     pub going-whole : to ≤ i → Going s to n from i m → scanAt s to n from ≡ characters m
     unfolding pick
     going-whole h l = let e : to - i ≡ 0 = omega arith in l .leads ∙ rw e
 
-pub ruleset going = (going-start, going-reached, going-stops, going-done)
+pub ruleset going = (going-start, going-reached)

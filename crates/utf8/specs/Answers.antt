@@ -27,6 +27,17 @@ scanAt s to n i = def.scanFrom n 0 0x80 0xbf (take (to - i) (drop i s))
 pub record Ascii (s : List ℕ) (from to : ℕ) : Type 0 where
   pub low : (k : ℕ) → from ≤ k → k < to → getD s k 0 < 128
 
+-- so many bytes at a, and as many at b
+pub record Both (s : List ℕ) (a b width : ℕ) : Type 0 where
+  pub first : Ascii s a (a + width)
+  pub second : Ascii s b (b + width)
+
+-- bytes of ASCII from `from` up to i
+pub record Run (s : List ℕ) (from to i : ℕ) : Type 0 where
+  pub past : from ≤ i
+  pub within : i ≤ to
+  pub low : Ascii s from i
+
 -- are the bytes at i a character of the row E1..EC?
 pub data Three (s : List ℕ) (i : ℕ) : Bool → Type 0 where
   isThree : 0xe1 ≤ getD s i 0 → getD s i 0 ≤ 0xec → getD s (i + 1) 0 / 64 ≡ 2 → getD s (i + 2) 0 / 64 ≡ 2 → Three s i true

@@ -1,12 +1,12 @@
 // UTF-8: are these bytes well-formed, and how many characters are they?
 // It ports what Rust's `String::from_utf8` asks in ByteReader's `read_string`, as Table 3-7 of the Unicode Standard has it:
-// blocks of bytes at once where they are ASCII, else character by character.
+// bytes of ASCII many at once, else character by character.
 ghost use mathlib.Core.Path.{_≡_};
 ghost use mathlib.Core.Bool.{true};
 ghost use Prim.Native.Nat.{_+_, _≤_, _<_};
 ghost use lib.ListN.{length};
 ghost use Rattle.vob24.specs.Utf8 as Utf8;
-ghost use Rattle.utf8.specs.Answers.{nextOf, scanOf, Ascii, AsciiText, Three, Scans};
+ghost use Rattle.utf8.specs.Answers.{nextOf, scanOf, Both, Run, AsciiText, Three, Scans};
 
 // What may come after a byte: so many more of its sequence, the next of them from lo to hi.
 enum Next {
@@ -154,60 +154,63 @@ fn one(s: &[u8], from: usize, to: usize, n: usize) -> Upto
     char(s, from, to, n)
 }
 
-// Characters up to stop or past it.
-fn chars(s: &[u8], from: usize, stop: usize, to: usize, count: usize) -> Upto
-    requires { ⌜ (from ≤ to) × (stop ≤ to) × (to ≤ length (now s)) × (count ≤ from) ⌝ }
-    ensures { λ q. ⌜ Scans (now (s .entry)) to count from stop q ⌝ }
-{
-    let mut i = from;
-    let mut n = count;
-    while i < stop {
-        let Upto::At {
-            place: j,
-            characters: m,
-        } = one(s, i, to, n)
-        else {
-            return Upto::IllFormed;
-        };
-        i = j;
-        n = m;
-    }
-    Upto::At {
-        place: i,
-        characters: n,
-    }
-}
-
-// Are the `width` bytes at from all below 128? With no early exit the loop is compiled to vector code.
-fn ascii(s: &[u8], from: usize, width: usize) -> bool
-    requires { ⌜ from + width ≤ length (now s) ⌝ }
-    ensures { λ q. ⌜ (q ≡ true → Ascii (now (s .entry)) from (from + width)) ⌝ }
+// Are the `width` bytes at a and those at b all below 128? With no early exit the loop is compiled to vector code.
+fn ascii(s: &[u8], a: usize, b: usize, width: usize) -> bool
+    requires { ⌜ (a + width ≤ length (now s)) × (b + width ≤ length (now s)) ⌝ }
+    ensures { λ q. ⌜ (q ≡ true → Both (now (s .entry)) a b width) ⌝ }
 {
     let mut m: u8 = 0;
-    let mut k = from;
-    let end = from + width;
-    while k < end {
-        m = m | s[k];
+    let mut k: usize = 0;
+    while k < width {
+        m = m | s[a + k] | s[b + k];
         k += 1;
     }
     m < 128
 }
 
-// 32 bytes at once, or the characters of as many bytes.
-fn block(s: &[u8], from: usize, to: usize, n: usize) -> Upto
+// Where the bytes below 128 end that start at from, byte by byte.
+fn run_bytes(s: &[u8], from: usize, to: usize) -> usize
+    requires { ⌜ (from ≤ to) × (to ≤ length (now s)) ⌝ }
+    ensures { λ i. ⌜ Run (now (s .entry)) from to i ⌝ }
+{
+    let mut i = from;
+    while i < to {
+        if 127 < s[i] {
+            return i;
+        }
+        i += 1;
+    }
+    i
+}
+
+// The same, eight bytes at once while they are below 128.
+fn run(s: &[u8], from: usize, to: usize) -> usize
+    requires { ⌜ (from ≤ to) × (to ≤ length (now s)) ⌝ }
+    ensures { λ i. ⌜ Run (now (s .entry)) from to i ⌝ }
+{
+    let mut i = from;
+    while 8 <= to - i {
+        if !ascii(s, i, i, 8) {
+            return run_bytes(s, i, to);
+        }
+        i += 8;
+    }
+    run_bytes(s, i, to)
+}
+
+// A run of ASCII, or another character.
+fn chars(s: &[u8], from: usize, to: usize, n: usize) -> Upto
     requires { ⌜ (from < to) × (to ≤ length (now s)) × (n ≤ from) ⌝ }
     ensures { λ q. ⌜ Scans (now (s .entry)) to n from (from + 1) q ⌝ }
 {
-    if to - from < 32 {
-        return chars(s, from, to, to, n);
-    }
-    if ascii(s, from, 32) {
+    if s[from] < 128 {
+        let end = run(s, from + 1, to);
         return Upto::At {
-            place: from + 32,
-            characters: n + 32,
+            place: end,
+            characters: n + (end - from),
         };
     }
-    chars(s, from, from + 32, to, n)
+    one(s, from, to, n)
 }
 
 pub fn scan(t: &[u8]) -> Scanned
@@ -220,7 +223,7 @@ pub fn scan(t: &[u8]) -> Scanned
         let Upto::At {
             place: j,
             characters: m,
-        } = block(t, i, to, n)
+        } = chars(t, i, to, n)
         else {
             return Scanned::IllFormed;
         };
@@ -230,31 +233,25 @@ pub fn scan(t: &[u8]) -> Scanned
     Scanned::Characters(n)
 }
 
-// Is each byte a character? Most texts are short and of ASCII: then there is no need to scan them.
+// Is each byte a character? Most texts are short and of ASCII: their first and last bytes, which may overlap, are all of them.
 pub fn is_ascii(t: &[u8]) -> bool
     ensures { λ q. ⌜ AsciiText (now (t .entry)) q ⌝ }
 {
     let to = t.len();
-    let mut i: usize = 0;
-    while 32 <= to - i {
-        if ascii(t, i, 32) {
-            i += 32;
-        } else {
-            return false;
-        }
+    if to < 4 {
+        return run_bytes(t, 0, to) == to;
     }
-    while 8 <= to - i {
-        if ascii(t, i, 8) {
-            i += 8;
-        } else {
-            return false;
+    if to <= 8 {
+        if ascii(t, 0, 0, 4) {
+            return ascii(t, to - 4, to - 4, 4);
         }
+        return false;
     }
-    while i < to {
-        if 127 < t[i] {
-            return false;
-        }
-        i += 1;
+    if to <= 16 {
+        return ascii(t, 0, to - 8, 8);
     }
-    true
+    if to <= 32 {
+        return ascii(t, 0, to - 16, 16);
+    }
+    ascii(t, 0, 0, to)
 }

@@ -1,5 +1,4 @@
-use Rattle.payloads.proofs.Texts.{texts, spans-room}
-use native.Mathlib.Omega.{arith}
+use Rattle.payloads.proofs.Texts.{texts}
 use borrow.Author.Needs.{needs}
 use Rattle.payloads.proofs.read_artifact_string.Statement.{statement}
 use Rattle.payloads.proofs.read_artifact_string.Tie as tie
@@ -19,35 +18,11 @@ not-text-requires c κs = search needs
 returns : tie.Need-returns
 returns c = search (needs, texts)
 
-add-end : tie.Need-add-end
-add-end c = omega (arith, spans-room (c .before .q .given .1) (c .before .before .before .read-artifact-bytes .ensures))
-
-sub-scan : tie.Need-sub-scan
-sub-scan c = search needs
-
-part-scan-start : tie.Need-part-scan-start
-part-scan-start c = search needs
-
-part-scan-end : tie.Need-part-scan-end
-part-scan-end c = search (needs, texts)
-
-scan-requires : tie.Need-scan-requires
-scan-requires c κs = search needs
-
-enum-known-found : tie.Need-enum-known-found
-enum-known-found c = search needs
-
-enum-told-2 : tie.Need-enum-told-2
-enum-told-2 c = search needs
-
-refuse-requires : tie.Need-refuse-requires
-refuse-requires c κs = search needs
+text-requires : tie.Need-text-requires
+text-requires c κs = search (needs, texts)
 
 returns-2 : tie.Need-returns-2
 returns-2 c = search (needs, texts)
-
-returns-3 : tie.Need-returns-3
-returns-3 c = search (needs, texts)
 
 pub read-artifact-string-spec : {M : Type 1} → statement M
 read-artifact-string-spec =
@@ -58,13 +33,5 @@ read-artifact-string-spec =
     enum-told
     not-text-requires
     returns
-    add-end
-    sub-scan
-    part-scan-start
-    part-scan-end
-    scan-requires
-    enum-known-found
-    enum-told-2
-    refuse-requires
-    returns-2
-    returns-3)
+    text-requires
+    returns-2)

@@ -22,14 +22,14 @@ returns c = search (needs, texts)
 add-end : tie.Need-add-end
 add-end c = omega (arith, spans-room (c .before .q .given .1) (c .before .before .before .read-bytes .ensures))
 
-sub-text : tie.Need-sub-text
-sub-text c = search needs
+sub-is-ascii : tie.Need-sub-is-ascii
+sub-is-ascii c = search needs
 
-part-text-start : tie.Need-part-text-start
-part-text-start c = search needs
+part-is-ascii-start : tie.Need-part-is-ascii-start
+part-is-ascii-start c = search needs
 
-part-text-end : tie.Need-part-text-end
-part-text-end c = search (needs, texts)
+part-is-ascii-end : tie.Need-part-is-ascii-end
+part-is-ascii-end c = search (needs, texts)
 
 is-ascii-requires : tie.Need-is-ascii-requires
 is-ascii-requires c κs = search needs
@@ -37,17 +37,14 @@ is-ascii-requires c κs = search needs
 returns-2 : tie.Need-returns-2
 returns-2 c = search (needs, texts)
 
-scan-requires : tie.Need-scan-requires
-scan-requires c κs = search needs
+text-requires : tie.Need-text-requires
+text-requires c κs = search (needs, texts)
 
 enum-known-found : tie.Need-enum-known-found
 enum-known-found c = search needs
 
 enum-told-2 : tie.Need-enum-told-2
 enum-told-2 c = search needs
-
-refuse-requires : tie.Need-refuse-requires
-refuse-requires c κs = search needs
 
 returns-3 : tie.Need-returns-3
 returns-3 c = search (needs, texts)
@@ -65,14 +62,13 @@ read-string-spec =
     not-text-requires
     returns
     add-end
-    sub-text
-    part-text-start
-    part-text-end
+    sub-is-ascii
+    part-is-ascii-start
+    part-is-ascii-end
     is-ascii-requires
     returns-2
-    scan-requires
+    text-requires
     enum-known-found
     enum-told-2
-    refuse-requires
     returns-3
     returns-4)

@@ -5,19 +5,25 @@ use Rattle.utf8.proofs.ascii.Statement.{statement}
 use Rattle.utf8.proofs.ascii.Tie as tie
 
 abbrev Inv-loop : tie.InvT-loop
-Inv-loop s from width m₀ k₀ end m k = Oring s from end m k
+Inv-loop s a b width m₀ k₀ m k = Oring s a b width m k
 
 abbrev μ-loop : tie.MeasureT-loop
-μ-loop s from width m₀ k₀ end m k = end - k
-
-add-end : tie.Need-add-end Inv-loop μ-loop
-add-end c = search (needs, oring)
+μ-loop s a b width m₀ k₀ m k = width - k
 
 loop-holds : tie.Need-loop-holds Inv-loop μ-loop
 loop-holds c = search (needs, oring)
 
+add-m : tie.Need-add-m Inv-loop μ-loop
+add-m c = search (needs, oring)
+
 shared-slice-read-m : tie.Need-shared-slice-read-m Inv-loop μ-loop
 shared-slice-read-m c = search (needs, oring)
+
+add-m-2 : tie.Need-add-m-2 Inv-loop μ-loop
+add-m-2 c = search (needs, oring)
+
+shared-slice-read-m-2 : tie.Need-shared-slice-read-m-2 Inv-loop μ-loop
+shared-slice-read-m-2 c = search (needs, oring)
 
 add-k : tie.Need-add-k Inv-loop μ-loop
 add-k c = search (needs, oring)
@@ -37,9 +43,11 @@ ascii-spec =
     (tie.spec
     Inv-loop
     μ-loop
-    add-end
     loop-holds
+    add-m
     shared-slice-read-m
+    add-m-2
+    shared-slice-read-m-2
     add-k
     loop-less
     loop-again

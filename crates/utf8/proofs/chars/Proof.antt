@@ -1,51 +1,42 @@
 use borrow.Author.Needs.{needs}
-use Rattle.utf8.proofs.Laws.{Going, going-past, going}
-use Prim.Native.Nat.{_-_}
 use native.Mathlib.Omega.{arith}
+use Rattle.utf8.proofs.Laws.{run-scan}
 use Rattle.utf8.proofs.chars.Statement.{statement}
 use Rattle.utf8.proofs.chars.Tie as tie
 
-abbrev Inv-loop : tie.InvT-loop
-Inv-loop s from stop to count i₀ n₀ i n = Going s to count from i n
+shared-slice-read-if1 : tie.Need-shared-slice-read-if1
+shared-slice-read-if1 c = search needs
 
-abbrev μ-loop : tie.MeasureT-loop
-μ-loop s from stop to count i₀ n₀ i n = stop - i
+add-run : tie.Need-add-run
+add-run c = search needs
 
-loop-holds : tie.Need-loop-holds Inv-loop μ-loop
-loop-holds c = search (needs, going)
+run-requires : tie.Need-run-requires
+run-requires c κs = search needs
 
-one-requires : tie.Need-one-requires Inv-loop μ-loop
-one-requires c κs = search (needs, going)
+sub-t9 : tie.Need-sub-t9
+sub-t9 c = search needs
 
-enum-known-j : tie.Need-enum-known-j Inv-loop μ-loop
-enum-known-j c = search (needs, going)
+add-t10 : tie.Need-add-t10
+add-t10 c = search needs
 
-enum-told : tie.Need-enum-told Inv-loop μ-loop
-enum-told c = search (needs, going)
+returns : tie.Need-returns
+returns c = run-scan (omega arith) (omega arith) (omega arith) (omega arith) (c .run .ensures)
 
-returns : tie.Need-returns Inv-loop μ-loop
-returns c = search (needs, going)
+one-requires : tie.Need-one-requires
+one-requires c κs = search needs
 
-loop-less : tie.Need-loop-less Inv-loop μ-loop
-loop-less c = omega (arith, going-past (c .before .before .before .one .ensures) (c .before .j .given .1))
-
-loop-again : tie.Need-loop-again Inv-loop μ-loop
-loop-again c = search (needs, going)
-
-returns-2 : tie.Need-returns-2 Inv-loop μ-loop
-returns-2 c = search (needs, going)
+returns-2 : tie.Need-returns-2
+returns-2 c = search needs
 
 pub chars-spec : {M : Type 1} → statement M
 chars-spec =
     tie.close
     (tie.spec
-    Inv-loop
-    μ-loop
-    loop-holds
-    one-requires
-    enum-known-j
-    enum-told
+    shared-slice-read-if1
+    add-run
+    run-requires
+    sub-t9
+    add-t10
     returns
-    loop-less
-    loop-again
+    one-requires
     returns-2)

@@ -15,8 +15,8 @@ abbrev μ-loop : tie.MeasureT-loop
 loop-holds : tie.Need-loop-holds Inv-loop μ-loop
 loop-holds c = search (needs, going)
 
-block-requires : tie.Need-block-requires Inv-loop μ-loop
-block-requires c κs = search (needs, going)
+chars-requires : tie.Need-chars-requires Inv-loop μ-loop
+chars-requires c κs = search (needs, going)
 
 enum-known-j : tie.Need-enum-known-j Inv-loop μ-loop
 enum-known-j c = search (needs, going)
@@ -25,10 +25,10 @@ enum-told : tie.Need-enum-told Inv-loop μ-loop
 enum-told c = search (needs, going)
 
 returns : tie.Need-returns Inv-loop μ-loop
-returns c = sym (sym (whole (c .before .before .before .before .before .before .args .t .now)) ∙ going-lost (c .before .before .block .ensures) (c .enum-told .given .1) (c .before .before .before .before .loop .inv))
+returns c = sym (sym (whole (c .before .before .before .before .before .before .args .t .now)) ∙ going-lost (c .before .before .chars .ensures) (c .enum-told .given .1) (c .before .before .before .before .loop .inv))
 
 loop-less : tie.Need-loop-less Inv-loop μ-loop
-loop-less c = omega (arith, going-past (c .before .before .before .block .ensures) (c .before .j .given .1))
+loop-less c = omega (arith, going-past (c .before .before .before .chars .ensures) (c .before .j .given .1))
 
 loop-again : tie.Need-loop-again Inv-loop μ-loop
 loop-again c = search (needs, going)
@@ -43,7 +43,7 @@ scan-spec =
     Inv-loop
     μ-loop
     loop-holds
-    block-requires
+    chars-requires
     enum-known-j
     enum-told
     returns
