@@ -139,8 +139,13 @@ pub fn read_string(s: &[u8], c: Cursor) -> Text
     if utf8::is_ascii(&s[start..end]) {
         return Text::Got(start, length, length, d);
     }
-    // Taken apart, so that the short way above makes its answer in place.
-    let found = text(s, start, length, d);
+    // A copy goes in and a copy comes out, so that the short way above keeps all in registers.
+    let copy = Cursor {
+        place: d.place,
+        left: d.left,
+        at: d.at,
+    };
+    let found = text(s, start, length, copy);
     let Text::Got(a, b, n, e) = found else {
         return found;
     };

@@ -27,7 +27,7 @@ part-cons s i to h k =
     rw (e, add-one i, drop-cons s i 0 (omega arith))
 
 -- the whole of a text
-pub whole : (s : List ℕ) → scanAt s (length s) 0 0 ≡ scan s
+whole : (s : List ℕ) → scanAt s (length s) 0 0 ≡ scan s
 whole s = let z : length s - 0 ≡ length s = omega arith in rw z (ap (scanFrom 0 0 0x80 0xbf) (take-length s))
 
 -- ---- a character: the invariant of its loop, with so many bytes to come
@@ -172,18 +172,18 @@ run-scan {s} {to} {n} {from} {end} h i l b r =
     (rw e at (ascii-scan s to (end - from) n from (omega (arith, r .past, r .within)) i (rw e (low-join {b = from + 1} (low-byte b (omega arith)) (r .low) (omega arith)))))
 
 -- ---- a text of ASCII
-text-ascii : (s : List ℕ) → Ascii s 0 (length s) → AsciiText s true
+text-scan : (s : List ℕ) → Ascii s 0 (length s) → scan s ≡ characters (length s)
 unfolding pick
-text-ascii s l =
+text-scan s l =
     let p : 0 + length s ≡ length s = omega arith in
     let z : length s - length s ≡ 0 = omega arith in
-    allAscii (sym (whole s) ∙ ascii-scan s (length s) (length s) 0 0 (omega arith) (omega arith) (rw p l) ∙ rw (p, z))
+    sym (whole s) ∙ ascii-scan s (length s) (length s) 0 0 (omega arith) (omega arith) (rw p l) ∙ rw (p, z)
 
 pub text-if : {s : List ℕ} {q : Bool} → (q ≡ true → Ascii s 0 (length s)) → AsciiText s q
 text-if {s} {q} f = go q f
   where
     go : (q : Bool) → (q ≡ true → Ascii s 0 (length s)) → AsciiText s q
-    go true f = text-ascii s (f refl)
+    go true f = allAscii (text-scan s (f refl))
     go false f = notAscii
 
 pub text-run : {s : List ℕ} {to i : ℕ} → Run s 0 to i → eqb i (length s) ≡ true → Ascii s 0 (length s)
@@ -212,12 +212,10 @@ pub three-step : {s : List ℕ} {to n from : ℕ} {q : Bool} → from + 3 ≤ to
 three-step h i l t e = three-scan h i l (rw e at t)
 
 -- ---- characters: the invariant of a loop that has come to i with m of them
-pub record Going (s : List ℕ) (to n from i m : ℕ) : Type 0 where
-  pub past : from ≤ i
-  pub within : i ≤ to
+pub record Going (s : List ℕ) (i m : ℕ) : Type 0 where
+  pub within : i ≤ length s
   pub count : m ≤ i
-  pub fits : to ≤ length s
-  pub leads : scanAt s to n from ≡ scanAt s to m i
+  pub leads : scan s ≡ scanAt s (length s) m i
 
 pub going-past : {s : List ℕ} {to n i stop j m : ℕ} {q : Upto} → Scans s to n i stop q → q ≡ At j m → stop ≤ j
 going-past {s} {to} {n} {i} {stop} {j} {m} h e = go (rw e at h)
@@ -225,25 +223,28 @@ going-past {s} {to} {n} {i} {stop} {j} {m} h e = go (rw e at h)
     go : Scans s to n i stop (At j m) → stop ≤ j
     go (reaches a b c x) = a
 
-module _ {s : List ℕ} {to n from : ℕ} where
-  pub going-start : from ≤ to → to ≤ length s → n ≤ from → Going s to n from from n
-  going-start h k l = record { past = omega arith; within = h; count = l; fits = k; leads = refl }
+module _ {s : List ℕ} where
+  pub going-start : Going s 0 0
+  going-start = record { within = omega arith; count = omega arith; leads = sym (whole s) }
+
+  pub going-ascii : {q : Bool} → (q ≡ true → Both s 0 0 (length s)) → q ≡ true → characters (length s) ≡ scan s
+  going-ascii f e = sym (text-scan s (text-ends (omega arith) (omega arith) (f e)))
 
   module _ {i m : ℕ} where
-    pub going-reached : {j k : ℕ} {q : Upto} → Scans s to m i (i + 1) q → q ≡ At j k → Going s to n from i m → Going s to n from j k
+    pub going-reached : {j k : ℕ} {q : Upto} → Scans s (length s) m i (i + 1) q → q ≡ At j k → Going s i m → Going s j k
     going-reached {j} {k} h e l = go (rw e at h)
       where
-        go : Scans s to m i (i + 1) (At j k) → Going s to n from j k
-        go (reaches a b c x) = record { past = omega arith; within = b; count = c; fits = l .fits; leads = l .leads ∙ x }
+        go : Scans s (length s) m i (i + 1) (At j k) → Going s j k
+        go (reaches a b c x) = record { within = b; count = c; leads = l .leads ∙ x }
 
-    pub going-lost : {q : Upto} → Scans s to m i (i + 1) q → q ≡ Fails → Going s to n from i m → scanAt s to n from ≡ illFormed
-    going-lost h e l = l .leads ∙ go (rw e at h)
+    pub going-lost : {q : Upto} → Scans s (length s) m i (i + 1) q → q ≡ Fails → Going s i m → illFormed ≡ scan s
+    going-lost h e l = sym (l .leads ∙ go (rw e at h))
       where
-        go : Scans s to m i (i + 1) Fails → scanAt s to m i ≡ illFormed
+        go : Scans s (length s) m i (i + 1) Fails → scanAt s (length s) m i ≡ illFormed
         go (fails x) = x
 
-    pub going-whole : to ≤ i → Going s to n from i m → scanAt s to n from ≡ characters m
+    pub going-done : length s ≤ i → Going s i m → characters m ≡ scan s
     unfolding pick
-    going-whole h l = let e : to - i ≡ 0 = omega arith in l .leads ∙ rw e
+    going-done h l = let e : length s - i ≡ 0 = omega arith in sym (l .leads ∙ rw e)
 
-pub ruleset going = (going-start, going-reached)
+pub ruleset going = (going-start, going-ascii, going-reached, going-lost, going-done)

@@ -217,6 +217,11 @@ pub fn scan(t: &[u8]) -> Scanned
     ensures { λ q. ⌜ scanOf q ≡ Utf8.scan (now (t .entry)) ⌝ }
 {
     let to = t.len();
+    if 32 < to {
+        if ascii(t, 0, 0, to) {
+            return Scanned::Characters(to);
+        }
+    }
     let mut i: usize = 0;
     let mut n: usize = 0;
     while i < to {
@@ -233,7 +238,8 @@ pub fn scan(t: &[u8]) -> Scanned
     Scanned::Characters(n)
 }
 
-// Is each byte a character? Most texts are short and of ASCII: their first and last bytes, which may overlap, are all of them.
+// Is this a text of at most 32 bytes, each of them a character? Most are, and need no scan:
+// their first and their last bytes, which may overlap, are all of them.
 pub fn is_ascii(t: &[u8]) -> bool
     ensures { λ q. ⌜ AsciiText (now (t .entry)) q ⌝ }
 {
@@ -253,5 +259,5 @@ pub fn is_ascii(t: &[u8]) -> bool
     if to <= 32 {
         return ascii(t, 0, to - 16, 16);
     }
-    ascii(t, 0, 0, to)
+    false
 }

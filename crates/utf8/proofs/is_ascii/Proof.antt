@@ -41,11 +41,8 @@ ascii-requires-4 c κs = search needs
 returns-5 : tie.Need-returns-5
 returns-5 c = text-if (λ e. text-ends (omega arith) (omega arith) (c .ascii4 .ensures e))
 
-ascii-requires-5 : tie.Need-ascii-requires-5
-ascii-requires-5 c κs = search needs
-
 returns-6 : tie.Need-returns-6
-returns-6 c = text-if (λ e. text-ends (omega arith) (omega arith) (c .ascii5 .ensures e))
+returns-6 c = notAscii
 
 pub is-ascii-spec : {M : Type 1} → statement M
 is-ascii-spec =
@@ -63,5 +60,4 @@ is-ascii-spec =
     sub-ascii-2
     ascii-requires-4
     returns-5
-    ascii-requires-5
     returns-6)

@@ -1,16 +1,21 @@
 use borrow.Author.Needs.{needs}
-use Rattle.utf8.proofs.Laws.{Going, going-past, going-lost, going-whole, whole, going}
+use Rattle.utf8.proofs.Laws.{Going, going-past, going}
 use Prim.Native.Nat.{_-_}
 use native.Mathlib.Omega.{arith}
-use mathlib.Core.Path.{sym, _∙_}
 use Rattle.utf8.proofs.scan.Statement.{statement}
 use Rattle.utf8.proofs.scan.Tie as tie
 
 abbrev Inv-loop : tie.InvT-loop
-Inv-loop t to i₀ n₀ i n = Going t to 0 0 i n
+Inv-loop t to i₀ n₀ i n = Going t i n
 
 abbrev μ-loop : tie.MeasureT-loop
 μ-loop t to i₀ n₀ i n = to - i
+
+ascii-requires : tie.Need-ascii-requires Inv-loop μ-loop
+ascii-requires c κs = search (needs, going)
+
+returns : tie.Need-returns Inv-loop μ-loop
+returns c = search (needs, going)
 
 loop-holds : tie.Need-loop-holds Inv-loop μ-loop
 loop-holds c = search (needs, going)
@@ -24,8 +29,8 @@ enum-known-j c = search (needs, going)
 enum-told : tie.Need-enum-told Inv-loop μ-loop
 enum-told c = search (needs, going)
 
-returns : tie.Need-returns Inv-loop μ-loop
-returns c = sym (sym (whole (c .before .before .before .before .before .before .args .t .now)) ∙ going-lost (c .before .before .chars .ensures) (c .enum-told .given .1) (c .before .before .before .before .loop .inv))
+returns-2 : tie.Need-returns-2 Inv-loop μ-loop
+returns-2 c = search (needs, going)
 
 loop-less : tie.Need-loop-less Inv-loop μ-loop
 loop-less c = omega (arith, going-past (c .before .before .before .chars .ensures) (c .before .j .given .1))
@@ -33,8 +38,8 @@ loop-less c = omega (arith, going-past (c .before .before .before .chars .ensure
 loop-again : tie.Need-loop-again Inv-loop μ-loop
 loop-again c = search (needs, going)
 
-returns-2 : tie.Need-returns-2 Inv-loop μ-loop
-returns-2 c = sym (sym (whole (c .before .before .before .args .t .now)) ∙ going-whole (c .loop-test .left) (c .before .loop .inv))
+returns-3 : tie.Need-returns-3 Inv-loop μ-loop
+returns-3 c = search (needs, going)
 
 pub scan-spec : {M : Type 1} → statement M
 scan-spec =
@@ -42,11 +47,13 @@ scan-spec =
     (tie.spec
     Inv-loop
     μ-loop
+    ascii-requires
+    returns
     loop-holds
     chars-requires
     enum-known-j
     enum-told
-    returns
+    returns-2
     loop-less
     loop-again
-    returns-2)
+    returns-3)
