@@ -319,47 +319,54 @@ pub fn names(n: usize) -> Vec<u8> {
     fields((0..n).map(|i| name(i).into_bytes()))
 }
 
-/// The first key of the search for repeated names, and how it takes in a word of a name.
-const KEY: u64 = 2_654_435_761;
+/// The two factors that the first key of the search for repeated names gives: the first lane of a long name's hash takes them in this order,
+/// the second the other way round.
+const FACTORS: [u64; 2] = [2_654_435_761, 3_668_340_003];
 
-fn mix(hash: u64, word: u32) -> u64 {
-    let x = hash ^ u64::from(word);
-    (x % (1 << 32)) * KEY + (x >> 32)
+/// How a lane takes in eight bytes.
+fn fold(factors: [u64; 2], hash: u64, bytes: u64) -> u64 {
+    let x = hash ^ bytes;
+    (x % (1 << 32) * factors[0]) ^ ((x >> 32) * factors[1])
 }
 
-/// Two blocks of three words that lead from this hash to the same one, and that hash.
-fn same_hash(hash: u64) -> ([[u32; 3]; 2], u64) {
-    const LAST: u32 = 0x6161_6161;
-    let letters = |i: u32| u32::from_le_bytes([0, 5, 10, 15].map(|shift| b'A' + (i >> shift) as u8 % 32));
-    let mut seen = HashMap::new();
-    for i in 0u32.. {
-        let start = [letters(i), letters(i.wrapping_mul(KEY as u32) >> 12)];
-        let one = start.iter().fold(hash, |hash, &word| mix(hash, word));
-        // A word reaches the low half only: where the upper halves meet, the last words make up for the rest, and stay letters.
-        if let Some((other, first)) = seen.insert(one >> 32, (one, start)) {
-            let apart = (one ^ other) as u32;
-            if first != start && apart & 0x8080_8080 == 0 {
-                let blocks = [[start[0], start[1], LAST], [first[0], first[1], LAST ^ apart]];
-                return (blocks, mix(one, LAST));
-            }
+/// Four blocks of two times eight bytes that lead a lane from this hash to the same one, and that hash.
+fn same_hash(factors: [u64; 2], hash: u64) -> ([[u64; 2]; 4], u64) {
+    const LAST: u64 = 0x6161_6161_6161_6161;
+    const NOT_ASCII: u64 = 0x8080_8080_8080_8080;
+    let mut seen: HashMap<u64, Vec<u64>> = HashMap::new();
+    for i in 0u64.. {
+        let start = u64::from_le_bytes([0, 4, 8, 12, 16, 20, 24, 28].map(|shift| b'A' + (i >> shift) as u8 % 16));
+        let one = fold(factors, hash, start);
+        // The last eight bytes make up for where the hashes differ, and stay ASCII.
+        let alike = seen.entry(one & NOT_ASCII).or_default();
+        alike.push(start);
+        if let [.., _, _, _, _] = alike[..] {
+            let blocks = std::array::from_fn(|k| [alike[k], LAST ^ one ^ fold(factors, hash, alike[k])]);
+            return (blocks, fold(factors, one, LAST));
         }
     }
     unreachable!("some blocks meet")
 }
 
-/// Names that differ and all have the same hash under the first key: one of two blocks at each of 17 places.
+/// Names of 204 bytes that differ and all have the same hash under the first key: one of four blocks at each of six places in two lanes.
 pub fn colliding(n: usize) -> Vec<u8> {
-    const BLOCKS: usize = 17;
-    let mut hash = mix(0, 12 * BLOCKS as u32);
-    let pairs: Vec<[[u32; 3]; 2]> = (0..BLOCKS)
-        .map(|_| {
-            let (blocks, next) = same_hash(hash);
+    const LENGTH: u64 = 204;
+    let lanes = [(FACTORS, LENGTH * FACTORS[0]), ([FACTORS[1], FACTORS[0]], 0)].map(|(factors, start)| {
+        let mut hash = start;
+        [0; 6].map(|_| {
+            let (blocks, next) = same_hash(factors, hash);
             hash = next;
             blocks
         })
-        .collect();
+    });
     fields((0..n).map(|i| {
-        let words = pairs.iter().enumerate().flat_map(|(k, blocks)| blocks[i >> k & 1]);
-        words.flat_map(u32::to_le_bytes).collect()
+        let mut name = Vec::new();
+        for k in 0..6 {
+            let [one, other] = [0, 1].map(|lane| lanes[lane][k][i >> (4 * k + 2 * lane) & 3]);
+            name.extend([one[0], other[0], one[1], other[1]].map(u64::to_le_bytes).concat());
+        }
+        name.extend(b"all the same");
+        assert_eq!(name.len() as u64, LENGTH);
+        name
     }))
 }

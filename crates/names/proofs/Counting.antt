@@ -1,54 +1,85 @@
--- The laws of the loop that counts the names other than "_".
-use Prim.Native.Nat.{ℕ, _+_, _-_, _≤_, _<_}
+-- The laws of the loop that counts the names other than "_", and their bytes.
+use Prim.Native.Nat.{ℕ, _+_, _-_, _*_, _≤_, _<_}
 use mathlib.Core.Path.{_≡_, ap, sym, _∙_}
 use mathlib.Core.List.{List, [], _∷_, map}
 use mathlib.Core.Bool.{Bool, true, false}
 use native.Mathlib.Omega.{arith}
 use lib.ListN.{length}
 use Rattle.format.specs.Trace.{pick}
+use Rattle.format.specs.Format.{Value}
 use Rattle.format.specs.Reading.{same}
+use Rattle.vob24.specs.Settings.{settings}
 use Rattle.vob24.specs.Questions.{named}
-use Rattle.items.specs.declared.Item.{Item}
+use Rattle.vob24.specs.Grammar.{structField}
+use Rattle.items.specs.declared.Item.the-variants.{StructField}
+use Rattle.items.specs.declared.Table.the-variants.{Fields}
 use Rattle.items.specs.Walk.{valueAt, itemsAt, items-none}
-use Rattle.items.specs.Items.{formatOf, nameOf, textAt}
-use Rattle.items.specs.Contract.{TextAt, BlankIs, Placed, Past, Items}
+use Rattle.items.specs.Items.{nameOf, textAt}
+use Rattle.items.specs.Contract.{TextAt, WordIs, BlankIs, Placed, Past, Items}
 use Rattle.items.proofs.Places.{item-name}
 use Rattle.items.proofs.Keys.{name-content}
+use Rattle.items.proofs.Texts.{text-length}
 use Rattle.items.proofs.Walking.{items-here, items-next, items-cons}
-use Rattle.names.specs.Contract.{Named}
+use Rattle.names.specs.Asking.{priceOf, price}
+use Rattle.names.specs.Contract.{Named, Tallied}
 
-pub record Counting (i : Item) (s : List ℕ) (from n at k m : ℕ) : Type 0 where
-  pub items : Items (formatOf i) k s at
+pub record Counting (s : List ℕ) (from n at k m b : ℕ) : Type 0 where
+  pub items : Items (structField settings) k s at
   pub most : m + k ≤ n
-  pub leads : length (named (map (nameOf i) (itemsAt (formatOf i) n s from))) ≡ m + length (named (map (nameOf i) (itemsAt (formatOf i) k s at)))
+  pub leads : length (named (map (nameOf StructField) (itemsAt (structField settings) n s from))) ≡ m + length (named (map (nameOf StructField) (itemsAt (structField settings) k s at)))
+  pub bound : b + 4294967295 * k ≤ 4294967295 * n
+  pub sums : price Fields (itemsAt (structField settings) n s from) ≡ b + price Fields (itemsAt (structField settings) k s at)
 
-pub counting-start : (i : Item) {s : List ℕ} {from n : ℕ} → Items (formatOf i) n s from → Counting i s from n from n 0
-counting-start i h = record { items = h; most = omega arith; leads = omega arith }
+pub counting-start : {s : List ℕ} {from n : ℕ} → Items (structField settings) n s from → Counting s from n from n 0 0
+counting-start h = record { items = h; most = omega arith; leads = omega arith; bound = omega arith; sums = omega arith }
 
-module _ {i : Item} {s : List ℕ} {from n : ℕ} where
-  module _ {at k m : ℕ} (h : 0 < k) (l : Counting i s from n at k m) where
-    pub counting-here : Placed (formatOf i) s at
+module _ {s : List ℕ} {from n : ℕ} where
+  module _ {at k m b : ℕ} (h : 0 < k) (l : Counting s from n at k m b) where
+    pub counting-here : Placed (structField settings) s at
     counting-here = items-here h (l .items)
 
     pub counting-text : TextAt s at
-    counting-text = item-name i counting-here
+    counting-text = item-name StructField counting-here
 
-    pub counting-more : {z j : ℕ} {q : Bool} → BlankIs s at q → j ≡ pick q 0 1 → Past (formatOf i) s at z → Counting i s from n z (k - 1) (m + j)
-    unfolding named pick
-    counting-more {z} {j} {q} b e w =
-        record { items = items-next h (l .items) w; most = less q e; leads = l .leads ∙ ap (λ vs. m + length (named (map (nameOf i) vs))) (items-cons h (l .items) w) ∙ step q (b .is) e }
+    pub counting-room : at + 4 ≤ length s
+    counting-room = omega (arith, counting-text .room)
+
+    pub counting-more : {z w i j : ℕ} {q : Bool} → BlankIs s at q → i ≡ pick q 0 1 → WordIs s at w → j ≡ pick q 0 w → Past (structField settings) s at z → Counting s from n z (k - 1) (m + i) (b + j)
+    unfolding named price pick
+    counting-more {z} {w} {i} {j} {q} e x g y p =
+        record {
+          items = items-next h (l .items) p;
+          most = less q x;
+          leads = l .leads ∙ ap (λ vs. m + length (named (map (nameOf StructField) vs))) (items-cons h (l .items) p) ∙ step q (e .is) x;
+          bound = under q y;
+          sums = l .sums ∙ ap (λ vs. b + price Fields vs) (items-cons h (l .items) p) ∙ sum q (e .is) y;
+        }
       where
-        less : (q : Bool) → j ≡ pick q 0 1 → m + j + (k - 1) ≤ n
+        less : (q : Bool) → i ≡ pick q 0 1 → m + i + (k - 1) ≤ n
         less true e = omega (arith, l .most)
         less false e = omega (arith, l .most)
 
-        step : (q : Bool) → q ≡ same (textAt s at) (95 ∷ []) → j ≡ pick q 0 1
-            → m + length (named (nameOf i (valueAt (formatOf i) s at) ∷ map (nameOf i) (itemsAt (formatOf i) (k - 1) s z))) ≡ m + j + length (named (map (nameOf i) (itemsAt (formatOf i) (k - 1) s z)))
-        step true b e = rw (name-content i (counting-here .stands), ← b) (omega arith)
-        step false b e = rw (name-content i (counting-here .stands), ← b) (omega arith)
+        under : (q : Bool) → j ≡ pick q 0 w → b + j + 4294967295 * (k - 1) ≤ 4294967295 * n
+        under true e = omega (arith, l .bound)
+        under false e = omega (arith, l .bound, g .below)
 
-  pub counting-done : {at k m : ℕ} → k ≤ 0 → Counting i s from n at k m → Named i s from n m
-  unfolding named
-  counting-done {at} {k} {m} h l = record { is = sym (l .leads ∙ ap (λ vs. m + length (named (map (nameOf i) vs))) (items-none (formatOf i) k s at h) ∙ omega arith); most = omega (arith, l .most) }
+        step : (q : Bool) → q ≡ same (textAt s at) (95 ∷ []) → i ≡ pick q 0 1
+            → m + length (named (nameOf StructField (valueAt (structField settings) s at) ∷ map (nameOf StructField) (itemsAt (structField settings) (k - 1) s z))) ≡ m + i + length (named (map (nameOf StructField) (itemsAt (structField settings) (k - 1) s z)))
+        step true b e = rw (name-content StructField (counting-here .stands), ← b) (omega arith)
+        step false b e = rw (name-content StructField (counting-here .stands), ← b) (omega arith)
 
-pub ruleset counting = (counting-start, counting-here, counting-text, counting-more, counting-done)
+        sum : (q : Bool) → q ≡ same (textAt s at) (95 ∷ []) → j ≡ pick q 0 w
+            → b + price Fields (valueAt (structField settings) s at ∷ itemsAt (structField settings) (k - 1) s z) ≡ b + j + price Fields (itemsAt (structField settings) (k - 1) s z)
+        sum true d e = rw (name-content StructField (counting-here .stands), ← d) (omega arith)
+        sum false d e = rw (name-content StructField (counting-here .stands), ← d, text-length counting-text g) (omega arith)
+
+  pub counting-done : {at k m b : ℕ} → k ≤ 0 → Counting s from n at k m b → Tallied s from n m b
+  unfolding named price
+  counting-done {at} {k} {m} {b} h l =
+      let z = items-none (structField settings) k s at h in
+      record {
+        named = record { is = sym (l .leads ∙ ap (λ vs. m + length (named (map (nameOf StructField) vs))) z ∙ omega arith); most = omega (arith, l .most) };
+        cost = record { is = sym (l .sums ∙ ap (λ vs. b + price Fields vs) z ∙ omega arith) };
+      }
+
+pub ruleset counting = (counting-start, counting-here, counting-text, counting-room, counting-more, counting-done)

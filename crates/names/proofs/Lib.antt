@@ -1,5 +1,6 @@
 pub mod Counting
 pub mod Asking
+pub mod Paying
 pub mod Orders
 pub mod Lists
 pub mod Methods

@@ -1,5 +1,5 @@
 -- The questions on the items of a table, each by the items before it.
-use Prim.Native.Nat.{ℕ, zero, suc}
+use Prim.Native.Nat.{ℕ, zero, suc, _+_}
 use mathlib.Core.List.{List, [], _∷_, _++_}
 use lib.ListN.{length}
 use Rattle.format.specs.Trace.{Wrong, pick}
@@ -20,6 +20,16 @@ abbrev pub charges : Table → Value → List Ask
 charges Fields v = pick (blank (nameOf StructField v)) [] (pay refusals.structFieldKey (length (content (nameOf StructField v))) ∷ [])
 charges (Methods i) v = []
 charges Identities v = []
+
+-- what they come to
+abbrev pub priceOf : Table → Value → ℕ
+priceOf Fields v = pick (blank (nameOf StructField v)) 0 (length (content (nameOf StructField v)))
+priceOf (Methods i) v = 0
+priceOf Identities v = 0
+
+unfoldable pub price : Table → List Value → ℕ
+price t [] = 0
+price t (v ∷ vs) = priceOf t v + price t vs
 
 abbrev pub wrongIn : Table → Value → Wrong
 wrongIn Fields v = repeat refusals.duplicateStructField 0 (nameOf StructField v)

@@ -12,12 +12,14 @@ use Rattle.reader.specs.declared.Refusal.{Refusal}
 use Rattle.reader.specs.declared.Step.{Step}
 use Rattle.reader.specs.declared.Step.the-variants.{Taken, Refused}
 use Rattle.items.specs.declared.Item.{Item}
+use Rattle.items.specs.declared.Item.the-variants.{StructField}
 use Rattle.items.specs.declared.Table.{Table}
+use Rattle.items.specs.declared.Table.the-variants.{Fields}
 use Rattle.items.specs.Walk.{Stands, valueAt, itemsAt}
 use Rattle.items.specs.Items.{formatOf, nameOf, textAt}
 use Rattle.items.specs.Tables.{formatIn}
 use Rattle.items.specs.Contract.{Items}
-use Rattle.names.specs.Asking.{charges, wrongIn, seenAt, methodAsks}
+use Rattle.names.specs.Asking.{charges, price, wrongIn, seenAt, methodAsks}
 
 -- The charge, at c, of the key of the item at p.
 pub record Charged (t : Table) (s : List ℕ) (p : ℕ) (c : Cursor) (q : Step) : Type 0 where
@@ -35,6 +37,15 @@ pub record RepeatTold (t : Table) (s : List ℕ) (p : ℕ) (c : Cursor) (q : Ste
 pub record Named (i : Item) (s : List ℕ) (from n q : ℕ) : Type 0 where
   pub is : q ≡ length (named (map (nameOf i) (itemsAt (formatOf i) n s from)))
   pub most : q ≤ n
+
+-- What the keys of n items cost.
+pub record Cost (t : Table) (s : List ℕ) (from n q : ℕ) : Type 0 where
+  pub is : q ≡ price t (itemsAt (formatIn t) n s from)
+
+-- The fields' names other than "_": how many, and their bytes.
+pub record Tallied (s : List ℕ) (from n names bytes : ℕ) : Type 0 where
+  pub named : Named StructField s from n names
+  pub cost : Cost Fields s from n bytes
 
 -- A named type's method was read from r to r₁, after n others.
 pub record MethodBehind (s : List ℕ) (from n : ℕ) (r r₁ : Step) : Type 0 where

@@ -2,7 +2,7 @@
 // Ports build_struct_field_index, validate_unique_interface_method_names, insert_named_method, and the check of runtime struct fields of
 // serialize.rs.
 ghost use mathlib.Core.Path.{_≡_};
-ghost use Prim.Native.Nat.{_≤_};
+ghost use Prim.Native.Nat.{_≤_, _<_};
 ghost use mathlib.Core.List.{[], map};
 ghost use Rattle.format.specs.Trace.{pick};
 ghost use Rattle.vob24.specs.Settings.{settings};
@@ -12,8 +12,9 @@ ghost use Rattle.items.specs.Walk.{itemsAt};
 ghost use Rattle.items.specs.Items.{formatOf, namesOf};
 ghost use Rattle.items.specs.Tables.{formatIn};
 ghost use Rattle.items.specs.Contract.{over, TextAt, Placed, Items, ListBehind, ListAsked};
+ghost use Rattle.repeats.specs.Repeats.{FirstRepeat};
 ghost use Rattle.names.specs.Asking.{tableAsks};
-ghost use Rattle.names.specs.Contract.{Charged, Repeated, RepeatTold, Named, MethodBehind, MethodAsked};
+ghost use Rattle.names.specs.Contract.{Charged, Repeated, RepeatTold, Cost, Tallied, MethodBehind, MethodAsked};
 use items::Item;
 use items::Table;
 use reader::Cursor;
@@ -84,12 +85,11 @@ fn charge_key(s: &[u8], table: Table, p: usize, c: Cursor) -> Step
     }
 }
 
-// The questions on n items, one by one: an item's key is charged just before it is compared.
-fn distinct(s: &[u8], table: Table, from: usize, n: usize, c: Cursor) -> Step
-    requires { ⌜ Items (formatIn table) n (now s) from ⌝ }
+// The questions on n items, one by one: an item's key is charged just before it is compared, and item lim is the first that repeats another.
+fn judged(s: &[u8], table: Table, from: usize, n: usize, lim: usize, c: Cursor) -> Step
+    requires { ⌜ (Items (formatIn table) n (now s) from) × (FirstRepeat table (now s) from n lim) ⌝ }
     ensures { λ q. ⌜ Asks (over (tableAsks table) [] (itemsAt (formatIn table) n (now (s .entry)) from)) c q ⌝ }
 {
-    let lim = repeats::first_repeat(s, table, from, n);
     let mut p = from;
     let mut i = 0;
     let mut here = c;
@@ -108,28 +108,56 @@ fn distinct(s: &[u8], table: Table, from: usize, n: usize, c: Cursor) -> Step
     Step::Taken(here)
 }
 
-// ---- 16: the fields of a struct
-
-fn one_unless(b: bool) -> u64
-    ensures { λ q. ⌜ (q ≡ pick b 0 1) × (q ≤ 1) ⌝ }
+// The questions on n items whose keys cost so much in all: at once where none repeats another and all can be paid.
+fn distinct(s: &[u8], table: Table, from: usize, n: usize, cost: u64, c: Cursor) -> Step
+    requires { ⌜ (Items (formatIn table) n (now s) from) × (Cost table (now s) from n cost) ⌝ }
+    ensures { λ q. ⌜ Asks (over (tableAsks table) [] (itemsAt (formatIn table) n (now (s .entry)) from)) c q ⌝ }
 {
-    if b { 0 } else { 1 }
+    let lim = repeats::first_repeat(s, table, from, n);
+    if lim < n {
+        return judged(s, table, from, n, lim, c);
+    }
+    let left = c.left;
+    if left < cost {
+        return judged(s, table, from, n, lim, c);
+    }
+    Step::Taken(Cursor {
+        place: c.place,
+        left: left - cost,
+        at: c.at,
+    })
 }
 
-// How many of n fields have a name other than "_".
-fn named(s: &[u8], from: usize, n: usize) -> u64
-    requires { ⌜ Items (structField settings) n (now s) from ⌝ }
-    ensures { λ q. ⌜ Named Item.StructField (now (s .entry)) from n q ⌝ }
+// ---- 16: the fields of a struct
+
+fn unless(b: bool, n: u64) -> u64
+    ensures { λ q. ⌜ (q ≡ pick b 0 n) × (q ≤ n) ⌝ }
+{
+    if b { 0 } else { n }
+}
+
+// How many of n fields have a name other than "_", and how many bytes these names have.
+struct Tally {
+    names: u64,
+    bytes: u64,
+}
+
+fn named(s: &[u8], from: usize, n: usize) -> Tally
+    requires { ⌜ (Items (structField settings) n (now s) from) × (n < 4294967296) ⌝ }
+    ensures { λ q. ⌜ Tallied (now (s .entry)) from n (q .names) (q .bytes) ⌝ }
 {
     let mut at = from;
     let mut k = n;
-    let mut m: u64 = 0;
+    let mut names: u64 = 0;
+    let mut bytes: u64 = 0;
     while 0 < k {
-        m += one_unless(items::blank(s, at));
+        let b = items::blank(s, at);
+        names += unless(b, 1);
+        bytes += unless(b, items::word_at(s, at) as u64);
         at = items::past(s, Item::StructField, at);
         k -= 1;
     }
-    m
+    Tally { names, bytes }
 }
 
 // The index of the fields whose list was read at r, asked at r1.
@@ -146,12 +174,15 @@ pub fn field_index(s: &[u8], r: Step, r1: Step) -> Step
     let place = c.place;
     let n = items::word_at(s, place);
     let from = place + 4;
-    let size = named(s, from, n) * vob24::size(sizes::STRING_USIZE);
+    let tally = named(s, from, n);
+    let names = tally.names;
+    let bytes = tally.bytes;
+    let size = names * vob24::size(sizes::STRING_USIZE);
     let paid = reader::charge_allocation(d, numbers::STRUCT_FIELD_INDEX, size);
     let Step::Taken(e) = paid else {
         return paid;
     };
-    distinct(s, Table::Fields, from, n, e)
+    distinct(s, Table::Fields, from, n, bytes, e)
 }
 
 // ---- 17: the methods of an interface
@@ -174,7 +205,7 @@ pub fn method_set(s: &[u8], item: Item, r: Step, r1: Step) -> Step
     let Step::Taken(e) = paid else {
         return paid;
     };
-    distinct(s, Table::Methods(item), place + 4, n, e)
+    distinct(s, Table::Methods(item), place + 4, n, 0, e)
 }
 
 // ---- 18: the methods of a named type
@@ -217,5 +248,5 @@ pub fn field_set(s: &[u8], r: Step, r1: Step) -> Step
     let Step::Taken(e) = paid else {
         return paid;
     };
-    distinct(s, Table::Identities, place + 4, n, e)
+    distinct(s, Table::Identities, place + 4, n, 0, e)
 }

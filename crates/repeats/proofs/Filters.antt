@@ -1,61 +1,31 @@
 -- The laws of the filter: what is not in it was not seen, so the first repeat that the passes find is the first of all.
-use Prim.Native.Nat.{ℕ, suc, zero, _+_, _/_, _%_, _≤_, _<_, min, max}
+use Prim.Native.Nat.{ℕ, suc, zero, _+_, _-_, _≤_, _<_}
 use mathlib.Core.Path.{_≡_, refl, ap, sym, _∙_}
-use mathlib.Core.List.{List, _∷_, map}
+use mathlib.Core.List.{List}
 use mathlib.Core.Bool.{Bool, true, false}
 use native.Mathlib.Omega.{arith}
-use native.Mathlib.Nat.{min-le-left, min-le-right, le-max-left, le-min, max-le, le-antisymm}
 use lib.ListN.{length, getD, set, replicate, length-set, length-replicate}
 use lib.Seq.{getD-set-same, getD-set-other}
-use lib.Bits.{bitAnd, bitOr, and-step, or-step, and-zero-r, and-self, or-comm, and-le-r}
-use lib.Arith.{bin-ind}
+use lib.Bits.{bitAnd, bitOr, and-le-r}
 use lib.Dec.{eqb, ltb}
 use borrow.Author.Count.{below-more}
 use borrow.Author.Tests.{eqb-true, eqb-false, ltb-true, ltb-false}
-use Rattle.format.specs.Trace.{pick}
-use Rattle.format.specs.Format.{content}
-use Rattle.format.specs.Reading.{same}
-use Rattle.format.specs.Laying.{same-eq}
-use Rattle.vob24.specs.Questions.{Identity, amongIdentities}
+use Rattle.format.specs.Ending.{trace-place}
 use Rattle.items.specs.declared.Table.{Table}
-use Rattle.items.specs.Walk.{AllStand, valueAt, nextAt, itemsAt, lastAt}
-use Rattle.items.specs.Items.{nameOf, textAt}
-use Rattle.items.specs.Tables.{itemOf, formatIn, keyOf, packageText}
-use Rattle.items.specs.Contract.{Past, Items, Seen}
-use Rattle.items.proofs.Keys.{key-name, key-package}
-use Rattle.items.proofs.Walking.{Walking, walking-start, walking-next}
+use Rattle.items.specs.Walk.{AllStand, nextAt, lastAt}
+use Rattle.items.specs.Items.{textAt}
+use Rattle.items.specs.Tables.{itemOf, formatIn, packageText}
+use Rattle.items.specs.Contract.{Placed, Past, Items, Seen}
+use Rattle.items.proofs.Places.{item-name}
+use Rattle.items.proofs.Walking.{Walking, walking-start, walking-next, items-here, items-next}
 use Rattle.repeats.specs.declared.Told.{Told}
 use Rattle.repeats.specs.declared.Told.the-variants.{Old, Stop, On}
 use Rattle.repeats.specs.declared.Outcome.{Outcome}
 use Rattle.repeats.specs.declared.Outcome.the-variants.{Done, Tired}
-use Rattle.repeats.specs.Repeats.{exempt, repeats, repeatAt, ExemptIs, Standing, FirstRepeat}
-use Rattle.repeats.specs.Filter.{keyHash, KeyHash, hashAt, class, spot, maskOf, Classed, Filter, Known, isOld, isStop, isOn, Passed, PassedOr, done, tired, FirstOr, first, none}
-use Rattle.repeats.proofs.Repeats.{walking-stands, repeat-is, repeat-exempt, repeat-seen}
-
--- ---- bits: what a word has, it has with more bits
-digit-stays : (b v m : ℕ) → b ≤ 1 → v ≤ 1 → m ≤ 1 → min b m ≡ m → min (max b v) m ≡ m
-digit-stays b v m h i j e = le-antisymm (min-le-right _ _) (le-min (omega (arith, min-le-left b m, le-max-left b v)) (omega arith))
-
-bits-stay : (w v m : ℕ) → bitAnd w m ≡ m → bitAnd (bitOr w v) m ≡ m
-bits-stay w = bin-ind (λ (n : ℕ). (v m : ℕ) → bitAnd n m ≡ m → bitAnd (bitOr n v) m ≡ m) base step w
-  where
-    base : (v m : ℕ) → 0 ≡ m → bitAnd v m ≡ m
-    base v m e = rw (← e) (and-zero-r v)
-
-    step : (n : ℕ) → ((v m : ℕ) → bitAnd (n / 2) m ≡ m → bitAnd (bitOr (n / 2) v) m ≡ m) → (v m : ℕ) → bitAnd n m ≡ m → bitAnd (bitOr n v) m ≡ m
-    step n ih v m e =
-        let d = and-step n m in
-        let o = or-step n v in
-        let b = min-le-right (n % 2) (m % 2) in
-        let t : max (n % 2) (v % 2) ≤ 1 = max-le (omega arith) (omega arith) in
-        let h : bitAnd (n / 2) (m / 2) ≡ m / 2 = omega arith in
-        let l : min (n % 2) (m % 2) ≡ m % 2 = omega arith in
-        let x : bitOr n v / 2 ≡ bitOr (n / 2) (v / 2) = omega arith in
-        let y : bitOr n v % 2 ≡ max (n % 2) (v % 2) = omega arith in
-        and-step (bitOr n v) m ∙ rw (x, y, ih (v / 2) (m / 2) h, digit-stays (n % 2) (v % 2) (m % 2) (omega arith) (omega arith) (omega arith) l) (omega arith)
-
-bits-set : (w m : ℕ) → bitAnd (bitOr w m) m ≡ m
-bits-set w m = rw (or-comm w m) (bits-stay m w m (and-self m))
+use Rattle.repeats.specs.Repeats.{repeatAt, ExemptIs, Standing, FirstRepeat}
+use Rattle.repeats.specs.Filter.{keyHash, KeyHash, hashAt, class, spot, maskOf, Classed, Filter, Known, isOld, isStop, isOn, Passed, PassedOr, done, tired, FirstOr, first, none, Within}
+use Rattle.repeats.proofs.Bits.{bits-stay, bits-set}
+use Rattle.repeats.proofs.Repeats.{walking-stands, repeat-none, repeat-exempt, repeat-seen}
 
 word-stays : (f : List ℕ) (i j v m : ℕ) → i < length f → bitAnd (getD f j 0) m ≡ m → bitAnd (getD (set f i (bitOr (getD f i 0) v)) j 0) m ≡ m
 word-stays f i j v m small e = go (eqb j i) refl
@@ -64,45 +34,18 @@ word-stays f i j v m small e = go (eqb j i) refl
     go true q = let z : j ≡ i = eqb-true j i q in rw (z, getD-set-same f i (bitOr (getD f i 0) v) 0 small) (bits-stay (getD f i 0) v m (rw z at e))
     go false q = rw (getD-set-other f i j (bitOr (getD f i 0) v) 0 (eqb-false _ _ q)) e
 
--- ---- a key that is none of the first i is not among them
-not-same : (x y : Identity) (ys : List Identity) → (content (x .1) ≡ content (y .1) → content (x .0) ≡ content (y .0) → ⊥) → amongIdentities x ys ≡ false → amongIdentities x (y ∷ ys) ≡ false
-unfolding amongIdentities pick
-not-same x y ys h r = go (same (content (x .1)) (content (y .1))) (same (content (x .0)) (content (y .0))) refl refl
-  where
-    go : (n p : Bool) → same (content (x .1)) (content (y .1)) ≡ n → same (content (x .0)) (content (y .0)) ≡ p → pick n (pick p true (amongIdentities x ys)) (amongIdentities x ys) ≡ false
-    go true true e f = absurd (h (same-eq _ _ (rw e tt)) (same-eq _ _ (rw f tt)))
-    go true false e f = r
-    go false p e f = r
-
-among-none : (t : Table) (s : List ℕ) (i from : ℕ) (x : Identity) → AllStand (formatIn t) i s from
-    → ((k : ℕ) → k < i → content (x .1) ≡ textAt s (lastAt (formatIn t) k s from) → content (x .0) ≡ packageText t s (lastAt (formatIn t) k s from) → ⊥)
-    → amongIdentities x (map (keyOf t) (itemsAt (formatIn t) i s from)) ≡ false
-unfolding amongIdentities itemsAt lastAt AllStand
-among-none t s zero from x a h = refl
-among-none t s (suc i) from x a h =
-    not-same x (keyOf t (valueAt (formatIn t) s from)) (map (keyOf t) (itemsAt (formatIn t) i s (nextAt (formatIn t) s from))) (λ e f. h 0 (omega arith) (e ∙ key-name t (a .0)) (f ∙ key-package t (a .0)))
-    (among-none t s i (nextAt (formatIn t) s from) x (a .1) (λ k l. h (suc k) (omega arith)))
-
 -- ---- the filter
 module _ {a : ℕ} {t : Table} {s : List ℕ} {from i lo hi top : ℕ} {f : List ℕ} (l : Filter a t s from i lo hi top f) where
   -- an item whose bits are not all there repeats none
   filter-new : {p : ℕ} → Standing t s from i p → Classed a t s from lo hi i → (bitAnd (getD f (spot top (hashAt a t s from i)) 0) (maskOf (hashAt a t s from i)) ≡ maskOf (hashAt a t s from i) → ⊥) → repeatAt t s from i ≡ false
-  unfolding repeats hashAt keyHash pick
-  filter-new {p} w c h = repeat-is w ∙ go (exempt t (content (nameOf (itemOf t) (valueAt (formatIn t) s p))))
+  unfolding hashAt keyHash
+  filter-new {p} w c h = repeat-none w none-before
     where
       same-hash : (k : ℕ) → textAt s p ≡ textAt s (lastAt (formatIn t) k s from) → packageText t s p ≡ packageText t s (lastAt (formatIn t) k s from) → hashAt a t s from i ≡ hashAt a t s from k
       same-hash k e g = rw (← w .place, e, g)
 
-      none-before : amongIdentities (keyOf t (valueAt (formatIn t) s p)) (map (keyOf t) (itemsAt (formatIn t) i s from)) ≡ false
-      none-before =
-          among-none t s i from (keyOf t (valueAt (formatIn t) s p)) (w .after .before .all)
-          (λ k d e g.
-          let z = same-hash k (sym (key-name t (w .after .here .stands)) ∙ e) (sym (key-package t (w .after .here .stands)) ∙ g) in
-          h (rw z (l .has k d (record { low = rw z at (c .low); high = rw z at (c .high) }))))
-
-      go : (b : Bool) → pick b false (amongIdentities (keyOf t (valueAt (formatIn t) s p)) (map (keyOf t) (itemsAt (formatIn t) i s from))) ≡ false
-      go true = refl
-      go false = none-before
+      none-before : (k : ℕ) → k < i → textAt s p ≡ textAt s (lastAt (formatIn t) k s from) → packageText t s p ≡ packageText t s (lastAt (formatIn t) k s from) → ⊥
+      none-before k d e g = let z = same-hash k e g in h (rw z (l .has k d (record { low = rw z at (c .low); high = rw z at (c .high) })))
 
   -- its word is there
   pub filter-spot : (h : ℕ) → bitAnd h top < length f
@@ -251,3 +194,27 @@ is-first {t} {s} {from} {n} {q} f e = go (rw e at f)
     go (first x) = x
 
 pub ruleset firsts = (firsts-start, firsts-more, firsts-done, firsts-tired, is-first)
+
+-- ---- the loop of `past_items`
+pub record Leaving (t : Table) (s : List ℕ) (from p k : ℕ) : Type 0 where
+  pub items : Items (formatIn t) k s p
+  pub room : from < p → p ≤ length s
+
+module _ {t : Table} {s : List ℕ} {from : ℕ} where
+  pub leaving-start : {n : ℕ} → Items (formatIn t) n s from → Leaving t s from from n
+  leaving-start h = record { items = h; room = λ h. absurd (omega arith) }
+
+  module _ {p k : ℕ} (l : Leaving t s from p k) where
+    pub leaving-done : Within s from p
+    leaving-done = record { room = l .room }
+
+    module _ (h : 0 < k) where
+      pub leaving-here : Placed (formatIn t) s p
+      leaving-here = items-here h (l .items)
+
+      pub leaving-more : {q : ℕ} → Past (formatIn t) s p q → Leaving t s from q (k - 1)
+      leaving-more w =
+          let i = leaving-here in
+          record { items = items-next h (l .items) w; room = λ _. rw (w .is) (trace-place (formatIn t) s p (i .stands .ends) .1 (omega (arith, item-name (itemOf t) i .room))) }
+
+pub ruleset leaving = (leaving-start, leaving-done, leaving-here, leaving-more)

@@ -1,23 +1,25 @@
--- The laws of repeats: whether an item repeats one before it, and the loop over them all.
-use Prim.Native.Nat.{ℕ, _+_, _≤_, _<_}
+-- The laws of repeats: whether an item repeats one before it.
+use Prim.Native.Nat.{ℕ, suc, zero, _<_}
 use mathlib.Core.Path.{_≡_, refl, ap, sym, _∙_}
-use mathlib.Core.List.{List}
+use mathlib.Core.List.{List, _∷_, map}
 use mathlib.Core.Bool.{Bool, true, false}
 use native.Mathlib.Omega.{arith}
-use borrow.Author.Count.{below-more}
 use Rattle.format.specs.Trace.{pick}
 use Rattle.format.specs.Format.{content}
+use Rattle.format.specs.Reading.{same}
+use Rattle.format.specs.Laying.{same-eq}
+use Rattle.vob24.specs.Questions.{Identity, amongIdentities}
 use Rattle.items.specs.declared.Item.{Item}
 use Rattle.items.specs.declared.Table.{Table}
 use Rattle.items.specs.declared.Table.the-variants.{Fields, Methods, Identities}
-use Rattle.items.specs.Walk.{valueAt, itemsAt}
-use Rattle.items.specs.Items.{nameOf}
-use Rattle.items.specs.Tables.{itemOf, formatIn}
-use Rattle.items.specs.Contract.{TextAt, BlankIs, Past, Items, Seen}
+use Rattle.items.specs.Walk.{AllStand, valueAt, nextAt, itemsAt, lastAt}
+use Rattle.items.specs.Items.{nameOf, textAt}
+use Rattle.items.specs.Tables.{itemOf, formatIn, keyOf, packageText}
+use Rattle.items.specs.Contract.{TextAt, BlankIs, Seen}
 use Rattle.items.proofs.Places.{item-name}
-use Rattle.items.proofs.Keys.{key-name}
-use Rattle.items.proofs.Walking.{Walking, walking-start, walking-at, walking-next}
-use Rattle.repeats.specs.Repeats.{exempt, repeats, repeatAt, ExemptIs, Standing, FirstRepeat}
+use Rattle.items.proofs.Keys.{key-name, key-package}
+use Rattle.items.proofs.Walking.{Walking, walking-at}
+use Rattle.repeats.specs.Repeats.{exempt, repeats, repeatAt, ExemptIs, Standing}
 
 pub walking-stands : {t : Table} {s : List ℕ} {from n p i : ℕ} → i < n → Walking (formatIn t) s from n p i → Standing t s from i p
 walking-stands h l = record { after = walking-at h l; place = l .here }
@@ -54,24 +56,38 @@ module _ {t : Table} {s : List ℕ} {from i p : ℕ} (h : Standing t s from i p)
     unfolding repeats pick
     repeat-seen e v = repeat-is ∙ rw (exempt-is, e) (sym (v .is))
 
--- ---- the loop of `scan`
-pub record Scanning (t : Table) (s : List ℕ) (from n p i : ℕ) : Type 0 where
-  pub walk : Walking (formatIn t) s from n p i
-  pub new : (k : ℕ) → k < i → repeatAt t s from k ≡ false
+-- ---- an item that has the key of none before it repeats none
+not-same : (x y : Identity) (ys : List Identity) → (content (x .1) ≡ content (y .1) → content (x .0) ≡ content (y .0) → ⊥) → amongIdentities x ys ≡ false → amongIdentities x (y ∷ ys) ≡ false
+unfolding amongIdentities pick
+not-same x y ys h r = go (same (content (x .1)) (content (y .1))) (same (content (x .0)) (content (y .0))) refl refl
+  where
+    go : (n p : Bool) → same (content (x .1)) (content (y .1)) ≡ n → same (content (x .0)) (content (y .0)) ≡ p → pick n (pick p true (amongIdentities x ys)) (amongIdentities x ys) ≡ false
+    go true true e f = absurd (h (same-eq _ _ (rw e tt)) (same-eq _ _ (rw f tt)))
+    go true false e f = r
+    go false p e f = r
 
-module _ {t : Table} {s : List ℕ} {from n : ℕ} where
-  pub scanning-start : Items (formatIn t) n s from → Scanning t s from n from 0
-  scanning-start h = record { walk = walking-start h; new = λ k d. absurd (omega arith) }
+among-none : (t : Table) (s : List ℕ) (i from : ℕ) (x : Identity) → AllStand (formatIn t) i s from
+    → ((k : ℕ) → k < i → content (x .1) ≡ textAt s (lastAt (formatIn t) k s from) → content (x .0) ≡ packageText t s (lastAt (formatIn t) k s from) → ⊥)
+    → amongIdentities x (map (keyOf t) (itemsAt (formatIn t) i s from)) ≡ false
+unfolding amongIdentities itemsAt lastAt AllStand
+among-none t s zero from x a h = refl
+among-none t s (suc i) from x a h =
+    not-same x (keyOf t (valueAt (formatIn t) s from)) (map (keyOf t) (itemsAt (formatIn t) i s (nextAt (formatIn t) s from))) (λ e f. h 0 (omega arith) (e ∙ key-name t (a .0)) (f ∙ key-package t (a .0)))
+    (among-none t s i (nextAt (formatIn t) s from) x (a .1) (λ k l. h (suc k) (omega arith)))
 
-  module _ {p i : ℕ} (l : Scanning t s from n p i) where
-    pub scanning-done : n ≤ i → FirstRepeat t s from n n
-    scanning-done h = record { within = omega arith; new = λ k d. l .new k (omega arith); found = λ d. absurd (omega arith) }
+pub repeat-none : {t : Table} {s : List ℕ} {from i p : ℕ} → Standing t s from i p
+    → ((k : ℕ) → k < i → textAt s p ≡ textAt s (lastAt (formatIn t) k s from) → packageText t s p ≡ packageText t s (lastAt (formatIn t) k s from) → ⊥)
+    → repeatAt t s from i ≡ false
+unfolding repeats pick
+repeat-none {t} {s} {from} {i} {p} w h = repeat-is w ∙ go (exempt t (content (nameOf (itemOf t) (valueAt (formatIn t) s p))))
+  where
+    none-before : amongIdentities (keyOf t (valueAt (formatIn t) s p)) (map (keyOf t) (itemsAt (formatIn t) i s from)) ≡ false
+    none-before =
+        among-none t s i from (keyOf t (valueAt (formatIn t) s p)) (w .after .before .all)
+        (λ k d e g. h k d (sym (key-name t (w .after .here .stands)) ∙ e) (sym (key-package t (w .after .here .stands)) ∙ g))
 
-    module _ (h : i < n) {b : Bool} (e : b ≡ repeatAt t s from i) where
-      pub scanning-found : b ≡ true → FirstRepeat t s from n i
-      scanning-found r = record { within = omega arith; new = l .new; found = λ d. sym e ∙ r }
+    go : (b : Bool) → pick b false (amongIdentities (keyOf t (valueAt (formatIn t) s p)) (map (keyOf t) (itemsAt (formatIn t) i s from))) ≡ false
+    go true = refl
+    go false = none-before
 
-      pub scanning-more : {z : ℕ} → b ≡ false → Past (formatIn t) s p z → Scanning t s from n z (i + 1)
-      scanning-more r w = record { walk = walking-next h (l .walk) w; new = below-more _ i (l .new) (sym e ∙ r) }
-
-pub ruleset repeating = (walking-stands, exempt-field, exempt-method, exempt-identity, repeat-exempt, repeat-seen, scanning-start, scanning-done, scanning-found, scanning-more)
+pub ruleset repeating = (walking-stands, exempt-field, exempt-method, exempt-identity)

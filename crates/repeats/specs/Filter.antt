@@ -1,12 +1,13 @@
 -- The filter that finds repeats: a key's hash says its class, and which bits of which word it leaves behind.
-use Prim.Native.Nat.{ℕ, _+_, _*_, _/_, _%_, _^_, _≤_, _<_}
+use Prim.Native.Nat.{ℕ, suc, zero, _+_, _*_, _/_, _%_, _^_, _≤_, _<_}
 use mathlib.Core.Path.{_≡_}
 use mathlib.Core.List.{List, [], _∷_}
 use mathlib.Core.Bool.{true, false}
-use lib.ListN.{length, getD}
+use lib.ListN.{length, getD, drop}
 use lib.Bits.{bitAnd, bitOr, bitXor}
-use Rattle.format.specs.Reading.{little}
+use Rattle.format.specs.Reading.{little, part}
 use Rattle.items.specs.declared.Table.{Table}
+use Rattle.items.specs.declared.Table.the-variants.{Fields, Methods, Identities}
 use Rattle.items.specs.Walk.{lastAt}
 use Rattle.items.specs.Items.{textAt}
 use Rattle.items.specs.Tables.{formatIn, packageText}
@@ -20,12 +21,34 @@ use Rattle.repeats.specs.Repeats.{repeatAt, FirstRepeat}
 abbrev pub mixed : ℕ → ℕ → ℕ → ℕ
 mixed a h w = bitXor h w % 4294967296 * a + bitXor h w / 4294967296
 
-unfoldable pub bytesHash : ℕ → ℕ → List ℕ → ℕ
-bytesHash a h [] = h
-bytesHash a h (x ∷ []) = mixed a h x
-bytesHash a h (x ∷ y ∷ []) = mixed a (mixed a h x) y
-bytesHash a h (x ∷ y ∷ z ∷ []) = mixed a (mixed a (mixed a h x) y) z
-bytesHash a h (x ∷ y ∷ z ∷ w ∷ r) = bytesHash a (mixed a h (little (x ∷ y ∷ z ∷ w ∷ []))) r
+-- two words at once, under two keys
+abbrev pub folded : ℕ → ℕ → ℕ → ℕ → ℕ → ℕ
+folded a b h v w = bitXor (bitXor (h % 4294967296) v * a) (bitXor (h / 4294967296) w * b)
+
+abbrev pub otherKey : ℕ → ℕ
+otherKey a = (a + 1013904242) % 4294967296
+
+-- words, then bytes
+unfoldable pub tailHash : ℕ → ℕ → List ℕ → ℕ
+tailHash a h [] = h
+tailHash a h (x ∷ []) = mixed a h x
+tailHash a h (x ∷ y ∷ []) = mixed a (mixed a h x) y
+tailHash a h (x ∷ y ∷ z ∷ []) = mixed a (mixed a (mixed a h x) y) z
+tailHash a h (x ∷ y ∷ z ∷ w ∷ r) = tailHash a (mixed a h (little (x ∷ y ∷ z ∷ w ∷ []))) r
+
+unfoldable pub wordIn : List ℕ → ℕ → ℕ
+wordIn x j = little (part x j 4)
+
+unfoldable pub pastBlock : List ℕ → List ℕ
+pastBlock x = drop 16 x
+
+-- m blocks of sixteen bytes in the lanes g and e, then the rest
+unfoldable pub lanesHash : ℕ → ℕ → ℕ → List ℕ → ℕ → ℕ
+lanesHash a g e x zero = tailHash a (bitXor g e) x
+lanesHash a g e x (suc m) = lanesHash a (folded a (otherKey a) g (wordIn x 0) (wordIn x 4)) (folded (otherKey a) a e (wordIn x 8) (wordIn x 12)) (pastBlock x) m
+
+abbrev pub bytesHash : ℕ → ℕ → List ℕ → ℕ
+bytesHash a h x = lanesHash a h 0 x (length x / 16)
 
 pub record HashIs (a h : ℕ) (x : List ℕ) (q : ℕ) : Type 0 where
   pub is : q ≡ bytesHash a h x
@@ -36,11 +59,17 @@ textHash a h x = bytesHash a (mixed a h (length x)) x
 pub record TextHash (a h : ℕ) (s : List ℕ) (p q : ℕ) : Type 0 where
   pub is : q ≡ textHash a h (textAt s p)
 
+-- a package goes in where the table has them
+abbrev pub packageHash : ℕ → ℕ → Table → List ℕ → ℕ
+packageHash a h Fields x = h
+packageHash a h (Methods i) x = h
+packageHash a h Identities x = textHash a h x
+
 pub record PackageHash (a h : ℕ) (t : Table) (s : List ℕ) (p q : ℕ) : Type 0 where
-  pub is : q ≡ textHash a h (packageText t s p)
+  pub is : q ≡ packageHash a h t (packageText t s p)
 
 unfoldable pub keyHash : ℕ → Table → List ℕ → ℕ → ℕ
-keyHash a t s p = mixed a (mixed a (textHash a (textHash a 0 (textAt s p)) (packageText t s p)) 0) 0
+keyHash a t s p = mixed a (mixed a (packageHash a (textHash a 0 (textAt s p)) t (packageText t s p)) 0) 0
 
 pub record KeyHash (a : ℕ) (t : Table) (s : List ℕ) (p q : ℕ) : Type 0 where
   pub is : q ≡ keyHash a t s p
@@ -91,3 +120,7 @@ pub data PassedOr (a : ℕ) (t : Table) (s : List ℕ) (from n lo hi : ℕ) : Ou
 pub data FirstOr (t : Table) (s : List ℕ) (from n : ℕ) : Outcome → Type 0 where
   first : {q : ℕ} → FirstRepeat t s from n q → FirstOr t s from n (Done q)
   none : FirstOr t s from n Tired
+
+-- a place that a walk from another came to
+pub record Within (s : List ℕ) (from q : ℕ) : Type 0 where
+  pub room : from < q → q ≤ length s

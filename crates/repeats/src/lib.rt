@@ -6,14 +6,17 @@ ghost use lib.ListN.{length};
 ghost use Rattle.format.specs.Reading.{part};
 ghost use Rattle.items.specs.Tables.{formatIn};
 ghost use Rattle.repeats.specs.Repeats.{repeatAt, ExemptIs, Standing, FirstRepeat};
-ghost use Rattle.repeats.specs.Filter.{mixed, HashIs, TextHash, PackageHash, KeyHash, maskOf, Filter, Known, PassedOr, FirstOr};
+ghost use Rattle.repeats.specs.Marks.{MarkIs, Marked};
+ghost use Rattle.repeats.specs.Filter.{mixed, folded, HashIs, TextHash, PackageHash, KeyHash, maskOf, Filter, Known, PassedOr, FirstOr, Within};
 ghost use Rattle.items.specs.Contract.{TextAt, Placed, Items};
 use items::Table;
 
-// Of fewer items each is compared with all before it; from so many on the filter is large.
+// Fewer items are told apart by one word of marks; from there on a filter is small, then middling, then large.
 const FEW: usize = 24;
 
-const MANY: usize = 1024;
+const MIDDLING: usize = 1024;
+
+const MANY: usize = 16384;
 
 // An item's key was seen before; too many were compared in vain; or go on, with so many comparisons left.
 enum Told {
@@ -41,41 +44,57 @@ fn exempt(s: &[u8], table: Table, p: usize) -> bool
     }
 }
 
-// Does the item at p repeat one of the i before it?
-fn repeats_one(s: &[u8], table: Table, from: usize, i: usize, p: usize) -> bool
-    requires { ⌜ Standing table (now s) from i p ⌝ }
+fn wide(b: u8) -> u64
+    ensures { λ q. ⌜ (q ≡ b) × (q < 256) ⌝ }
+{
+    b as u64
+}
+
+// A bit for the text at p, by its length and its last byte; that of an empty text is the length's.
+fn mark(s: &[u8], p: usize) -> u64
+    requires { ⌜ TextAt (now s) p ⌝ }
+    ensures { λ q. ⌜ MarkIs (now (s .entry)) p q ⌝ }
+{
+    let n = items::word_at(s, p);
+    1 << ((n as u64 + wide(s[p + 3 + n])) % 64)
+}
+
+// Does the item at p, which has the mark m, repeat one of the i before it? It repeats none if its mark is new.
+fn repeats_one(s: &[u8], table: Table, from: usize, i: usize, p: usize, marks: u64, m: u64) -> bool
+    requires { ⌜ (Standing table (now s) from i p) × (Marked table (now s) from i marks) × (MarkIs (now s) p m) ⌝ }
     ensures { λ q. ⌜ q ≡ repeatAt table (now (s .entry)) from i ⌝ }
 {
+    let x = marks & m;
+    if x != m {
+        return false;
+    }
     if exempt(s, table, p) {
         return false;
     }
     items::seen(s, table, from, i, p)
 }
 
-// The first of the n items from `from` on that repeats one before it, or n: each is compared with all before it.
+// The first of the n items from `from` on that repeats one before it, or n: each whose mark is not new is compared with all before it.
 fn scan(s: &[u8], table: Table, from: usize, n: usize) -> usize
     requires { ⌜ Items (formatIn table) n (now s) from ⌝ }
     ensures { λ q. ⌜ FirstRepeat table (now (s .entry)) from n q ⌝ }
 {
     let mut p = from;
     let mut i = 0;
+    let mut marks: u64 = 0;
     while i < n {
-        if repeats_one(s, table, from, i, p) {
+        let m = mark(s, p);
+        if repeats_one(s, table, from, i, p, marks, m) {
             return i;
         }
+        marks = marks | m;
         p = items::past_item(s, table, p);
         i += 1;
     }
     n
 }
 
-// ---- a hash of an item's key, four bytes at a time
-
-fn wide(b: u8) -> u64
-    ensures { λ q. ⌜ (q ≡ b) × (q < 256) ⌝ }
-{
-    b as u64
-}
+// ---- a hash of an item's key: sixteen bytes at a time in two lanes, then four, then one
 
 fn mix(a: u64, h: u64, w: u64) -> u64
     requires { ⌜ a < 4294967296 ⌝ }
@@ -85,14 +104,37 @@ fn mix(a: u64, h: u64, w: u64) -> u64
     (x % 4294967296) * a + x / 4294967296
 }
 
-// The hash h taken on over the len bytes at start.
+// Two words at once: half of the hash and a word by each key.
+fn fold(a: u64, b: u64, h: u64, v: u64, w: u64) -> u64
+    requires { ⌜ (a < 4294967296) × (b < 4294967296) × (v < 4294967296) × (w < 4294967296) ⌝ }
+    ensures { λ q. ⌜ q ≡ folded a b h v w ⌝ }
+{
+    let x = (h % 4294967296) ^ v;
+    let y = (h / 4294967296) ^ w;
+    (x * a) ^ (y * b)
+}
+
+// The hash h taken on over the len bytes at start. The lanes do not wait for each other.
 fn hash_bytes(s: &[u8], start: usize, len: usize, a: u64, h: u64) -> u64
     requires { ⌜ (start + len ≤ length (now s)) × (a < 4294967296) ⌝ }
     ensures { λ q. ⌜ HashIs a h (part (now (s .entry)) start len) q ⌝ }
 {
+    let b = (a + 1013904242) % 4294967296;
     let mut g = h;
+    let mut e: u64 = 0;
     let mut p = start;
     let mut k = len;
+    while 16 <= k {
+        let v1 = items::word_at(s, p) as u64;
+        let w1 = items::word_at(s, p + 4) as u64;
+        let v2 = items::word_at(s, p + 8) as u64;
+        let w2 = items::word_at(s, p + 12) as u64;
+        g = fold(a, b, g, v1, w1);
+        e = fold(b, a, e, v2, w2);
+        p += 16;
+        k -= 16;
+    }
+    g = g ^ e;
     while 4 <= k {
         g = mix(a, g, items::word_at(s, p) as u64);
         p += 4;
@@ -120,8 +162,8 @@ fn hash_package(s: &[u8], table: Table, p: usize, a: u64, h: u64) -> u64
     ensures { λ q. ⌜ PackageHash a h table (now (s .entry)) p q ⌝ }
 {
     match table {
-        Table::Fields => mix(a, h, 0),
-        Table::Methods(_) => mix(a, h, 0),
+        Table::Fields => h,
+        Table::Methods(_) => h,
         Table::Identities => {
             let package = items::package_at(s, p);
             hash_text(s, package, a, h)
@@ -241,20 +283,31 @@ fn few(s: &[u8], table: Table, from: usize, n: usize, a: u64) -> Outcome
     pass(s, table, from, n, 0, 65536, a, 1023, &mut f)
 }
 
+fn middle(s: &[u8], table: Table, from: usize, n: usize, a: u64) -> Outcome
+    requires { ⌜ (Items (formatIn table) n (now s) from) × (a < 4294967296) ⌝ }
+    ensures { λ q. ⌜ FirstOr table (now (s .entry)) from n q ⌝ }
+{
+    let mut f = [0u64; 16384];
+    pass(s, table, from, n, 0, 65536, a, 16383, &mut f)
+}
+
 fn large_pass(s: &[u8], table: Table, from: usize, n: usize, lo: u64, hi: u64, a: u64) -> Outcome
     requires { ⌜ (Items (formatIn table) n (now s) from) × (a < 4294967296) ⌝ }
     ensures { λ q. ⌜ PassedOr a table (now (s .entry)) from n lo hi q ⌝ }
 {
-    let mut f = [0u64; 65536];
-    pass(s, table, from, n, lo, hi, a, 65535, &mut f)
+    let mut f = [0u64; 131072];
+    pass(s, table, from, n, lo, hi, a, 131071, &mut f)
 }
 
-// The first repeat of any table by the key a: a pass with a large filter for each 65536 items.
+// The first repeat of any table by the key a: one pass with a middling filter, or a pass with a large one for each 131072 items.
 fn many(s: &[u8], table: Table, from: usize, n: usize, a: u64) -> Outcome
     requires { ⌜ (Items (formatIn table) n (now s) from) × (a < 4294967296) ⌝ }
     ensures { λ q. ⌜ FirstOr table (now (s .entry)) from n q ⌝ }
 {
-    let parts = n / 65536 + 1;
+    if n < MANY {
+        return middle(s, table, from, n, a);
+    }
+    let parts = n / 131072 + 1;
     let classes = 65536 / (parts as u64) + 1;
     let mut lim = n;
     let mut lo: u64 = 0;
@@ -269,20 +322,32 @@ fn many(s: &[u8], table: Table, from: usize, n: usize, a: u64) -> Outcome
     Outcome::Done(lim)
 }
 
-// A key that depends on every name of the table: names can't be made to collide under it without changing it.
+// The place past the n items from `from` on.
+fn past_items(s: &[u8], table: Table, from: usize, n: usize) -> usize
+    requires { ⌜ Items (formatIn table) n (now s) from ⌝ }
+    ensures { λ q. ⌜ Within (now (s .entry)) from q ⌝ }
+{
+    let mut p = from;
+    let mut k = n;
+    while 0 < k {
+        p = items::past_item(s, table, p);
+        k -= 1;
+    }
+    p
+}
+
+// A key that depends on every byte of the table, by a hash under a key that no filter takes: names can't be made to collide under it
+// without changing it.
 fn fresh_key(s: &[u8], table: Table, from: usize, n: usize, a: u64) -> u64
     requires { ⌜ (Items (formatIn table) n (now s) from) × (a < 4294967296) ⌝ }
     ensures { λ q. ⌜ q < 4294967296 ⌝ }
 {
-    let mut h: u64 = 0;
-    let mut p = from;
-    let mut i = 0;
-    while i < n {
-        h = mix(a, h, hash_key(s, table, p, a));
-        p = items::past_item(s, table, p);
-        i += 1;
+    let end = past_items(s, table, from, n);
+    if end <= from {
+        return a;
     }
-    2147483649 + h % 1073741824 * 2
+    let h = hash_bytes(s, from, end - from, 3266489917, a);
+    2147483649 + h / 65536 % 1073741824 * 2
 }
 
 // The first repeat, with a large filter or a small one. Names that were made to have the same hash under one key are told apart under the
@@ -316,7 +381,7 @@ pub fn first_repeat(s: &[u8], table: Table, from: usize, n: usize) -> usize
     if n < FEW {
         return scan(s, table, from, n);
     }
-    if n < MANY {
+    if n < MIDDLING {
         return searched(s, table, from, n, false);
     }
     searched(s, table, from, n, true)

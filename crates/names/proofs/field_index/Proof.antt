@@ -31,13 +31,13 @@ add-from : tie.Need-add-from
 add-from c = omega (arith, list-room ((c .before .before .r) .given .1) ((c .before .before .before .before .before .r1) .given .1) (c .before .before .before .before .before .before .before .before .pre), list-small ((c .before .before .r) .given .1) ((c .before .before .before .before .before .r1) .given .1) (c .before .before .before .before .before .before .before .before .pre))
 
 named-requires : tie.Need-named-requires
-named-requires c κs = list-items ((c .before .before .r) .given .1) ((c .before .before .before .before .before .r1) .given .1) (c .before .before .before .before .before .before .before .before .pre) ((c .word-at) .ensures)
+named-requires c κs = (list-items ((c .before .before .r) .given .1) ((c .before .before .before .before .before .r1) .given .1) (c .before .before .before .before .before .before .before .before .pre) ((c .word-at) .ensures), c .word-at .ensures .below)
 
 size-requires : tie.Need-size-requires
 size-requires c κs = search needs
 
 mul-size : tie.Need-mul-size
-mul-size c = product-fits _ _ (omega (arith, (c .before .named) .ensures .most, (c .before .before .word-at) .ensures .below)) (omega (arith, (c .size) .ensures .1))
+mul-size c = product-fits _ _ (omega (arith, (c .before .named) .ensures .named .most, (c .before .before .word-at) .ensures .below)) (omega (arith, (c .size) .ensures .1))
 
 charge-allocation-requires : tie.Need-charge-allocation-requires
 charge-allocation-requires c κs = search needs
@@ -49,13 +49,13 @@ enum-told-3 : tie.Need-enum-told-3
 enum-told-3 c = search needs
 
 returns-3 : tie.Need-returns-3
-returns-3 c = list-asked ((c .before .before .before .before .before .before .before .r) .given .1) ((c .before .before .before .before .before .before .before .before .before .before .r1) .given .1) ((c .before .before .before .before .before .word-at) .ensures) (index-poor ((c .before .before .before .before .named) .ensures) ((c .before .before .before .size) .ensures .0) ((c .before .before .charge-allocation) .ensures) ((c .enum-told3) .given .1))
+returns-3 c = list-asked ((c .before .before .before .before .before .before .before .r) .given .1) ((c .before .before .before .before .before .before .before .before .before .before .r1) .given .1) ((c .before .before .before .before .before .word-at) .ensures) (index-poor (c .before .before .before .before .named .ensures .named) ((c .before .before .before .size) .ensures .0) ((c .before .before .charge-allocation) .ensures) ((c .enum-told3) .given .1))
 
 distinct-requires : tie.Need-distinct-requires
-distinct-requires c κs = list-items ((c .before .before .before .before .before .before .before .before .r) .given .1) ((c .before .before .before .before .before .before .before .before .before .before .before .r1) .given .1) (c .before .before .before .before .before .before .before .before .before .before .before .before .before .before .pre) ((c .before .before .before .before .before .before .word-at) .ensures)
+distinct-requires c κs = (list-items ((c .before .before .before .before .before .before .before .before .r) .given .1) ((c .before .before .before .before .before .before .before .before .before .before .before .r1) .given .1) (c .before .before .before .before .before .before .before .before .before .before .before .before .before .before .pre) ((c .before .before .before .before .before .before .word-at) .ensures), c .before .before .before .before .before .named .ensures .cost)
 
 returns-4 : tie.Need-returns-4
-returns-4 c = list-asked ((c .before .before .before .before .before .before .before .before .before .r) .given .1) ((c .before .before .before .before .before .before .before .before .before .before .before .before .r1) .given .1) ((c .before .before .before .before .before .before .before .word-at) .ensures) (index-then ((c .before .before .before .before .before .before .named) .ensures) ((c .before .before .before .before .before .size) .ensures .0) ((c .before .before .before .before .charge-allocation) .ensures) ((c .before .before .paid) .given .1) ((c .distinct) .ensures))
+returns-4 c = list-asked ((c .before .before .before .before .before .before .before .before .before .r) .given .1) ((c .before .before .before .before .before .before .before .before .before .before .before .before .r1) .given .1) ((c .before .before .before .before .before .before .before .word-at) .ensures) (index-then (c .before .before .before .before .before .before .named .ensures .named) ((c .before .before .before .before .before .size) .ensures .0) ((c .before .before .before .before .charge-allocation) .ensures) ((c .before .before .paid) .given .1) ((c .distinct) .ensures))
 
 pub field-index-spec : {M : Type 1} → statement M
 field-index-spec =

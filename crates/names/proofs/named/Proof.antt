@@ -1,14 +1,15 @@
 use borrow.Author.Needs.{needs}
-use Rattle.names.proofs.Counting.{counting, Counting}
-use Rattle.items.specs.declared.Item.the-variants.{StructField}
+use Rattle.names.proofs.Counting.{counting}
+use Rattle.names.proofs.Counting.{Counting}
+use Prim.Native.Nat.{_<_}
 use Rattle.names.proofs.named.Statement.{statement}
 use Rattle.names.proofs.named.Tie as tie
 
 abbrev Inv-loop : tie.InvT-loop
-Inv-loop s from n at₀ k₀ m₀ at k m = Counting StructField s from n at k m
+Inv-loop s from n at₀ k₀ names₀ bytes₀ at k names bytes = (Counting s from n at k names bytes) × (n < 4294967296)
 
 abbrev μ-loop : tie.MeasureT-loop
-μ-loop s from n at₀ k₀ m₀ at k m = k
+μ-loop s from n at₀ k₀ names₀ bytes₀ at k names bytes = k
 
 loop-holds : tie.Need-loop-holds Inv-loop μ-loop
 loop-holds c = search (needs, counting)
@@ -16,11 +17,20 @@ loop-holds c = search (needs, counting)
 blank-requires : tie.Need-blank-requires Inv-loop μ-loop
 blank-requires c κs = search (needs, counting)
 
-one-unless-requires : tie.Need-one-unless-requires Inv-loop μ-loop
-one-unless-requires c κs = search (needs, counting)
+unless-requires : tie.Need-unless-requires Inv-loop μ-loop
+unless-requires c κs = search (needs, counting)
 
-add-m : tie.Need-add-m Inv-loop μ-loop
-add-m c = search (needs, counting)
+add-names : tie.Need-add-names Inv-loop μ-loop
+add-names c = search (needs, counting)
+
+word-at-requires : tie.Need-word-at-requires Inv-loop μ-loop
+word-at-requires c κs = search (needs, counting)
+
+unless-requires-2 : tie.Need-unless-requires-2 Inv-loop μ-loop
+unless-requires-2 c κs = search (needs, counting)
+
+add-bytes : tie.Need-add-bytes Inv-loop μ-loop
+add-bytes c = search (needs, counting)
 
 past-requires : tie.Need-past-requires Inv-loop μ-loop
 past-requires c κs = search (needs, counting)
@@ -45,8 +55,11 @@ named-spec =
     μ-loop
     loop-holds
     blank-requires
-    one-unless-requires
-    add-m
+    unless-requires
+    add-names
+    word-at-requires
+    unless-requires-2
+    add-bytes
     past-requires
     sub-k
     loop-less

@@ -8,14 +8,8 @@ use Rattle.repeats.proofs.hash_package.Tie as tie
 enum-told : tie.Need-enum-told
 enum-told c = search (needs, hashing)
 
-mix-requires : tie.Need-mix-requires
-mix-requires c κs = search (needs, hashing)
-
 enum-told-2 : tie.Need-enum-told-2
 enum-told-2 c = search (needs, hashing)
-
-mix-requires-2 : tie.Need-mix-requires-2
-mix-requires-2 c κs = search (needs, hashing)
 
 enum-told-3 : tie.Need-enum-told-3
 enum-told-3 c = search (needs, hashing)
@@ -36,4 +30,4 @@ returns-3 : tie.Need-returns-3
 returns-3 c = search (needs, hashing)
 
 pub hash-package-spec : {M : Type 1} → statement M
-hash-package-spec = tie.close (tie.spec enum-told mix-requires enum-told-2 mix-requires-2 enum-told-3 package-at-requires hash-text-requires returns returns-2 returns-3)
+hash-package-spec = tie.close (tie.spec enum-told enum-told-2 enum-told-3 package-at-requires hash-text-requires returns returns-2 returns-3)

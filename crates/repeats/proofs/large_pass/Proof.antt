@@ -8,7 +8,7 @@ slice-aggregate-pass : tie.Need-slice-aggregate-pass
 slice-aggregate-pass c = search needs
 
 pass-requires : tie.Need-pass-requires
-pass-requires c κs = (c .before .before .pre .0, filter-empty _ _ _ _ _ _ 65535 65536 (omega arith), c .before .before .pre .1)
+pass-requires c κs = (c .before .before .pre .0, filter-empty _ _ _ _ _ _ 131071 131072 (omega arith), c .before .before .pre .1)
 
 returns : tie.Need-returns
 returns c = search needs

@@ -1,5 +1,6 @@
 use borrow.Author.Needs.{needs}
-use Rattle.repeats.proofs.Filters.{firsts, Firsts, firsts-start, firsts-items}
+use Rattle.repeats.proofs.Filters.{firsts}
+use Rattle.repeats.proofs.Filters.{Firsts, firsts-start, firsts-items}
 use Prim.Native.Nat.{_+_, _/_, _-_, _≤_, _<_}
 use native.Mathlib.Nat.{div-le-self}
 use native.Mathlib.Omega.{arith}
@@ -12,6 +13,12 @@ Inv-loop s table from n a parts classes lim₀ lo₀ lim lo = (Firsts a table s 
 abbrev μ-loop : tie.MeasureT-loop
 μ-loop s table from n a parts classes lim₀ lo₀ lim lo = 65536 - lo
 
+middle-requires : tie.Need-middle-requires Inv-loop μ-loop
+middle-requires c κs = search (needs, firsts)
+
+returns : tie.Need-returns Inv-loop μ-loop
+returns c = search (needs, firsts)
+
 add-parts : tie.Need-add-parts Inv-loop μ-loop
 add-parts c = search (needs, firsts)
 
@@ -19,16 +26,16 @@ div-classes : tie.Need-div-classes Inv-loop μ-loop
 div-classes c = search (needs, firsts)
 
 add-classes : tie.Need-add-classes Inv-loop μ-loop
-add-classes c = omega (arith, div-le-self 65536 (c .before .args .n / 65536 + 1))
+add-classes c = omega (arith, div-le-self 65536 (c .before .before .args .n / 131072 + 1))
 
 loop-holds : tie.Need-loop-holds Inv-loop μ-loop
-loop-holds c = (firsts-start, omega arith, omega (arith, div-le-self 65536 (c .before .args .n / 65536 + 1)))
+loop-holds c = (firsts-start, omega arith, omega (arith, div-le-self 65536 (c .before .before .args .n / 131072 + 1)))
 
 add-hi : tie.Need-add-hi Inv-loop μ-loop
 add-hi c = search (needs, firsts)
 
 large-pass-requires : tie.Need-large-pass-requires Inv-loop μ-loop
-large-pass-requires c κs = (firsts-items ((c .before .loop) .inv .0) ((c .before .before .before .pre) .0), (c .before .before .before .pre) .1)
+large-pass-requires c κs = (firsts-items (c .before .loop .inv .0) (c .before .before .before .before .pre .0), c .before .before .before .before .pre .1)
 
 enum-known-q : tie.Need-enum-known-q Inv-loop μ-loop
 enum-known-q c = search (needs, firsts)
@@ -36,8 +43,8 @@ enum-known-q c = search (needs, firsts)
 enum-told : tie.Need-enum-told Inv-loop μ-loop
 enum-told c = search (needs, firsts)
 
-returns : tie.Need-returns Inv-loop μ-loop
-returns c = search (needs, firsts)
+returns-2 : tie.Need-returns-2 Inv-loop μ-loop
+returns-2 c = search (needs, firsts)
 
 loop-less : tie.Need-loop-less Inv-loop μ-loop
 loop-less c = search (needs, firsts)
@@ -45,8 +52,26 @@ loop-less c = search (needs, firsts)
 loop-again : tie.Need-loop-again Inv-loop μ-loop
 loop-again c = search (needs, firsts)
 
-returns-2 : tie.Need-returns-2 Inv-loop μ-loop
-returns-2 c = search (needs, firsts)
+returns-3 : tie.Need-returns-3 Inv-loop μ-loop
+returns-3 c = search (needs, firsts)
 
 pub many-spec : {M : Type 1} → statement M
-many-spec = tie.close (tie.spec Inv-loop μ-loop add-parts div-classes add-classes loop-holds add-hi large-pass-requires enum-known-q enum-told returns loop-less loop-again returns-2)
+many-spec =
+    tie.close
+    (tie.spec
+    Inv-loop
+    μ-loop
+    middle-requires
+    returns
+    add-parts
+    div-classes
+    add-classes
+    loop-holds
+    add-hi
+    large-pass-requires
+    enum-known-q
+    enum-told
+    returns-2
+    loop-less
+    loop-again
+    returns-3)
