@@ -1,1 +1,2 @@
 pub mod DebugInfo
+pub mod Packs

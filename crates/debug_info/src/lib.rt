@@ -1,11 +1,14 @@
 // The debug information: source files, the locations of each function's code, and the sources of inlined code.
 // Ports what Module::deserialize and read_inline_sources of serialize.rs read into the records of debug_info.rs and debug_info/inline.rs.
 ghost use mathlib.Core.Path.{_≡_};
-ghost use Prim.Native.Nat.{min};
+ghost use Prim.Native.Nat.{_≤_, _<_, min};
 ghost use Rattle.format.specs.Format.{times};
 ghost use Rattle.vob24.specs.Leaves.{optional, sourceU32};
 ghost use Rattle.reader.specs.Contract.{Ready, ReadyAt, Reader, NumberOf};
+ghost use Rattle.lists.specs.Runs.{Runs};
+ghost use Rattle.debug_info.specs.Packs.{Packs};
 ghost use Rattle.debug_info.specs.DebugInfo.{fileList, locationList, functionLocations, spanFormat, frameFormat, frameList, entryFormat, functionFormat, entriesOf, functionList, inlineFormat};
+use lists::Rest;
 use reader::Cursor;
 use reader::Number;
 use reader::Step;
@@ -38,19 +41,133 @@ pub fn files(s: &[u8], r: Step, tape: &mut [u32]) -> Step
     here
 }
 
-// n packed numbers, one after the other.
+// ---- packed numbers
+
+// A packed number of so many bytes; of none, where it is not short.
+struct Short {
+    value: u32,
+    bytes: usize,
+}
+
+// The packed number that begins the eight bytes of x, where it has at most four.
+fn short_number(x: u64) -> Short
+    ensures { λ q. ⌜ (q .bytes ≤ 4) × (0 < q .bytes → Packs 4 0 x (q .value) (q .bytes)) ⌝ }
+{
+    let none = Short { value: 0, bytes: 0 };
+    let a = x % 256;
+    if a < 128 {
+        return Short {
+            value: a as u32,
+            bytes: 1,
+        };
+    }
+    let y = x / 256;
+    let b = y % 256;
+    if b < 128 {
+        if b == 0 {
+            return none;
+        }
+        return Short {
+            value: (a - 128 + 128 * b) as u32,
+            bytes: 2,
+        };
+    }
+    let z = y / 256;
+    let c = z % 256;
+    if c < 128 {
+        if c == 0 {
+            return none;
+        }
+        return Short {
+            value: (a - 128 + 128 * (b - 128 + 128 * c)) as u32,
+            bytes: 3,
+        };
+    }
+    let d = z / 256 % 256;
+    if d < 128 {
+        if d == 0 {
+            return none;
+        }
+        return Short {
+            value: (a - 128 + 128 * (b - 128 + 128 * (c - 128 + 128 * d))) as u32,
+            bytes: 4,
+        };
+    }
+    none
+}
+
+// Eight numbers of one byte, or one of at most four; none, where that is not what the next eight bytes begin with.
+fn short_numbers(s: &[u8], c: Cursor, n: u64, tape: &mut [u32]) -> Rest
+    requires { ⌜ ReadyAt (now s) c × (0 < n) ⌝ }
+    ensures { λ q. ⌜ Runs sourceU32 (now (s .entry)) c (now (tape .entry)) n q (now (tape .exit)) × (q .items ≤ n) ⌝ }
+{
+    let bytes = reader::read_u64(s, c);
+    let Number::Got(x, _) = bytes else {
+        return Rest { items: n, at: c };
+    };
+    let place = c.place;
+    let at = c.at;
+    if 8 <= n {
+        if x & 0x8080_8080_8080_8080 == 0 {
+            if tape.len() <= at {
+                return lists::remaining(c, n, 8, 8, 8);
+            }
+            if 8 <= tape.len() - at {
+                lists::copy_bytes(s, place, 8, tape, at);
+                return lists::remaining(c, n, 8, 8, 8);
+            }
+        }
+    }
+    let number = short_number(x);
+    let taken = number.bytes;
+    if taken == 0 {
+        return Rest { items: n, at: c };
+    }
+    reader::put(tape, at, number.value);
+    lists::remaining(c, n, 1, taken, 1)
+}
+
+// Short numbers, as many as there are.
+fn short_run(s: &[u8], c: Cursor, n: u64, tape: &mut [u32]) -> Rest
+    requires { ⌜ ReadyAt (now s) c ⌝ }
+    ensures { λ q. ⌜ Runs sourceU32 (now (s .entry)) c (now (tape .entry)) n q (now (tape .exit)) × (q .items ≤ n) ⌝ }
+{
+    let mut k = n;
+    let mut here = c;
+    while 0 < k {
+        let rest = short_numbers(s, here, k, tape);
+        let left = rest.items;
+        if left == k {
+            return rest;
+        }
+        let next = rest.at;
+        here = next;
+        k = left;
+    }
+    Rest { items: k, at: here }
+}
+
+// n packed numbers, one after the other: short ones as runs, any other by its leaf.
 fn source_numbers(s: &[u8], r: Step, n: u64, tape: &mut [u32]) -> Step
     requires { ⌜ Ready (now s) r ⌝ }
     ensures { λ q. ⌜ Reader (times sourceU32 n) (now (s .entry)) r (now (tape .entry)) q (now (tape .exit)) ⌝ }
 {
-    let mut k = n;
-    let mut here = r;
+    let Step::Taken(c) = r else {
+        return r;
+    };
+    let first = short_run(s, c, n, tape);
+    let start = first.at;
+    let mut k = first.items;
+    let mut here = Step::Taken(start);
     while 0 < k {
         here = fields::field_source_u32(s, here, tape);
-        let Step::Taken(_) = here else {
+        let Step::Taken(d) = here else {
             return here;
         };
-        k -= 1;
+        let run = short_run(s, d, k - 1, tape);
+        let next = run.at;
+        here = Step::Taken(next);
+        k = run.items;
     }
     here
 }

@@ -23,7 +23,7 @@ use Rattle.reader.specs.declared.Step.the-variants.{Taken, Refused}
 use Rattle.reader.specs.declared.Refusal.{Refusal}
 use Rattle.reader.proofs.Settles.{guard-yes, field-yes}
 use Rattle.reader.proofs.Leaves.{Narrow, narrow-byte, narrow-half, narrow-word}
-use Rattle.reader.proofs.Laws.{sets-append, thenReads, Turns, turns-done, turns-refused}
+use Rattle.reader.proofs.Laws.{sets-append, takes-ready, thenReads, Turns, turns-done, turns-refused}
 use Rattle.lists.specs.Runs.{moved, Runs, width, numbersAt, wordsAt, Copied, Low}
 use Rattle.lists.specs.declared.Rest.{Rest}
 use Rattle.lists.proofs.Copying.{byte-at, numbers-length}
@@ -110,7 +110,7 @@ items-lead {f} {s} ws (suc m) (suc n) c t l i h =
 
 module _ {ws : List ℕ} {m n b x : ℕ} {s : List ℕ} {c : Cursor} {t t′ : List ℕ} {q : Rest} where
   -- THE law of runs: m items whose words were copied, in so many bytes and words
-  runs-of : {f : Format} → ReadyAt s c → m ≤ n → c .place + width ws * m ≤ length s → length ws ≤ width ws → ((p : ℕ) → c .place ≤ p → p + width ws ≤ c .place + width ws * m → Item f ws s p) → Copied ws m s (c .place) t (c .at) t′ → b ≡ width ws * m → x ≡ length ws * m → q ≡ record { items = n - m; at = moved c b x } → Runs f s c t n q t′
+  pub runs-of : {f : Format} → ReadyAt s c → m ≤ n → c .place + width ws * m ≤ length s → length ws ≤ width ws → ((p : ℕ) → c .place ≤ p → p + width ws ≤ c .place + width ws * m → Item f ws s p) → Copied ws m s (c .place) t (c .at) t′ → b ≡ width ws * m → x ≡ length ws * m → q ≡ record { items = n - m; at = moved c b x } → Runs f s c t n q t′
   runs-of r l h k i a y u e =
       rw (e, y, u, a .is)
       (record {
@@ -142,3 +142,24 @@ module _ {f : Format} {s : List ℕ} {c : Cursor} {n : ℕ} {q : Rest} {t t₁ :
 
   pub run-refused : {k : ℕ} {r r₁ : Step} {t₂ t₃ : List ℕ} {x : Refusal} → 0 < k → Turns f s t₁ (Taken (q .at)) (q .items) t₂ r k → Reader f s r t₂ r₁ t₃ → r₁ ≡ Refused x → Reader (times f n) s (Taken c) t r₁ t₃
   run-refused i l b e = run-then (turns-refused i l b e)
+
+-- ---- runs in a loop
+
+-- one item read by itself
+one-leads : {f : Format} {s : List ℕ} {c d : Cursor} {t t′ t″ : List ℕ} {v : Value} {r : Step} (n : ℕ) → 0 < n → Takes f s c t v d t′ → Reads (times f (n - 1)) s (Taken d) t′ r t″ → Reads (times f n) s (Taken c) t r t″
+unfolding chain
+one-leads zero h a k = absurd (omega arith)
+one-leads (suc n) h a k = let e : suc n - 1 ≡ n = omega arith in thenReads a (rw e at k)
+
+pub runs-one : {f : Format} {s : List ℕ} {c d : Cursor} {t t′ : List ℕ} {v : Value} {n : ℕ} {q : Rest} → 0 < n → ReadyAt s c → Takes f s c t v d t′ → q ≡ record { items = n - 1; at = d } → Runs f s c t n q t′
+runs-one {n = n} h r a e = rw e (record { leads = λ k. one-leads n h a k; ready = takes-ready r a })
+
+-- a run after a run
+pub runs-join : {f : Format} {s : List ℕ} {c d : Cursor} {n k : ℕ} {q : Rest} {t t₁ t₂ : List ℕ} → Runs f s c t n (record { items = k; at = d }) t₁ → Runs f s d t₁ k q t₂ → Runs f s c t n q t₂
+runs-join a b = record { leads = λ h. a .leads (b .leads h); ready = b .ready }
+
+-- the loop over the items goes on past a run
+pub turns-run : {f : Format} {s : List ℕ} {t₀ : List ℕ} {r₀ r : Step} {n k : ℕ} {t t′ : List ℕ} {c : Cursor} {q : Rest} → r ≡ Taken c → Turns f s t₀ r₀ n t r k → Runs f s c t k q t′ → length t′ ≡ length t → Turns f s t₀ r₀ n t′ (Taken (q .at)) (q .items)
+turns-run e l h i =
+    let long = i ∙ l .long in
+    record { chained = record { leads = record { rest = λ k. l .chained .leads .rest (rw e (h .leads k)) }; ready = h .ready; long = long }; ready = h .ready; long = long }

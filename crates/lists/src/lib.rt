@@ -86,7 +86,7 @@ fn word(s: &[u8], p: usize) -> u32
 
 // ---- copies to the tape
 
-fn copy_bytes(s: &[u8], from: usize, n: usize, tape: &mut [u32], at: usize)
+pub fn copy_bytes(s: &[u8], from: usize, n: usize, tape: &mut [u32], at: usize)
     requires { ⌜ (from + n ≤ length (now s)) × Fits 1 n at (length (now tape)) ⌝ }
     ensures { λ q. ⌜ Copied (1 ∷ []) n (now (s .entry)) from (now (tape .entry)) at (now (tape .exit)) ⌝ }
 {
