@@ -15,8 +15,8 @@ use Rattle.format.specs.Record.{words, wordsLeaf}
 use Rattle.format.specs.Layout.{Bytes}
 use Rattle.format.specs.Settling.{thenS, settle-bind}
 use Rattle.vob24.specs.Leaves.{sourceU32}
-use Rattle.reader.specs.Contract.{ReadyAt, Takes}
-use Rattle.reader.specs.Leaves.{Fetches, Fetched}
+use Rattle.reader.specs.Contract.{ReadyAt}
+use Rattle.reader.specs.Leaves.{Fetches}
 use Rattle.reader.specs.declared.Cursor.{Cursor}
 use Rattle.reader.specs.declared.Number.{Number}
 use Rattle.reader.specs.declared.Number.the-variants.{Got}
@@ -75,6 +75,7 @@ split-and b r h k =
     let f : 128 + 256 * h ≡ h * 256 + 128 = omega arith in
     rw (e, f) (and-block 8 r h b 128 k (omega arith))
 
+-- a number without them has small bytes only
 none-high : (w : ℕ) (s : List ℕ) (p : ℕ) → Bytes (read w s p) → bitAnd (little (read w s p)) (highs w) ≡ 0 → (i : ℕ) → p ≤ i → i < p + w → getD s i 0 < 128
 unfolding little
 none-high zero s p y e i h k = absurd (omega arith)
@@ -122,5 +123,6 @@ module _ {s : List ℕ} {c d : Cursor} {x : ℕ} {q : Number} (g : q ≡ Got x d
       })
       e
 
+-- what a run leaves
 pub fewer-items : {n : ℕ} (k : ℕ) {d : Cursor} {z : Rest} → z ≡ record { items = n - k; at = d } → z .items ≤ n
 fewer-items k e = rw e (omega arith)

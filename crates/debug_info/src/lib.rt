@@ -96,7 +96,7 @@ fn short_number(x: u64) -> Short
     none
 }
 
-// Eight numbers of one byte, or one of at most four; none, where that is not what the next eight bytes begin with.
+// Eight numbers of one byte, whose high bits are clear, or one of at most four; none, where eight bytes are not there or begin with neither.
 fn short_numbers(s: &[u8], c: Cursor, n: u64, tape: &mut [u32]) -> Rest
     requires { ⌜ ReadyAt (now s) c × (0 < n) ⌝ }
     ensures { λ q. ⌜ Runs sourceU32 (now (s .entry)) c (now (tape .entry)) n q (now (tape .exit)) × (q .items ≤ n) ⌝ }
@@ -127,7 +127,7 @@ fn short_numbers(s: &[u8], c: Cursor, n: u64, tape: &mut [u32]) -> Rest
     lists::remaining(c, n, 1, taken, 1)
 }
 
-// Short numbers, as many as there are.
+// Short numbers, one after the other, as many as there are.
 fn short_run(s: &[u8], c: Cursor, n: u64, tape: &mut [u32]) -> Rest
     requires { ⌜ ReadyAt (now s) c ⌝ }
     ensures { λ q. ⌜ Runs sourceU32 (now (s .entry)) c (now (tape .entry)) n q (now (tape .exit)) × (q .items ≤ n) ⌝ }
