@@ -47,34 +47,34 @@ fn transfer_type(s: &[u8], r: Step, tape: &mut [u32]) -> Step
     fields::field_u16(s, rttid, tape)
 }
 
-fn transfer_types(s: &[u8], r: Step, tape: &mut [u32]) -> Step
-    requires { ⌜ Ready (now s) r ⌝ }
-    ensures { λ q. ⌜ Reader transferList (now (s .entry)) r (now (tape .entry)) q (now (tape .exit)) ⌝ }
+fn number_transfer_types(s: &[u8], c: Cursor, tape: &mut [u32]) -> Number
+    requires { ⌜ ReadyAt (now s) c ⌝ }
+    ensures { λ q. ⌜ NumberOf transferList counted (now (s .entry)) c (now (tape .entry)) q (now (tape .exit)) ⌝ }
 {
-    let Step::Taken(c) = r else {
-        return r;
-    };
     let q = fields::number_count(s, c, sizes::TRANSFER_TYPE, tape);
     let Number::Got(n, d) = q else {
-        return reader::refused(q);
+        return q;
     };
     let mut k = n;
     let mut here = Step::Taken(d);
     while 0 < k {
         here = transfer_type(s, here, tape);
         let Step::Taken(_) = here else {
-            return here;
+            return reader::with(n, here);
         };
         k -= 1;
     }
-    here
+    reader::with(n, here)
 }
 
 fn capture_types(s: &[u8], r: Step, tape: &mut [u32]) -> Step
     requires { ⌜ Ready (now s) r ⌝ }
     ensures { λ q. ⌜ Reader captureTypes (now (s .entry)) r (now (tape .entry)) q (now (tape .exit)) ⌝ }
 {
-    let list = transfer_types(s, r, tape);
+    let Step::Taken(c) = r else {
+        return r;
+    };
+    let list = reader::refused(number_transfer_types(s, c, tape));
     transfers::transfer_words(s, numbers::CAPTURE_META, r, list)
 }
 
@@ -82,7 +82,10 @@ fn param_types(s: &[u8], r: Step, tape: &mut [u32]) -> Step
     requires { ⌜ Ready (now s) r ⌝ }
     ensures { λ q. ⌜ Reader paramTypes (now (s .entry)) r (now (tape .entry)) q (now (tape .exit)) ⌝ }
 {
-    let list = transfer_types(s, r, tape);
+    let Step::Taken(c) = r else {
+        return r;
+    };
+    let list = reader::refused(number_transfer_types(s, c, tape));
     transfers::transfer_words(s, numbers::PARAMETER_META, r, list)
 }
 

@@ -1,0 +1,92 @@
+use Rattle.records.proofs.Numbering.{numberedDone, numberedRefused, numbering}
+use borrow.Author.Needs.{needs}
+use Rattle.reader.proofs.Reading.{reading}
+use Rattle.reader.proofs.Laws.{Turns}
+use Rattle.functions.specs.Formats.{transferFormat}
+use Rattle.functions.proofs.number_transfer_types.Statement.{statement}
+use Rattle.functions.proofs.number_transfer_types.Tie as tie
+
+abbrev Inv-loop : tie.InvT-loop
+Inv-loop s tape₀ n k₀ here₀ tape k here = Turns transferFormat s tape₀ here₀ k₀ tape here k
+
+abbrev μ-loop : tie.MeasureT-loop
+μ-loop s tape₀ n k₀ here₀ tape k here = k
+
+number-count-requires : tie.Need-number-count-requires Inv-loop μ-loop
+number-count-requires c κs = search (needs, reading, numbering)
+
+enum-known-q : tie.Need-enum-known-q Inv-loop μ-loop
+enum-known-q c = search (needs, reading, numbering)
+
+enum-told : tie.Need-enum-told Inv-loop μ-loop
+enum-told c = search (needs, reading, numbering)
+
+same-length : tie.Need-same-length Inv-loop μ-loop
+same-length c = search (needs, reading, numbering)
+
+returns : tie.Need-returns Inv-loop μ-loop
+returns c = search (needs, reading, numbering)
+
+loop-holds : tie.Need-loop-holds Inv-loop μ-loop
+loop-holds c = search (needs, reading, numbering)
+
+transfer-type-requires : tie.Need-transfer-type-requires Inv-loop μ-loop
+transfer-type-requires c κs = search (needs, reading, numbering)
+
+enum-told-2 : tie.Need-enum-told-2 Inv-loop μ-loop
+enum-told-2 c = search (needs, reading, numbering)
+
+enum-told-3 : tie.Need-enum-told-3 Inv-loop μ-loop
+enum-told-3 c = search (needs, reading, numbering)
+
+with-requires : tie.Need-with-requires Inv-loop μ-loop
+with-requires c κs = search (needs, reading, numbering)
+
+same-length-2 : tie.Need-same-length-2 Inv-loop μ-loop
+same-length-2 c = search (needs, reading, numbering)
+
+returns-2 : tie.Need-returns-2 Inv-loop μ-loop
+returns-2 c = numberedRefused ((c .before .before .before .before .before .before .before .before .before .before .q) .given .1) ((c .before .before .before .before .before .before .before .before .before .before .before .before .before .before .number-count) .ensures) ((c .before .before .before .before .before .before .before .loop-test) .taken) ((c .before .before .before .before .before .before .before .before .loop) .inv) ((c .before .before .before .before .before .transfer-type) .ensures) ((c .before .enum-told3) .given .1) ((c .with) .ensures)
+
+sub-k : tie.Need-sub-k Inv-loop μ-loop
+sub-k c = search (needs, reading, numbering)
+
+loop-less : tie.Need-loop-less Inv-loop μ-loop
+loop-less c = search (needs, reading, numbering)
+
+loop-again : tie.Need-loop-again Inv-loop μ-loop
+loop-again c = search (needs, reading, numbering)
+
+with-requires-2 : tie.Need-with-requires-2 Inv-loop μ-loop
+with-requires-2 c κs = search (needs, reading, numbering)
+
+same-length-3 : tie.Need-same-length-3 Inv-loop μ-loop
+same-length-3 c = search (needs, reading, numbering)
+
+returns-3 : tie.Need-returns-3 Inv-loop μ-loop
+returns-3 c = numberedDone ((c .before .before .before .before .q) .given .1) ((c .before .before .before .before .before .before .before .before .number-count) .ensures) ((c .before .loop-test) .left) ((c .before .before .loop) .inv) ((c .with2) .ensures)
+
+pub number-transfer-types-spec : {M : Type 1} → statement M
+number-transfer-types-spec =
+    tie.close
+    (tie.spec
+    Inv-loop
+    μ-loop
+    number-count-requires
+    enum-known-q
+    enum-told
+    same-length
+    returns
+    loop-holds
+    transfer-type-requires
+    enum-told-2
+    enum-told-3
+    with-requires
+    same-length-2
+    returns-2
+    sub-k
+    loop-less
+    loop-again
+    with-requires-2
+    same-length-3
+    returns-3)
