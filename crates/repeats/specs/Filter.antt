@@ -80,7 +80,7 @@ hashAt a t s from k = keyHash a t s (lastAt (formatIn t) k s from)
 
 -- ---- its class, its word of the filter, and its six bits there
 abbrev pub class : ℕ → ℕ
-class h = h / 281474976710656 % 65536
+class h = h / 65536 % 65536
 
 -- of the filter whose last word is numbered top
 abbrev pub spot : ℕ → ℕ → ℕ
@@ -88,8 +88,8 @@ spot top h = bitAnd h top
 
 unfoldable pub maskOf : ℕ → ℕ
 maskOf h =
-    bitOr (bitOr (bitOr (bitOr (bitOr (1 * 2 ^ (h / 65536 % 64) % 2 ^ 64) (1 * 2 ^ (h / 4194304 % 64) % 2 ^ 64)) (1 * 2 ^ (h / 268435456 % 64) % 2 ^ 64)) (1 * 2 ^ (h / 17179869184 % 64) % 2 ^ 64)) (1 * 2 ^ (h / 1099511627776 % 64) % 2 ^ 64))
-    (1 * 2 ^ (h / 70368744177664 % 64) % 2 ^ 64)
+    bitOr (bitOr (bitOr (bitOr (bitOr (1 * 2 ^ (h / 1048576 % 64) % 2 ^ 64) (1 * 2 ^ (h / 4294967296 % 64) % 2 ^ 64)) (1 * 2 ^ (h / 274877906944 % 64) % 2 ^ 64)) (1 * 2 ^ (h / 17592186044416 % 64) % 2 ^ 64)) (1 * 2 ^ (h / 1125899906842624 % 64) % 2 ^ 64))
+    (1 * 2 ^ (h / 72057594037927936 % 64) % 2 ^ 64)
 
 -- item k is of a class from lo to hi
 pub record Classed (a : ℕ) (t : Table) (s : List ℕ) (from lo hi k : ℕ) : Type 0 where

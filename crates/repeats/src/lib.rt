@@ -6,7 +6,7 @@ ghost use lib.ListN.{length};
 ghost use Rattle.format.specs.Reading.{part};
 ghost use Rattle.items.specs.Tables.{formatIn};
 ghost use Rattle.repeats.specs.Repeats.{repeatAt, ExemptIs, Standing, FirstRepeat};
-ghost use Rattle.repeats.specs.Marks.{MarkIs, Marked};
+ghost use Rattle.repeats.specs.Marks.{MarkIs, Marked, AllNew};
 ghost use Rattle.repeats.specs.Filter.{mixed, folded, HashIs, TextHash, PackageHash, KeyHash, maskOf, Filter, Known, PassedOr, FirstOr, Within};
 ghost use Rattle.items.specs.Contract.{TextAt, Placed, Items};
 use items::Table;
@@ -72,6 +72,27 @@ fn repeats_one(s: &[u8], table: Table, from: usize, i: usize, p: usize, marks: u
         return false;
     }
     items::seen(s, table, from, i, p)
+}
+
+// Have the n items from `from` on different marks? Most tables of a few have.
+fn all_new(s: &[u8], table: Table, from: usize, n: usize) -> bool
+    requires { ⌜ Items (formatIn table) n (now s) from ⌝ }
+    ensures { λ q. ⌜ AllNew table (now (s .entry)) from n q ⌝ }
+{
+    let mut p = from;
+    let mut i = 0;
+    let mut marks: u64 = 0;
+    while i < n {
+        let m = mark(s, p);
+        let x = marks & m;
+        if x == m {
+            return false;
+        }
+        marks = marks | m;
+        p = items::past_item(s, table, p);
+        i += 1;
+    }
+    true
 }
 
 // The first of the n items from `from` on that repeats one before it, or n: each whose mark is not new is compared with all before it.
@@ -184,12 +205,12 @@ fn hash_key(s: &[u8], table: Table, p: usize, a: u64) -> u64
 fn mask(h: u64) -> u64
     ensures { λ q. ⌜ q ≡ maskOf h ⌝ }
 {
-    (1 << (h / 65536 % 64))
-        | (1 << (h / 4194304 % 64))
-        | (1 << (h / 268435456 % 64))
-        | (1 << (h / 17179869184 % 64))
-        | (1 << (h / 1099511627776 % 64))
-        | (1 << (h / 70368744177664 % 64))
+    (1 << (h / 1048576 % 64))
+        | (1 << (h / 4294967296 % 64))
+        | (1 << (h / 274877906944 % 64))
+        | (1 << (h / 17592186044416 % 64))
+        | (1 << (h / 1125899906842624 % 64))
+        | (1 << (h / 72057594037927936 % 64))
 }
 
 // Does the item at p repeat one of the i before it? Asked where its class is from lo to hi. At most `left` items are still to be compared
@@ -211,7 +232,8 @@ fn known(
     ensures { λ q. ⌜ Known a table (now (s .entry)) from i lo hi top (now (f .exit)) q ⌝ }
 {
     let h = hash_key(s, table, p, a);
-    let class = h / 281474976710656 % 65536;
+    // Of the lower half, which is even: the upper half stays below the key.
+    let class = h / 65536 % 65536;
     if class < lo {
         return Told::On(left);
     }
@@ -351,14 +373,22 @@ fn fresh_key(s: &[u8], table: Table, from: usize, n: usize, a: u64) -> u64
 }
 
 // The first repeat, with a large filter or a small one. Names that were made to have the same hash under one key are told apart under the
-// next.
+// next. The first key stands apart: a function that is called twice is not merged into this one, and the large filter's frame stays out of it.
 fn searched(s: &[u8], table: Table, from: usize, n: usize, large: bool) -> usize
     requires { ⌜ Items (formatIn table) n (now s) from ⌝ }
     ensures { λ q. ⌜ FirstRepeat table (now (s .entry)) from n q ⌝ }
 {
     let mut a: u64 = 2654435761;
-    let mut k: usize = 0;
+    if large {
+        if let Outcome::Done(lim) = many(s, table, from, n, a) {
+            return lim;
+        }
+    } else if let Outcome::Done(lim) = few(s, table, from, n, a) {
+        return lim;
+    }
+    let mut k: usize = 1;
     while k < 16 {
+        a = fresh_key(s, table, from, n, a);
         if large {
             if let Outcome::Done(lim) = many(s, table, from, n, a) {
                 return lim;
@@ -366,19 +396,21 @@ fn searched(s: &[u8], table: Table, from: usize, n: usize, large: bool) -> usize
         } else if let Outcome::Done(lim) = few(s, table, from, n, a) {
             return lim;
         }
-        a = fresh_key(s, table, from, n, a);
         k += 1;
     }
     scan(s, table, from, n)
 }
 
-// The first of the n items from `from` on that repeats one before it, or n. A function that is called twice is not merged into this one: the
-// filters' frames stay out of it, since most tables need none.
+// The first of the n items from `from` on that repeats one before it, or n. `searched` is called twice, so that the filters' frames stay out of
+// this function: most tables need none.
 pub fn first_repeat(s: &[u8], table: Table, from: usize, n: usize) -> usize
     requires { ⌜ Items (formatIn table) n (now s) from ⌝ }
     ensures { λ q. ⌜ FirstRepeat table (now (s .entry)) from n q ⌝ }
 {
     if n < FEW {
+        if all_new(s, table, from, n) {
+            return n;
+        }
         return scan(s, table, from, n);
     }
     if n < MIDDLING {

@@ -10,9 +10,6 @@ Inv-loop s table from n large a₀ k₀ a k = a < 4294967296
 abbrev μ-loop : tie.MeasureT-loop
 μ-loop s table from n large a₀ k₀ a k = 16 - k
 
-loop-holds : tie.Need-loop-holds Inv-loop μ-loop
-loop-holds c = search (needs, firsts)
-
 many-requires : tie.Need-many-requires Inv-loop μ-loop
 many-requires c κs = search (needs, firsts)
 
@@ -37,8 +34,35 @@ returns-2 c = search (needs, firsts)
 enum-told-2 : tie.Need-enum-told-2 Inv-loop μ-loop
 enum-told-2 c = search (needs, firsts)
 
+loop-holds : tie.Need-loop-holds Inv-loop μ-loop
+loop-holds c = search (needs, firsts)
+
 fresh-key-requires : tie.Need-fresh-key-requires Inv-loop μ-loop
 fresh-key-requires c κs = search (needs, firsts)
+
+many-requires-2 : tie.Need-many-requires-2 Inv-loop μ-loop
+many-requires-2 c κs = search (needs, firsts)
+
+enum-known-lim-3 : tie.Need-enum-known-lim-3 Inv-loop μ-loop
+enum-known-lim-3 c = search (needs, firsts)
+
+returns-3 : tie.Need-returns-3 Inv-loop μ-loop
+returns-3 c = search (needs, firsts)
+
+enum-told-3 : tie.Need-enum-told-3 Inv-loop μ-loop
+enum-told-3 c = search (needs, firsts)
+
+few-requires-2 : tie.Need-few-requires-2 Inv-loop μ-loop
+few-requires-2 c κs = search (needs, firsts)
+
+enum-known-lim-4 : tie.Need-enum-known-lim-4 Inv-loop μ-loop
+enum-known-lim-4 c = search (needs, firsts)
+
+returns-4 : tie.Need-returns-4 Inv-loop μ-loop
+returns-4 c = search (needs, firsts)
+
+enum-told-4 : tie.Need-enum-told-4 Inv-loop μ-loop
+enum-told-4 c = search (needs, firsts)
 
 add-k : tie.Need-add-k Inv-loop μ-loop
 add-k c = search (needs, firsts)
@@ -52,8 +76,8 @@ loop-again c = search (needs, firsts)
 scan-requires : tie.Need-scan-requires Inv-loop μ-loop
 scan-requires c κs = search (needs, firsts)
 
-returns-3 : tie.Need-returns-3 Inv-loop μ-loop
-returns-3 c = search (needs, firsts)
+returns-5 : tie.Need-returns-5 Inv-loop μ-loop
+returns-5 c = search (needs, firsts)
 
 pub searched-spec : {M : Type 1} → statement M
 searched-spec =
@@ -61,7 +85,6 @@ searched-spec =
     (tie.spec
     Inv-loop
     μ-loop
-    loop-holds
     many-requires
     enum-known-lim
     returns
@@ -70,9 +93,18 @@ searched-spec =
     enum-known-lim-2
     returns-2
     enum-told-2
+    loop-holds
     fresh-key-requires
+    many-requires-2
+    enum-known-lim-3
+    returns-3
+    enum-told-3
+    few-requires-2
+    enum-known-lim-4
+    returns-4
+    enum-told-4
     add-k
     loop-less
     loop-again
     scan-requires
-    returns-3)
+    returns-5)
