@@ -1,10 +1,10 @@
 -- The laws of copies to the tape.
 use Prim.Native.Nat.{ℕ, suc, zero, _+_, _-_, _*_, _/_, _≤_, _<_}
 use mathlib.Core.Path.{_≡_, refl, sym, ap, _∙_}
-use mathlib.Core.List.{List, [], _∷_, _++_}
+use mathlib.Core.List.{List, [], _∷_, _++_, append-assoc}
 use native.Mathlib.Omega.{arith}
 use native.Mathlib.Nat.{add-assoc, mul-suc, mul-le-mul-left, mul-div-le}
-use lib.ListN.{length, getD, set}
+use lib.ListN.{length, length-append, getD, set}
 use lib.Seq.{sets, set-out, length-sets}
 use Rattle.format.specs.Reading.{little, part}
 use Rattle.reader.proofs.Gather.{read-take}
@@ -81,6 +81,38 @@ module _ {ws : List ℕ} {n : ℕ} {s : List ℕ} {from : ℕ} {t : List ℕ} {a
 
     pub copying-done : k ≤ 0 → Copying ws n s from t at t′ p i k → Copied ws n s from t at t′
     copying-done h c = record { is = sym (c .leads ∙ ap (sets t′ i) (words-end ws k s p h)) }
+
+-- items after items
+pub words-length : (ws : List ℕ) (m : ℕ) (s : List ℕ) (p : ℕ) → length (wordsAt ws m s p) ≡ length ws * m
+unfolding wordsAt
+words-length ws zero s p = omega arith
+words-length ws (suc m) s p = length-append (numbersAt ws s p) _ ∙ rw (numbers-length ws s p, words-length ws m s (p + width ws), mul-suc (length ws) m) (omega arith)
+
+words-join : (ws : List ℕ) (k m : ℕ) (s : List ℕ) (p : ℕ) → wordsAt ws (k + m) s p ≡ wordsAt ws k s p ++ wordsAt ws m s (p + width ws * k)
+unfolding wordsAt
+words-join ws zero m s p =
+    let e₁ : 0 + m ≡ m = omega arith in
+    let e₂ : p + width ws * 0 ≡ p = omega arith in
+    rw (e₁, e₂)
+words-join ws (suc k) m s p =
+    let e₁ : suc k + m ≡ suc (k + m) = omega arith in
+    let e₂ : p + width ws * suc k ≡ p + width ws + width ws * k = omega (arith, mul-suc (width ws) k) in
+    rw (e₁, e₂, append-assoc, words-join ws k m s (p + width ws))
+
+pub copied-none : {ws : List ℕ} {s : List ℕ} {from : ℕ} {t : List ℕ} {at : ℕ} → Copied ws 0 s from t at t
+copied-none {ws} {s} {from} {t} {at} = record { is = ap (sets t at) (sym (words-end ws 0 s from (omega arith))) }
+
+pub copied-join : {ws : List ℕ} {k m : ℕ} {s : List ℕ} {from : ℕ} {t t₁ t₂ : List ℕ} {at : ℕ} → Copied ws k s from t at t₁ → Copied ws m s (from + width ws * k) t₁ (at + length ws * k) t₂ → Copied ws (k + m) s from t at t₂
+copied-join {ws} {k} {m} {s} {from} {t} {t₁} {t₂} {at} a b =
+    record { is = b .is ∙ rw (a .is, words-join ws k m s from, sets-append t at (wordsAt ws k s from), words-length ws k s from) }
+
+pub copied-length : {ws : List ℕ} {n : ℕ} {s : List ℕ} {from : ℕ} {t : List ℕ} {at : ℕ} {t′ : List ℕ} → Copied ws n s from t at t′ → length t′ ≡ length t
+copied-length {ws} {n} {s} {from} {t} {at} a = ap length (a .is) ∙ length-sets t at (wordsAt ws n s from)
+
+-- room for some of the items that there is room for
+pub fits-part : {n at l : ℕ} (k m : ℕ) → k + m ≤ n → Fits 1 n at l → Fits 1 m (at + k) l
+fits-part k m h (ended e) = ended (omega arith)
+fits-part k m h (room e) = room (omega arith)
 
 -- one number an item
 module _ {n : ℕ} {s : List ℕ} {from : ℕ} {t : List ℕ} {at : ℕ} {t′ : List ℕ} {p i k v : ℕ} (h : 0 < k) where

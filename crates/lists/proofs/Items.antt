@@ -5,7 +5,7 @@ use mathlib.Core.Bool.{true}
 use mathlib.Core.List.{List, [], _∷_}
 use native.Mathlib.Omega.{arith}
 use native.Mathlib.Nat.{add-zero, add-assoc, mul-suc, mul-le-mul-right}
-use lib.ListN.{length, length-append, getD}
+use lib.ListN.{length, getD}
 use lib.Dec.{leb}
 use lib.Seq.{sets}
 use borrow.Author.Tests.{le-leb}
@@ -84,11 +84,6 @@ flat-some (flat-more o k) = omega (arith, narrow-some o, flat-some k)
 
 -- ---- runs
 
-words-length : (ws : List ℕ) (m : ℕ) (s : List ℕ) (p : ℕ) → length (wordsAt ws m s p) ≡ length ws * m
-unfolding wordsAt
-words-length ws zero s p = omega arith
-words-length ws (suc m) s p = length-append (numbersAt ws s p) _ ∙ rw (numbers-length ws s p, words-length ws m s (p + width ws), mul-suc (length ws) m) (omega arith)
-
 -- m of n items, and the rest
 items-lead : {f : Format} {s : List ℕ} (ws : List ℕ) (m n : ℕ) (c : Cursor) (t : List ℕ) → m ≤ n → ((p : ℕ) → c .place ≤ p → p + width ws ≤ c .place + width ws * m → Item f ws s p) → {r : Step} {t″ : List ℕ}
     → Reads (times f (n - m)) s (Taken (moved c (width ws * m) (length ws * m))) (sets t (c .at) (wordsAt ws m s (c .place))) r t″ → Reads (times f n) s (Taken c) t r t″
@@ -122,14 +117,14 @@ module _ {ws : List ℕ} {m n b x : ℕ} {s : List ℕ} {c : Cursor} {t t′ : L
   runs-flat f r l h a y u e = runs-of r l h (flat-some f) (λ p x z. item-flat s p f (omega (arith, h))) a y u e
 
 -- small bytes
-pub runs-low : {m n to most y : ℕ} {s : List ℕ} {c : Cursor} {t t′ : List ℕ} {q : Rest} → ReadyAt s c → m ≤ n → c .place + m ≤ to → to ≤ length s → Low s (c .place) to most → Copied (1 ∷ []) m s (c .place) t (c .at) t′ → q ≡ record { items = n - m; at = moved c m m } → Runs (leaf (fixed byte (atMost most y))) s c t n q t′
-runs-low {m} {to = to} {most = most} {y = y} {s = s} {c = c} r l h i k a e = runs-of r l (omega arith) (omega arith) item a (omega arith) (omega arith) e
+pub runs-low : {m n most y : ℕ} {s : List ℕ} {c : Cursor} {t t′ : List ℕ} {q : Rest} → ReadyAt s c → m ≤ n → c .place + m ≤ length s → Low s (c .place) (c .place + m) most → Copied (1 ∷ []) m s (c .place) t (c .at) t′ → q ≡ record { items = n - m; at = moved c m m } → Runs (leaf (fixed byte (atMost most y))) s c t n q t′
+runs-low {m} {most = most} {y = y} {s = s} {c = c} r l h k a e = runs-of r l (omega arith) (omega arith) item a (omega arith) (omega arith) e
   where
     passes : (p : ℕ) → p + 1 ≤ length s → getD s p 0 ≤ most → leb (little (part s p 1)) most ≡ true
     passes p x z = le-leb (little (part s p 1)) most (omega (arith, byte-at s p x))
 
     item : (p : ℕ) → c .place ≤ p → p + 1 ≤ c .place + 1 * m → Item (leaf (fixed byte (atMost most y))) (1 ∷ []) s p
-    item p x z = item-one byte (atMost most y) s p narrow-byte (omega (arith, h, i)) (passes p (omega (arith, h, i)) (k .low p x (omega (arith, h))))
+    item p x z = item-one byte (atMost most y) s p narrow-byte (omega (arith, h)) (passes p (omega (arith, h)) (k .low p x (omega arith)))
 
 -- ---- the items after a run
 

@@ -52,8 +52,8 @@ pub data Fits (j n at length : ℕ) : Type 0 where
 pub record Low (s : List ℕ) (from to most : ℕ) : Type 0 where
   pub low : (k : ℕ) → from ≤ k → k < to → getD s k 0 ≤ most
 
--- the same up to a place q on the way to `to`
-pub record LowUpto (s : List ℕ) (from to most q : ℕ) : Type 0 where
-  pub past : from ≤ q
-  pub within : q ≤ to
-  pub low : Low s from q most
+-- The first k of n bytes, which are small, are on the tape.
+pub record CopiedLow (n : ℕ) (s : List ℕ) (from most : ℕ) (t : List ℕ) (at k : ℕ) (t′ : List ℕ) : Type 0 where
+  pub within : k ≤ n
+  pub low : Low s from (from + k) most
+  pub copied : Copied (1 ∷ []) k s from t at t′

@@ -2,19 +2,22 @@
 // Ports the loops of `read_vec` in serialize.rs over them. A run stops before an item that is refused, or of whose words the
 // tape has no room for all; the rest is read item by item.
 ghost use mathlib.Core.Path.{_≡_};
-ghost use mathlib.Core.Bool.{true};
+ghost use mathlib.Core.Bool.{false};
 ghost use mathlib.Core.List.{[], _∷_};
 ghost use Prim.Native.Nat.{_+_, _-_, _*_, _≤_, _<_};
 ghost use lib.ListN.{length};
 ghost use Rattle.format.specs.Reading.{little, part};
 ghost use Rattle.vob24.specs.Leaves.{u16, u32, slotType};
 ghost use Rattle.reader.specs.Contract.{ReadyAt};
-ghost use Rattle.lists.specs.Runs.{moved, Runs, ItemsReader, Copied, Fits, Low, LowUpto};
+ghost use Rattle.lists.specs.Runs.{moved, Runs, ItemsReader, Copied, Fits, Low, CopiedLow};
 use reader::Cursor;
 use reader::Step;
 
 // Of fewer slot types than these a run costs more than it saves.
 const SHORT: u64 = 16;
+
+// So many bytes are tested and then copied, and the next only then: the copy finds them in the cache.
+const PART: usize = 4096;
 
 // What a run leaves of a list: so many items, from the cursor on.
 pub struct Rest {
@@ -148,49 +151,44 @@ fn larger(a: u8, b: u8) -> u8
     if a < b { b } else { a }
 }
 
-// Are the 32 bytes at from at most `most`? With no early exit the loop is compiled to vector code.
-fn low_block(s: &[u8], from: usize, most: u8) -> bool
-    requires { ⌜ from + 32 ≤ length (now s) ⌝ }
-    ensures { λ q. ⌜ (q ≡ true → Low (now (s .entry)) from (from + 32) most) ⌝ }
+// Is one of the n bytes at from above `most`? With no early exit the loop is compiled to vector code.
+fn one_above(s: &[u8], from: usize, n: usize, most: u8) -> bool
+    requires { ⌜ from + n ≤ length (now s) ⌝ }
+    ensures { λ q. ⌜ (q ≡ false → Low (now (s .entry)) from (from + n) most) ⌝ }
 {
     let mut m: u8 = 0;
     let mut k = from;
-    let end = from + 32;
+    let end = from + n;
     while k < end {
         m = larger(m, s[k]);
         k += 1;
     }
-    m <= most
+    most < m
 }
 
-fn low_each(s: &[u8], from: usize, to: usize, most: u8) -> usize
-    requires { ⌜ (from ≤ to) × (to ≤ length (now s)) ⌝ }
-    ensures { λ q. ⌜ LowUpto (now (s .entry)) from to most q ⌝ }
+// How many of n bytes are in the next part.
+fn part_of(n: usize) -> usize
+    requires { ⌜ 0 < n ⌝ }
+    ensures { λ q. ⌜ (0 < q) × (q ≤ n) ⌝ }
 {
-    let mut i = from;
-    while i < to {
-        if most < s[i] {
+    if n < PART { n } else { PART }
+}
+
+// Copies the parts before the first with a byte above `most`. That it has one is not promised: its bytes' own reader tests them again.
+fn copy_low(s: &[u8], from: usize, n: usize, most: u8, tape: &mut [u32], at: usize) -> usize
+    requires { ⌜ (from + n ≤ length (now s)) × (at + n < 18446744073709551616) × Fits 1 n at (length (now tape)) ⌝ }
+    ensures { λ q. ⌜ CopiedLow n (now (s .entry)) from most (now (tape .entry)) at q (now (tape .exit)) ⌝ }
+{
+    let mut i = 0;
+    while i < n {
+        let m = part_of(n - i);
+        if one_above(s, from + i, m, most) {
             return i;
         }
-        i += 1;
+        copy_bytes(s, from + i, m, tape, at + i);
+        i += m;
     }
     i
-}
-
-// The place of the first byte above `most`, or the end. That it is above is not promised: its own reader tests it again.
-fn low_upto(s: &[u8], from: usize, to: usize, most: u8) -> usize
-    requires { ⌜ (from ≤ to) × (to ≤ length (now s)) ⌝ }
-    ensures { λ q. ⌜ LowUpto (now (s .entry)) from to most q ⌝ }
-{
-    let mut i = from;
-    while 32 <= to - i {
-        if low_block(s, i, most) {
-            i += 32;
-        } else {
-            return low_each(s, i, to, most);
-        }
-    }
-    low_each(s, i, to, most)
 }
 
 // ---- lists
@@ -205,9 +203,8 @@ fn slot_type_run(s: &[u8], c: Cursor, n: u64, tape: &mut [u32]) -> Rest
     let place = c.place;
     let at = c.at;
     let there = fewer(n, s.len() - place);
-    let low = low_upto(s, place, place + there, 5) - place;
-    let k = fitting(low, 1, at, tape.len());
-    copy_bytes(s, place, k, tape, at);
+    let most = fitting(there, 1, at, tape.len());
+    let k = copy_low(s, place, most, 5, tape, at);
     remaining(c, n, k, k, k)
 }
 

@@ -1,16 +1,23 @@
 // A list of slot types, which stands in many records: structs, globals, functions, instructions' metadata.
 // Ports `read_vec(read_slot_type)` of serialize.rs.
-ghost use Rattle.format.specs.Format.{counted};
+// Most lists have one item or two: such a list is tested whole, and then kept, without a loop. Where a test fails, nothing is kept yet,
+// and the list is read as any other, so that a refusal is made in one place.
+ghost use Rattle.format.specs.Format.{counted, Leaf, Width};
 ghost use Rattle.vob24.specs.Settings.{settings};
+ghost use Rattle.vob24.specs.Refusals.{invalidSlotType};
+ghost use Rattle.vob24.specs.Leaves.{atMost};
 ghost use Rattle.vob24.specs.Grammar.{slotTypes};
 ghost use Rattle.reader.specs.Contract.{Ready, ReadyAt, Reader, NumberOf};
+ghost use Rattle.reader.specs.Leaves.{Answers};
+ghost use Rattle.slots.specs.Past.{past};
 use reader::Cursor;
 use reader::Number;
 use reader::Step;
+use reader::numbers;
 use reader::sizes;
 
-// Hands out how many they are.
-pub fn number_slot_types(s: &[u8], c: Cursor, tape: &mut [u32]) -> Number
+// A list of any length.
+fn number_any(s: &[u8], c: Cursor, tape: &mut [u32]) -> Number
     requires { ⌜ ReadyAt (now s) c ⌝ }
     ensures { λ q. ⌜ NumberOf (slotTypes settings) counted (now (s .entry)) c (now (tape .entry)) q (now (tape .exit)) ⌝ }
 {
@@ -23,6 +30,69 @@ pub fn number_slot_types(s: &[u8], c: Cursor, tape: &mut [u32]) -> Number
         return reader::with(n, r);
     };
     Number::Got(n, e)
+}
+
+// The slot type behind a word that is kept only when the whole list is tested.
+fn item(s: &[u8], c: Cursor) -> Number
+    requires { ⌜ ReadyAt (now s) (past c) ⌝ }
+    ensures { λ q. ⌜ Answers (Leaf.fixed Width.byte (atMost 5 invalidSlotType)) (now (s .entry)) (past c) q ⌝ }
+{
+    let d = Cursor {
+        place: c.place,
+        left: c.left,
+        at: c.at + 1,
+    };
+    leaves::read_small(s, d, 5, numbers::INVALID_SLOT_TYPE)
+}
+
+// Hands out how many they are. `number_any` is called with copies: what is lent to it, or is its answer, stands in memory and not in
+// registers, also where it is not called.
+pub fn number_slot_types(s: &[u8], c: Cursor, tape: &mut [u32]) -> Number
+    requires { ⌜ ReadyAt (now s) c ⌝ }
+    ensures { λ q. ⌜ NumberOf (slotTypes settings) counted (now (s .entry)) c (now (tape .entry)) q (now (tape .exit)) ⌝ }
+{
+    if c.left < 2 {
+        let pack = s;
+        let start = c;
+        let any = number_any(pack, start, tape);
+        return any;
+    }
+    let place = c.place;
+    if 4 <= s.len() - place {
+        let count = reader::le4([s[place], s[place + 1], s[place + 2], s[place + 3]]);
+        if count == 1 {
+            let q = payloads::read_count(s, c, sizes::SLOT_TYPE);
+            if let Number::Got(n, d) = q {
+                if n == 1 {
+                    let r = item(s, d);
+                    if let Number::Got(only, e) = r {
+                        reader::keep(d, n, tape);
+                        return Number::Got(n, reader::keep(e, only, tape));
+                    }
+                }
+            }
+        }
+        if count == 2 {
+            let q = payloads::read_count(s, c, sizes::SLOT_TYPE);
+            if let Number::Got(n, d) = q {
+                if n == 2 {
+                    let r1 = item(s, d);
+                    if let Number::Got(first, e) = r1 {
+                        let r2 = item(s, e);
+                        if let Number::Got(second, f) = r2 {
+                            reader::keep(d, n, tape);
+                            reader::keep(e, first, tape);
+                            return Number::Got(n, reader::keep(f, second, tape));
+                        }
+                    }
+                }
+            }
+        }
+    }
+    let pack = s;
+    let start = c;
+    let any = number_any(pack, start, tape);
+    any
 }
 
 pub fn slot_types(s: &[u8], r: Step, tape: &mut [u32]) -> Step

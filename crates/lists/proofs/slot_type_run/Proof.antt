@@ -13,20 +13,11 @@ sub-fewer c = search needs
 fewer-requires : tie.Need-fewer-requires
 fewer-requires c κs = search needs
 
-add-low-upto : tie.Need-add-low-upto
-add-low-upto c = search needs
-
-low-upto-requires : tie.Need-low-upto-requires
-low-upto-requires c κs = search needs
-
-sub-low : tie.Need-sub-low
-sub-low c = search needs
-
 fitting-requires : tie.Need-fitting-requires
 fitting-requires c κs = search needs
 
-copy-bytes-requires : tie.Need-copy-bytes-requires
-copy-bytes-requires c κs = search needs
+copy-low-requires : tie.Need-copy-low-requires
+copy-low-requires c κs = search needs
 
 remaining-requires : tie.Need-remaining-requires
 remaining-requires c κs = search needs
@@ -35,7 +26,7 @@ same-length : tie.Need-same-length
 same-length c = search needs
 
 returns-2 : tie.Need-returns-2
-returns-2 c = runs-low (c .before .before .before .before .before .before .before .before .before .before .before .pre) (omega arith) (omega arith) (omega arith) (c .before .before .before .before .before .before .low-upto .ensures .low) (c .before .before .before .copy-bytes .ensures) (c .remaining .ensures)
+returns-2 c = runs-low (c .before .before .before .before .before .before .before .before .before .before .pre) (omega arith) (omega arith) ((c .before .before .before .copy-low) .ensures .low) ((c .before .before .before .copy-low) .ensures .copied) ((c .remaining) .ensures)
 
 pub slot-type-run-spec : {M : Type 1} → statement M
 slot-type-run-spec =
@@ -44,11 +35,8 @@ slot-type-run-spec =
     returns
     sub-fewer
     fewer-requires
-    add-low-upto
-    low-upto-requires
-    sub-low
     fitting-requires
-    copy-bytes-requires
+    copy-low-requires
     remaining-requires
     same-length
     returns-2)

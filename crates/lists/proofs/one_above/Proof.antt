@@ -1,14 +1,14 @@
 use borrow.Author.Needs.{needs}
 use Rattle.lists.proofs.Lows.{Largest, largest}
 use Prim.Native.Nat.{_-_}
-use Rattle.lists.proofs.low_block.Statement.{statement}
-use Rattle.lists.proofs.low_block.Tie as tie
+use Rattle.lists.proofs.one_above.Statement.{statement}
+use Rattle.lists.proofs.one_above.Tie as tie
 
 abbrev Inv-loop : tie.InvT-loop
-Inv-loop s from most m₀ k₀ end m k = Largest s from end m k
+Inv-loop s from n most m₀ k₀ end m k = Largest s from end m k
 
 abbrev μ-loop : tie.MeasureT-loop
-μ-loop s from most m₀ k₀ end m k = end - k
+μ-loop s from n most m₀ k₀ end m k = end - k
 
 add-end : tie.Need-add-end Inv-loop μ-loop
 add-end c = search (needs, largest)
@@ -34,8 +34,8 @@ loop-again c = search (needs, largest)
 returns : tie.Need-returns Inv-loop μ-loop
 returns c = search (needs, largest)
 
-pub low-block-spec : {M : Type 1} → statement M
-low-block-spec =
+pub one-above-spec : {M : Type 1} → statement M
+one-above-spec =
     tie.close
     (tie.spec
     Inv-loop
