@@ -1,4 +1,4 @@
--- The contracts of the readers that answer a record.
+-- The contracts of the readers that answer a record, and of those that a list calls without it.
 use Prim.Native.Nat.{ℕ, _+_}
 use mathlib.Core.List.{List}
 use Rattle.format.specs.Format.{Value, Format}
