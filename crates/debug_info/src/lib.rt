@@ -96,7 +96,8 @@ fn short_number(x: u64) -> Short
     none
 }
 
-// Eight numbers of one byte, whose high bits are clear, or one of at most four; none, where eight bytes are not there or begin with neither.
+// Eight numbers of one byte, whose high bits are clear, or one of at most four and, after one byte, a second; none, where eight bytes are
+// not there or begin with neither.
 fn short_numbers(s: &[u8], c: Cursor, n: u64, tape: &mut [u32]) -> Rest
     requires { ⌜ ReadyAt (now s) c × (0 < n) ⌝ }
     ensures { λ q. ⌜ Runs sourceU32 (now (s .entry)) c (now (tape .entry)) n q (now (tape .exit)) × (q .items ≤ n) ⌝ }
@@ -124,6 +125,16 @@ fn short_numbers(s: &[u8], c: Cursor, n: u64, tape: &mut [u32]) -> Rest
         return Rest { items: n, at: c };
     }
     reader::put(tape, at, number.value);
+    if taken == 1 {
+        if 2 <= n {
+            let second = short_number(x / 256);
+            let more = second.bytes;
+            if more != 0 {
+                reader::put(tape, at + 1, second.value);
+                return lists::remaining(c, n, 2, 1 + more, 2);
+            }
+        }
+    }
     lists::remaining(c, n, 1, taken, 1)
 }
 
