@@ -1,8 +1,5 @@
 -- The answers' steps, by their cases.
-use Prim.Native.Nat.{ℕ}
 use mathlib.Core.Path.{_≡_}
-use mathlib.Core.Bool.{true, false}
-use native.Mathlib.Omega.{arith}
 use Rattle.reader.specs.declared.Cursor.{Cursor}
 use Rattle.reader.specs.declared.Refusal.{Refusal}
 use Rattle.reader.specs.declared.Step.the-variants.{Taken, Refused}
@@ -18,7 +15,3 @@ pub metadata-not : {q : MetadataRead} {x : Refusal} → q ≡ MetadataRead.Not x
 metadata-not e = rw e
 
 pub ruleset answers = (got-up, not-up, metadata-got, metadata-not)
-
--- a test that failed says nothing
-pub never : {X : Type 0} → false ≡ true → X
-never e = let z : _≡_ {A = ℕ} 0 1 = cc in absurd (omega arith)

@@ -1,4 +1,3 @@
 pub mod Answers
 pub mod Shapes
 pub mod Tags
-pub mod Copies

@@ -1,10 +1,11 @@
 -- The next metadata of a list, by the byte that is its tag.
-use Prim.Native.Nat.{ℕ}
+use Prim.Native.Nat.{ℕ, _+_, _≤_}
 use mathlib.Core.Path.{_≡_, refl, ap, _∙_}
 use mathlib.Core.List.{List}
-use lib.ListN.{getD}
+use native.Mathlib.Omega.{arith}
+use lib.ListN.{length, getD}
 use Rattle.format.specs.Format.{number, Rule, byte, fixed, leaf}
-use Rattle.format.specs.Reading.{trace}
+use Rattle.format.specs.Reading.{little, part, trace}
 use Rattle.format.specs.Ending.{leaf-ends}
 use Rattle.vob24.specs.Settings.{settings}
 use Rattle.vob24.specs.Grammar.{metadata, metadataVariants}
@@ -15,10 +16,14 @@ use Rattle.reader.specs.declared.Step.{Step}
 use Rattle.reader.specs.declared.Step.the-variants.{Taken}
 use Rattle.reader.specs.declared.Number.{Number}
 use Rattle.reader.specs.declared.Number.the-variants.{Got, Not}
+use Rattle.reader.proofs.Gather.{read-take}
 use Rattle.reader.proofs.Laws.{takes-ends, got-of, got-ready, numberNot, at-step, emptyThen}
 use Rattle.reader.proofs.Parts.{chooseAt}
-use Rattle.lists.proofs.Copying.{byte-at}
 use Rattle.metadata.specs.Records.{twoLayouts}
+
+byte-at : (s : List ℕ) (p : ℕ) → p + 1 ≤ length s → little (part s p 1) ≡ getD s p 0
+unfolding little
+byte-at s p h = rw (read-take 1 s p h) (omega arith)
 
 -- the tag that was read is that byte
 tag-is : {ρ : Rule} {k : ℕ} {s : List ℕ} {c d : Cursor} {q : Number} {n : ℕ} {t t₁ : List ℕ} → getD s (c .place) 0 ≡ k → q ≡ Got n d → NumberOf (leaf (fixed byte ρ)) number s c t q t₁ → n ≡ k

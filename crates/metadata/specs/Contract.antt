@@ -1,13 +1,11 @@
--- The contracts of the readers that answer a record, and of those that a list calls without it.
-use Prim.Native.Nat.{ℕ, _+_}
+-- The contracts of the readers that answer a record.
+use Prim.Native.Nat.{ℕ}
 use mathlib.Core.List.{List}
 use Rattle.format.specs.Format.{Value, Format}
-use Rattle.format.specs.Reading.{little, part}
 use Rattle.reader.specs.Contract.{Reader}
 use Rattle.reader.specs.declared.Cursor.{Cursor}
 use Rattle.reader.specs.declared.Step.{Step}
 use Rattle.reader.specs.declared.Step.the-variants.{Taken, Refused}
-use Rattle.lists.specs.Runs.{Low}
 use Rattle.records.specs.Recorded.{Recorded}
 use Rattle.metadata.specs.declared.Metadata.the-variants as kind
 use Rattle.metadata.specs.declared.MetadataRecord.{MetadataRecord}
@@ -28,7 +26,3 @@ MetadataReader f of s c t q t′ = Recorded f of s c t (metadataStep q) (metadat
 -- The contract of a reader at a cursor.
 abbrev pub ReaderAt : Format → List ℕ → Cursor → List ℕ → Step → List ℕ → Type 0
 ReaderAt f s c t q t′ = Reader f s (Taken c) t q t′
-
--- the bytes of the layout whose count stands at p are slot types
-pub record ValidLayout (s : List ℕ) (p : ℕ) : Type 0 where
-  pub low : Low s (p + 4) (p + 4 + little (part s p 4)) 5

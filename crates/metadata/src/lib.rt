@@ -12,7 +12,7 @@ ghost use Rattle.vob24.specs.Grammar.{slotTypes};
 ghost use Rattle.reader.specs.Contract.{stepOf, Ready, ReadyAt, Reader, NumberOf};
 ghost use Rattle.select_case.specs.Records.{selectList};
 ghost use Rattle.metadata.specs.Records.{metadataFormat, metadataList, twoLayouts, elemLayout, mapGet, slotLayout, ifaceAssert, callIface, bareOf, oneOf, twoOf, elemOf, mapGetOf, loopEndOf, slotOf, assertOf, callIfaceOf, metadataOf};
-ghost use Rattle.metadata.specs.Contract.{metadataStep, MetadataReader, ReaderAt, ValidLayout};
+ghost use Rattle.metadata.specs.Contract.{metadataStep, MetadataReader, ReaderAt};
 use reader::Cursor;
 use reader::Number;
 use reader::Refusal;
@@ -24,9 +24,6 @@ use records::Items;
 const NONE: u8 = 0;
 
 const CALL_LAYOUT: u8 = 11;
-
-// Of so many slot types or more a layout is long.
-const SHORT: u64 = 16;
 
 // What stands beside an instruction, without its lists.
 pub enum Metadata {
@@ -327,83 +324,10 @@ fn is_tag(s: &[u8], place: usize, tag: u8) -> bool
     s[place] == tag
 }
 
-// Has the layout at the cursor fewer than SHORT slot types, and nothing that is refused?
-fn is_short(s: &[u8], c: Cursor) -> bool
-    requires { ⌜ ReadyAt (now s) c ⌝ }
-    ensures { λ q. ⌜ (q ≡ true → ValidLayout (now (s .entry)) (c .place)) ⌝ }
-{
-    let q = reader::read_u32(s, c);
-    let Number::Got(n, d) = q else {
-        return false;
-    };
-    let from = d.place;
-    if SHORT <= n {
-        return false;
-    }
-    if d.left < n {
-        return false;
-    }
-    if ((s.len() - from) as u64) < n {
-        return false;
-    }
-    let end = from + (n as usize);
-    let mut i = from;
-    while i < end {
-        if 5 < s[i] {
-            return false;
-        }
-        i += 1;
-    }
-    true
-}
-
-// A valid layout: its slot types are copied.
-fn valid_layout(s: &[u8], c: Cursor, tape: &mut [u32]) -> Number
-    requires { ⌜ ReadyAt (now s) c × ValidLayout (now s) (c .place) ⌝ }
-    ensures { λ q. ⌜ NumberOf (slotTypes settings) counted (now (s .entry)) c (now (tape .entry)) q (now (tape .exit)) ⌝ }
-{
-    let q = fields::number_count(s, c, sizes::SLOT_TYPE, tape);
-    let Number::Got(n, d) = q else {
-        return q;
-    };
-    let left = d.left;
-    let mut p = d.place;
-    let mut t = d.at;
-    let end = p + (n as usize);
-    while p < end {
-        reader::put(tape, t, lists::wide(s[p]));
-        p += 1;
-        t += 1;
-    }
-    Number::Got(
-        n,
-        Cursor {
-            place: p,
-            left,
-            at: t,
-        },
-    )
-}
-
-// Short ones, as nearly all are, are read here, where no answer passes through memory.
 fn two_layouts(s: &[u8], c: Cursor, tape: &mut [u32]) -> Step
     requires { ⌜ ReadyAt (now s) c ⌝ }
     ensures { λ q. ⌜ ReaderAt twoLayouts (now (s .entry)) c (now (tape .entry)) q (now (tape .exit)) ⌝ }
 {
-    if is_short(s, c) {
-        let q = valid_layout(s, c, tape);
-        let Number::Got(_, d) = q else {
-            return reader::refused(q);
-        };
-        if is_short(s, d) {
-            let p = valid_layout(s, d, tape);
-            let Number::Got(_, e) = p else {
-                return reader::refused(p);
-            };
-            return Step::Taken(e);
-        }
-        return reader::refused(slots::number_slot_types(s, d, tape));
-    }
     let q = slots::number_slot_types(s, c, tape);
     let Number::Got(_, d) = q else {
         return reader::refused(q);

@@ -1,5 +1,7 @@
+use Prim.Native.Nat.{ℕ}
+use mathlib.Core.Path.{_≡_}
+use native.Mathlib.Omega.{arith}
 use borrow.Author.Tests.{eqb-true}
-use Rattle.metadata.proofs.Answers.{never}
 use borrow.Author.Needs.{needs}
 use Rattle.metadata.proofs.is_tag.Statement.{statement}
 use Rattle.metadata.proofs.is_tag.Tie as tie
@@ -8,7 +10,7 @@ sub-if1 : tie.Need-sub-if1
 sub-if1 c = search needs
 
 returns : tie.Need-returns
-returns c = never
+returns c = λ e. let z : _≡_ {A = ℕ} 0 1 = cc in absurd (omega arith)
 
 shared-slice-read-result : tie.Need-shared-slice-read-result
 shared-slice-read-result c = search needs
