@@ -6,7 +6,6 @@ use mathlib.Core.Bool.{Bool, true, false}
 use native.Mathlib.Omega.{arith}
 use lib.ListN.{length}
 use Rattle.format.specs.Trace.{pick}
-use Rattle.format.specs.Format.{Value}
 use Rattle.format.specs.Reading.{same}
 use Rattle.vob24.specs.Settings.{settings}
 use Rattle.vob24.specs.Questions.{named}
@@ -20,8 +19,8 @@ use Rattle.items.proofs.Places.{item-name}
 use Rattle.items.proofs.Keys.{name-content}
 use Rattle.items.proofs.Texts.{text-length}
 use Rattle.items.proofs.Walking.{items-here, items-next, items-cons}
-use Rattle.names.specs.Asking.{priceOf, price}
-use Rattle.names.specs.Contract.{Named, Tallied}
+use Rattle.names.specs.Asking.{price}
+use Rattle.names.specs.Contract.{Tallied}
 
 pub record Counting (s : List ℕ) (from n at k m b : ℕ) : Type 0 where
   pub items : Items (structField settings) k s at

@@ -1,6 +1,6 @@
 -- The laws of a table whose items repeat none and can all be paid: one charge for all of them.
 use Prim.Native.Nat.{ℕ, zero, suc, _+_, _-_, _≤_, _<_}
-use mathlib.Core.Path.{_≡_, refl, ap, sym, _∙_}
+use mathlib.Core.Path.{_≡_, refl, sym}
 use mathlib.Core.List.{List, [], _∷_}
 use mathlib.Core.Bool.{Bool, true, false}
 use native.Mathlib.Omega.{arith}
@@ -12,7 +12,6 @@ use Rattle.vob24.specs.Refusals as refusals
 use Rattle.vob24.specs.Questions.{blank}
 use Rattle.reader.specs.Contract.{Asks, passes}
 use Rattle.reader.specs.declared.Cursor.{Cursor}
-use Rattle.reader.specs.declared.Step.{Step}
 use Rattle.reader.specs.declared.Step.the-variants.{Taken}
 use Rattle.reader.proofs.Asks.{asks-then}
 use Rattle.reader.proofs.Settles.{pay-yes}
@@ -24,8 +23,8 @@ use Rattle.items.specs.Walk.{valueAt, nextAt, itemsAt, lastAt, items-snoc, item
 use Rattle.items.specs.Items.{nameOf}
 use Rattle.items.specs.Tables.{formatIn}
 use Rattle.items.specs.Contract.{over}
-use Rattle.repeats.specs.Repeats.{repeats, repeatAt, FirstRepeat}
-use Rattle.names.specs.Asking.{charges, priceOf, price, wrongIn, tableAsks}
+use Rattle.repeats.specs.Repeats.{repeatAt, FirstRepeat}
+use Rattle.names.specs.Asking.{charges, priceOf, price, tableAsks}
 use Rattle.names.specs.Contract.{Cost}
 use Rattle.names.proofs.Asking.{refuse-no}
 

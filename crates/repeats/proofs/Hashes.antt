@@ -21,28 +21,24 @@ use Rattle.repeats.specs.Filter.{mixed, folded, otherKey, tailHash, word
 product-fits : (x a : ℕ) → x < 4294967296 → a < 4294967296 → x * a ≤ 4294967295 * 4294967295
 product-fits x a h k = mul-le-mul {n₁ = x} {m₁ = a} {n₂ = 4294967295} {m₂ = 4294967295} (omega arith) (omega arith)
 
+pub halves-fit : (x a : ℕ) → x < 4294967296 → a < 4294967296 → x * a < 2 ^ 64
+halves-fit x a h k = go _ (product-fits x a h k)
+  where
+    go : (m : ℕ) → m ≤ 18446744065119617025 → m < 2 ^ 64
+    go m a = omega arith
+
 module _ (a x : ℕ) (k : a < 4294967296) where
   low-fits : x % 4294967296 * a ≤ 18446744065119617025
   low-fits = product-fits (x % 4294967296) a (omega arith) k
 
   pub product-small : x % 4294967296 * a < 2 ^ 64
-  product-small = go _ low-fits
-    where
-      go : (m : ℕ) → m ≤ 18446744065119617025 → m < 2 ^ 64
-      go m a = omega arith
+  product-small = halves-fit (x % 4294967296) a (omega arith) k
 
   pub mixed-small : x < 2 ^ 64 → x % 4294967296 * a + x / 4294967296 < 2 ^ 64
   mixed-small f = go _ _ low-fits (omega arith)
     where
       go : (m q : ℕ) → m ≤ 18446744065119617025 → q < 4294967296 → m + q < 2 ^ 64
       go m q a b = omega arith
-
--- a product of halves
-pub halves-fit : (x a : ℕ) → x < 4294967296 → a < 4294967296 → x * a < 2 ^ 64
-halves-fit x a h k = go _ (product-fits x a h k)
-  where
-    go : (m : ℕ) → m ≤ 18446744065119617025 → m < 2 ^ 64
-    go m a = omega arith
 
 -- ---- the loops of `hash_bytes`: of n bytes at start, k from p on are left
 pub record Blocks (a b h : ℕ) (s : List ℕ) (start n g e p k : ℕ) : Type 0 where

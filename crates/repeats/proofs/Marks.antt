@@ -10,10 +10,9 @@ use lib.Bits.{bitAnd, bitOr}
 use borrow.Author.Count.{below-more}
 use Rattle.format.specs.Reading.{little, part}
 use Rattle.items.specs.declared.Table.{Table}
-use Rattle.items.specs.Items.{textAt}
 use Rattle.items.specs.Tables.{formatIn}
-use Rattle.items.specs.Contract.{TextAt, WordIs, Past, Items, Seen}
-use Rattle.items.proofs.Texts.{text-room, text-part, text-length}
+use Rattle.items.specs.Contract.{TextAt, WordIs, Past, Items}
+use Rattle.items.proofs.Texts.{text-part, text-length}
 use Rattle.items.proofs.Walking.{Walking, walking-start, walking-next}
 use Rattle.repeats.specs.Repeats.{repeatAt, Standing, FirstRepeat}
 use Rattle.repeats.specs.Marks.{markOf, MarkIs, markAt, Marked, AllNew}
