@@ -8,7 +8,7 @@ use lib.ListN.{length, getD, take, drop, length-append, length-drop}
 use lib.Seq.{take-append-seam}
 use lib.Dec.{eqb}
 use Rattle.format.specs.Trace.{Wrong, wrong, Trace, end, guard, pick, Settled, refused, taken, settle}
-use Rattle.format.specs.Format.{Value, pair, mark, Format, leaf, seq, _▸_}
+use Rattle.format.specs.Format.{Value, pair, mark, Format, leaf, seq, _▸_, counted}
 use Rattle.format.specs.Reading.{trace}
 use Rattle.format.specs.Record.{wordsLeaf, words}
 use Rattle.format.specs.Settling.{thenS, settle-taken}
@@ -141,9 +141,17 @@ module _ (set : Settings) where
       (λ v q l t′ j room′. spelled (k v) s (ws ++ words (section set n x) v) q l t′ h j room′)
       ∙ sym (words-seq b (section set n x) g s p ws)
 
+  after-spelled : (n : ℕ) → Spells (afterFunctions set n) n (externs ∷ entry ∷ islandInit ∷ artifacts ∷ files ∷ functionLocations ∷ inlineSources ∷ [])
+  unfolding afterFunctions
+  after-spelled n = more (λ _. more (λ _. more (λ _. more (λ _. more (λ _. more (λ _. last))))))
+
+  functions-spelled : Spells (seq (section set 0 functions) (λ v. afterFunctions set (counted v))) 0 (functions ∷ externs ∷ entry ∷ islandInit ∷ artifacts ∷ files ∷ functionLocations ∷ inlineSources ∷ [])
+  unfolding section words wordsLeaf
+  functions-spelled = more (λ v. after-spelled (counted v))
+
   sections-spelled : Spells (sections set) 0 allSections
-  unfolding sections afterFunctions section words wordsLeaf
-  sections-spelled = more (λ _. more (λ _. more (λ _. more (λ _. more (λ _. more (λ _. more (λ _. more (λ _. more (λ _. more (λ _. more (λ _. more (λ _. more (λ _. more (λ _. more (λ _. more (λ _. last))))))))))))))))
+  unfolding sections
+  sections-spelled = more (λ _. more (λ _. more (λ _. more (λ _. more (λ _. more (λ _. more (λ _. more (λ _. more (λ _. functions-spelled)))))))))
 
   -- ---- the whole pack
 

@@ -116,6 +116,21 @@ record Counts (k : ℕ) (bs : List ℕ) (m : ℕ) : Type 0 where
 add : {k m : ℕ} {bs t : List ℕ} (v : ℕ) → Scalar v → bs ≡ encode v ++ t → Counts (suc k) t m → Counts k bs m
 add {k} {m} v s e r = record { n = suc (r .n); encodes = subst (Encodes (suc (r .n))) (sym e) (more v s (r .encodes)); sum = omega (arith, r .sum) }
 
+put3 : {k m : ℕ} (b c d : ℕ) (t : List ℕ) → 0xe0 ≤ b → b ≤ 0xef → 0x80 ≤ c → c ≤ 0xbf → 32 ≤ (b - 0xe0) * 64 + (c - 0x80) → ((b - 0xe0) * 64 + (c - 0x80) < 864) ⊎ (896 ≤ (b - 0xe0) * 64 + (c - 0x80))
+    → 0x80 ≤ d → d ≤ 0xbf → Counts (suc k) t m → Counts k (b ∷ c ∷ d ∷ t) m
+put3 {k} {m} b c d t hb kb hc kc lo g hd kd r = go ((b - 0xe0) * 64 + (c - 0x80)) refl
+  where
+    go : (w : ℕ) → w ≡ (b - 0xe0) * 64 + (c - 0x80) → Counts k (b ∷ c ∷ d ∷ t) m
+    go w e = last (w * 64 + (d - 0x80)) refl
+      where
+        last : (v : ℕ) → v ≡ w * 64 + (d - 0x80) → Counts k (b ∷ c ∷ d ∷ t) m
+        last v o =
+            let q : v / 64 ≡ w = omega arith in
+            let b' : 0xe0 + v / 4096 ≡ b = omega arith in
+            let c' : 0x80 + v / 64 % 64 ≡ c = rw q (omega arith) in
+            let d' : 0x80 + v % 64 ≡ d = omega arith in
+            add v (⊎-elim (λ a. inl (omega arith)) (λ a. inr (omega arith, omega arith)) g) (rw (encode3 v (omega arith) (omega arith), b', c', d')) r
+
 put4 : {k m : ℕ} (b c d f : ℕ) (t : List ℕ) → 0xf0 ≤ b → 0x80 ≤ c → c ≤ 0xbf → 16 ≤ (b - 0xf0) * 64 + (c - 0x80) → (b - 0xf0) * 64 + (c - 0x80) < 272
     → 0x80 ≤ d → d ≤ 0xbf → 0x80 ≤ f → f ≤ 0xbf → Counts (suc k) t m → Counts k (b ∷ c ∷ d ∷ f ∷ t) m
 put4 {k} {m} b c d f t hb hc kc lo hi hd kd hf kf r = go ((b - 0xf0) * 64 + (c - 0x80)) refl
@@ -154,15 +169,9 @@ module _ (b : ℕ) (bs : List ℕ) (k m l : ℕ) (len : length bs ≤ l) (ih : (
   is3 lo hi h j e p0 q0 f u =
       let x : Cont k 2 lo hi bs m = cont k 2 lo hi refl bs (rw e at u) in
       let y : Cont k 1 0x80 0xbf (x .t) m = cont k 1 0x80 0xbf refl (x .t) (x .rest) in
-      let w = (b - 0xe0) * 64 + (x .c - 0x80) in
-      let v = w * 64 + (y .c - 0x80) in
       let g = f (x .c) (x .low) (x .high) in
-      let p : 0xe0 + v / 4096 ≡ b = omega arith in
-      let q : 0x80 + v / 64 % 64 ≡ x .c = omega arith in
-      let r : 0x80 + v % 64 ≡ y .c = omega arith in
-      add v (⊎-elim (λ a. inl (omega arith)) (λ a. inr (omega arith, omega arith)) (g .1))
-      (ap (_∷_ b) (x .here ∙ ap (_∷_ (x .c)) (y .here)) ∙ rw (encode3 v (omega arith) (omega arith), p, q, r))
-      (ih (y .t) (omega (arith, ap length (x .here), ap length (y .here))) (y .rest))
+      subst (λ (l : List ℕ). Counts k l m) (sym (ap (_∷_ b) (x .here ∙ ap (_∷_ (x .c)) (y .here))))
+      (put3 b (x .c) (y .c) (y .t) h j (le-trans p0 (x .low)) (le-trans (x .high) q0) (g .0) (g .1) (y .low) (y .high) (ih (y .t) (omega (arith, ap length (x .here), ap length (y .here))) (y .rest)))
 
   is4 : (lo hi : ℕ) → 0xf0 ≤ b → b ≤ 0xf4 → lead b ≡ want 3 lo hi → 0x80 ≤ lo → hi ≤ 0xbf
       → ((c : ℕ) → lo ≤ c → c ≤ hi → (16 ≤ (b - 0xf0) * 64 + (c - 0x80)) × ((b - 0xf0) * 64 + (c - 0x80) < 272))
