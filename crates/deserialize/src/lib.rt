@@ -45,7 +45,7 @@ fn sections(s: &[u8], r: Step, tape: &mut [u32]) -> Step
     let r1 = fields::field_str(s, r, tape);
     let r2 = structs::structs(s, r1, tape);
     let r3 = interfaces::interfaces(s, r2, tape);
-    let r4 = interfaces::named_types(s, r3, tape);
+    let r4 = named_types::named_types(s, r3, tape);
     let r5 = tables::itabs(s, r4, tape);
     let r6 = runtime_type::runtime_types(s, r5, tape);
     let r7 = tables::well_known(s, r6, tape);
@@ -74,7 +74,7 @@ pub fn to_artifacts(s: &[u8], r: Step, tape: &mut [u32]) -> Step
     let r3 = fields::field_str(s, r2, tape);
     let r4 = structs::structs(s, r3, tape);
     let r5 = interfaces::interfaces(s, r4, tape);
-    let r6 = interfaces::named_types(s, r5, tape);
+    let r6 = named_types::named_types(s, r5, tape);
     let r7 = tables::itabs(s, r6, tape);
     let r8 = runtime_type::runtime_types(s, r7, tape);
     let r9 = tables::well_known(s, r8, tape);

@@ -1,4 +1,4 @@
-// Runs the readers of crate interfaces on parts of packs: the interfaces and the named types.
+// Runs the readers of crates interfaces and named_types on parts of packs.
 // Prints a line for each part; stdout holds what the oracle answers.
 use reader::Step;
 ghost use Rattle.reader.specs.Contract.{Ready};
@@ -8,7 +8,7 @@ fn read(which: u64, s: &[u8], r: Step, tape: &mut [u32]) -> Step
 {
     match which {
         1 => interfaces::interfaces(s, r, tape),
-        _ => interfaces::named_types(s, r, tape),
+        _ => named_types::named_types(s, r, tape),
     }
 }
 

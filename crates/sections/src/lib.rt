@@ -51,12 +51,12 @@ pub fn read_named_types(pack: &[u8], place: usize, budget: u64, tape: &mut [u32]
     ensures { λ q. ⌜ SectionCall 0 vob.namedTypes (now (pack .entry)) place budget (now (tape .entry)) q (now (tape .exit)) ⌝ }
 {
     let start = calls::opening(pack, place, budget);
-    let first = interfaces::named_types(pack, start, &mut tape[..0]);
+    let first = named_types::named_types(pack, start, &mut tape[..0]);
     let answer = calls::closed(first, place, budget, tape.len());
     let Answer::Taken { .. } = answer else {
         return answer;
     };
-    interfaces::named_types(pack, start, tape);
+    named_types::named_types(pack, start, tape);
     answer
 }
 

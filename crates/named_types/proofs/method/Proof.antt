@@ -1,8 +1,8 @@
 use borrow.Author.Needs.{needs}
 use Rattle.vob24.specs.Grammar.{method}
 use Rattle.reader.proofs.Reading.{reading}
-use Rattle.interfaces.proofs.method.Statement.{statement}
-use Rattle.interfaces.proofs.method.Tie as tie
+use Rattle.named_types.proofs.method.Statement.{statement}
+use Rattle.named_types.proofs.method.Tie as tie
 
 field-member-name-requires : tie.Need-field-member-name-requires
 field-member-name-requires c κs = search needs

@@ -2,9 +2,9 @@ use borrow.Author.Needs.{needs}
 use Rattle.vob24.specs.Grammar.{methods as methodsFormat}
 use Rattle.reader.proofs.Reading.{reading}
 use Rattle.reader.proofs.Laws.{got-ready}
-use Rattle.interfaces.proofs.Laws.{methodsThen, first-run, second-run}
-use Rattle.interfaces.proofs.methods.Statement.{statement}
-use Rattle.interfaces.proofs.methods.Tie as tie
+use Rattle.named_types.proofs.Laws.{methodsThen, first-run, second-run}
+use Rattle.named_types.proofs.methods.Statement.{statement}
+use Rattle.named_types.proofs.methods.Tie as tie
 
 enum-known-r : tie.Need-enum-known-r
 enum-known-r c = search (needs, reading)

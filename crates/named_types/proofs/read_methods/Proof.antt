@@ -1,9 +1,9 @@
 use borrow.Author.Needs.{needs}
-use Rattle.interfaces.proofs.Laws.{unjudged}
+use Rattle.named_types.proofs.Laws.{unjudged}
 use Prim.Native.Nat.{_-_}
-use Rattle.interfaces.proofs.Laws.{Unjudged, unjudged-behind, unjudged-lim, unjudged-refused, unjudged-more}
-use Rattle.interfaces.proofs.read_methods.Statement.{statement}
-use Rattle.interfaces.proofs.read_methods.Tie as tie
+use Rattle.named_types.proofs.Laws.{Unjudged, unjudged-behind, unjudged-lim, unjudged-refused, unjudged-more}
+use Rattle.named_types.proofs.read_methods.Statement.{statement}
+use Rattle.named_types.proofs.read_methods.Tie as tie
 
 abbrev Inv-loop : tie.InvT-loop
 Inv-loop s n lim tape₀ from i₀ here₀ tape i here = Unjudged s tape₀ here₀ n lim from tape here i

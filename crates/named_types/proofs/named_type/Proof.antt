@@ -1,8 +1,8 @@
 use borrow.Author.Needs.{needs}
 use Rattle.vob24.specs.Grammar.{namedType}
 use Rattle.reader.proofs.Reading.{reading}
-use Rattle.interfaces.proofs.named_type.Statement.{statement}
-use Rattle.interfaces.proofs.named_type.Tie as tie
+use Rattle.named_types.proofs.named_type.Statement.{statement}
+use Rattle.named_types.proofs.named_type.Tie as tie
 
 field-str-requires : tie.Need-field-str-requires
 field-str-requires c κs = search needs

@@ -2,9 +2,9 @@ use borrow.Author.Needs.{needs}
 use Rattle.reader.proofs.Reading.{reading}
 use Rattle.reader.proofs.Laws.{Turns}
 use Rattle.reader.proofs.Parts.{list-done, list-refused}
-use Rattle.interfaces.specs.NamedTypes.{namedFormat}
-use Rattle.interfaces.proofs.named_types.Statement.{statement}
-use Rattle.interfaces.proofs.named_types.Tie as tie
+use Rattle.named_types.specs.NamedTypes.{namedFormat}
+use Rattle.named_types.proofs.named_types.Statement.{statement}
+use Rattle.named_types.proofs.named_types.Tie as tie
 
 abbrev Inv-loop : tie.InvT-loop
 Inv-loop s tape₀ n k₀ here₀ tape k here = Turns namedFormat s tape₀ here₀ k₀ tape here k

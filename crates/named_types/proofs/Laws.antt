@@ -29,7 +29,7 @@ use Rattle.repeats.specs.Repeats.{repeatAt, FirstRepeat}
 use Rattle.names.specs.Contract.{MethodBehind, MethodAsked}
 use Rattle.names.proofs.Lists.{method-repeat, method-refused}
 use Rattle.names.proofs.Methods.{Methods, methods-start, methods-more, methods-refused, methods-done}
-use Rattle.interfaces.specs.NamedTypes.{namedMethod, namedMethods, newMethods, AllNew, MethodsRead}
+use Rattle.named_types.specs.NamedTypes.{namedMethod, namedMethods, newMethods, AllNew, MethodsRead}
 
 pub methodsThen : {s : List ℕ} {c d : Cursor} {q : Number} {n : ℕ} {r r₂ : Step} {t t₁ t₂ : List ℕ} → r ≡ Taken c → q ≡ Got n d → NumberOf methodCount number s c t q t₁ → Reader (chain (newMethod settings) (alsoSeen settings) [] n) s (Taken d) t₁ r₂ t₂ → Reader namedMethods s r t r₂ t₂
 unfolding methods

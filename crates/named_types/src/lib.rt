@@ -1,0 +1,111 @@
+// The named-type section: each named type's methods, whose names are new one by one.
+// Ports what Module::deserialize of serialize.rs reads into NamedTypeMeta and MethodInfo of bytecode.rs.
+ghost use Rattle.reader.specs.Contract.{Ready, ReadyAt, Reader};
+ghost use Rattle.named_types.specs.NamedTypes.{namedMethod, namedMethods, namedFormat, namedList, MethodsRead};
+use items::Item;
+use items::Table;
+use reader::Cursor;
+use reader::Number;
+use reader::Step;
+use reader::sizes;
+
+pub fn method(s: &[u8], r: Step, tape: &mut [u32]) -> Step
+    requires { ⌜ Ready (now s) r ⌝ }
+    ensures { λ q. ⌜ Reader namedMethod (now (s .entry)) r (now (tape .entry)) q (now (tape .exit)) ⌝ }
+{
+    let name = fields::field_member_name(s, r, tape);
+    let func_id = fields::field_u32(s, name, tape);
+    let is_pointer_receiver = fields::field_bool(s, func_id, tape);
+    let receiver_is_iface_boxed = fields::field_bool(s, is_pointer_receiver, tape);
+    fields::field_u32(s, receiver_is_iface_boxed, tape)
+}
+
+// How many methods were read, and the answer past them.
+pub struct Run {
+    pub count: usize,
+    pub step: Step,
+}
+
+// Up to n methods, one after the other. Method lim is compared with those before it, once its whole record was read, and ends the run.
+fn read_methods(s: &[u8], d: Cursor, n: usize, lim: usize, tape: &mut [u32]) -> Run
+    requires { ⌜ ReadyAt (now s) d ⌝ }
+    ensures { λ q. ⌜ MethodsRead (now (s .entry)) d n lim (now (tape .entry)) (q .count) (q .step) (now (tape .exit)) ⌝ }
+{
+    let from = d.place;
+    let mut i = 0;
+    let mut here = Step::Taken(d);
+    while i < n {
+        let read = method(s, here, tape);
+        if i == lim {
+            let step = names::new_method(s, from, i, here, read);
+            return Run { count: i, step };
+        }
+        here = read;
+        let Step::Taken(_) = here else {
+            return Run {
+                count: i,
+                step: here,
+            };
+        };
+        i += 1;
+    }
+    Run {
+        count: n,
+        step: here,
+    }
+}
+
+// The methods are read, and then the first repeat among those that were read is looked for; it is judged where it comes, by a second run.
+pub fn methods(s: &[u8], r: Step, tape: &mut [u32]) -> Step
+    requires { ⌜ Ready (now s) r ⌝ }
+    ensures { λ q. ⌜ Reader namedMethods (now (s .entry)) r (now (tape .entry)) q (now (tape .exit)) ⌝ }
+{
+    let Step::Taken(c) = r else {
+        return r;
+    };
+    let q = fields::number_method_count(s, c, tape);
+    let Number::Got(n, d) = q else {
+        return reader::refused(q);
+    };
+    let count = n as usize;
+    let run = read_methods(s, d, count, count, tape);
+    let lim = repeats::first_repeat(s, Table::Methods(Item::NamedMethod), d.place, run.count);
+    if lim == run.count {
+        return run.step;
+    }
+    let again = read_methods(s, d, count, lim, tape);
+    again.step
+}
+
+pub fn named_type(s: &[u8], r: Step, tape: &mut [u32]) -> Step
+    requires { ⌜ Ready (now s) r ⌝ }
+    ensures { λ q. ⌜ Reader namedFormat (now (s .entry)) r (now (tape .entry)) q (now (tape .exit)) ⌝ }
+{
+    let name = fields::field_str(s, r, tape);
+    let underlying_meta = fields::field_value_meta(s, name, tape);
+    let underlying_rttid = fields::field_value_rttid(s, underlying_meta, tape);
+    methods(s, underlying_rttid, tape)
+}
+
+pub fn named_types(s: &[u8], r: Step, tape: &mut [u32]) -> Step
+    requires { ⌜ Ready (now s) r ⌝ }
+    ensures { λ q. ⌜ Reader namedList (now (s .entry)) r (now (tape .entry)) q (now (tape .exit)) ⌝ }
+{
+    let Step::Taken(c) = r else {
+        return r;
+    };
+    let q = fields::number_count(s, c, sizes::NAMED_TYPE_META, tape);
+    let Number::Got(n, d) = q else {
+        return reader::refused(q);
+    };
+    let mut k = n;
+    let mut here = Step::Taken(d);
+    while 0 < k {
+        here = named_type(s, here, tape);
+        let Step::Taken(_) = here else {
+            return here;
+        };
+        k -= 1;
+    }
+    here
+}
