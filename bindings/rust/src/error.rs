@@ -317,7 +317,7 @@ impl Reason {
             25 => Reason::HostCalls { externs: detail1 },
             26 => Reason::NoRoom { needed: detail1, length: detail2 },
             27 => Reason::NoSuchArtifact,
-            // Proved: crates/exports/specs/Numbered.antt.
+            // Proved: crates/vob24/specs/Numbered.antt.
             _ => unreachable!("no refusal has the number {number}"),
         })
     }

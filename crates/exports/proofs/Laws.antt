@@ -7,30 +7,11 @@ use Rattle.vob24.specs.Grammar.{Section}
 use Rattle.vob24.specs.Calls as vob
 use Rattle.calls.specs.Call.{answerOf, ReadCall, SectionCall}
 use Rattle.calls.specs.declared.Answer.{Answer}
-use Rattle.reader.specs.declared.Refusal.{Refusal}
 use Rattle.lookup.specs.Look.{foundOf}
 use Rattle.lookup.specs.declared.Found.{Found}
 use Rattle.serialize.specs.Find.{LocateCall}
-use Rattle.exports.specs.Export.{numbersOf, foundNumbers, Shows}
-use Rattle.exports.specs.declared.VobAnswer.{VobAnswer}
-
--- ---- an answer's six numbers
-
-pub taken-numbers : {a : Answer} {w n c l : ℕ} → a ≡ Answer.Taken w n c l → numbersOf (vob.Taken w n c l) ≡ numbersOf (answerOf a)
-taken-numbers e = rw e
-
-pub refused-numbers : {a : Answer} {x : Refusal} {q : VobAnswer} → a ≡ Answer.Refused x → q ≡ numbersOf (answerOf (Answer.Refused x)) → q ≡ numbersOf (answerOf a)
-refused-numbers e h = rw e h
-
-pub at-numbers : {a : Found} {p n : ℕ} → a ≡ Found.At p n → foundNumbers (vob.At p n) ≡ foundNumbers (foundOf a)
-at-numbers e = rw e
-
-pub not-numbers : {a : Found} {x : Refusal} {q : VobAnswer} → a ≡ Found.Not x → q ≡ numbersOf (answerOf (Answer.Refused x)) → q ≡ foundNumbers (foundOf a)
-not-numbers e h = rw e h
-
-pub ruleset numbers = (taken-numbers, refused-numbers, at-numbers, not-numbers)
-
--- ---- the calls
+use Rattle.answers.specs.Numbers.{numbersOf, foundNumbers, Shows}
+use Rattle.answers.specs.declared.VobAnswer.{VobAnswer}
 
 shows : {o : vob.Outcome} (a : Answer) {q : VobAnswer} {t′ : List ℕ} → o ≡ record { answer = answerOf a; tape = t′ } → q ≡ numbersOf (answerOf a) → Shows o q t′
 shows a e h = record { answer = h ∙ ap (λ o. numbersOf (o .answer)) (sym e); tape = ap (λ o. o .tape) (sym e) }

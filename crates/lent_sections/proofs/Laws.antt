@@ -1,5 +1,5 @@
 -- The laws of the lent section calls: what the call by value has answered, and where that moves the position.
-use Prim.Native.Nat.{ℕ, _+_, _<_, _^_}
+use Prim.Native.Nat.{ℕ, _<_, _^_}
 use mathlib.Core.Path.{_≡_, ap, sym, _∙_}
 use mathlib.Core.List.{List}
 use native.Mathlib.Omega.{arith}
@@ -8,23 +8,11 @@ use Rattle.vob24.specs.Settings.{settings}
 use Rattle.vob24.specs.Grammar.{Section}
 use Rattle.vob24.specs.Calls as vob
 use Rattle.vob24.specs.Theorems.{section-only, section-record}
-use Rattle.reader.specs.declared.Refusal.{Refusal}
 use Rattle.calls.specs.declared.Answer.{Answer}
 use Rattle.calls.specs.Call.{answerOf, SectionCall}
-use Rattle.lent_sections.specs.Call.{positionOf, LentCall, Moves, Fits}
-use Rattle.lent_sections.specs.declared.Position.{Position}
-
-module _ {at : Position} {q : Answer} where
-  pub moves-taken : {w n c l : ℕ} → q ≡ Answer.Taken w n c l → Moves at q (record { place = at .place + n; budget = l })
-  moves-taken e = record { is = rw e }
-
-  pub moves-refused : {r : Refusal} → q ≡ Answer.Refused r → Moves at q at
-  moves-refused e = record { is = rw e }
-
-  pub fits-place : {w n c l : ℕ} → Fits at q → q ≡ Answer.Taken w n c l → at .place + n < 2 ^ 64
-  fits-place k e = k .fits e
-
-pub ruleset moving = (moves-taken, moves-refused, fits-place)
+use Rattle.positions.specs.Moving.{positionOf, Moves, Fits}
+use Rattle.positions.specs.declared.Position.{Position}
+use Rattle.lent_sections.specs.Call.{LentCall}
 
 module _ {n : ℕ} {x : Section} {s : List ℕ} {at : Position} {t : List ℕ} {q : Answer} {t′ : List ℕ} (k : SectionCall n x s (at .place) (at .budget) t q t′) where
   -- the bytes taken lie in the pack

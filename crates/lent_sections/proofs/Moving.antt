@@ -16,11 +16,11 @@ use denote.Triple.Clauses.{Clauses, closing, ensured, lasts}
 use denote.Triple.Walked.{says}
 use Rattle.calls.specs.declared.Answer.{Answer}
 use Rattle.calls.proofs.Answer as R
-use Rattle.lent_sections.specs.Call.{Moves, Fits}
-use Rattle.lent_sections.specs.declared.Position.{Position}
-use Rattle.lent_sections.proofs.Position as P
-use Rattle.lent_sections.proofs.Position.Laws as P′
-use Rattle.lent_sections.proofs.moved as moved
+use Rattle.positions.specs.Moving.{Moves, Fits}
+use Rattle.positions.specs.declared.Position.{Position}
+use Rattle.positions.proofs.Position as P
+use Rattle.positions.proofs.Position.Laws as P′
+use Rattle.positions.proofs.moved as moved
 
 module _ {M : Type 1} (𝓤 : URA M) where
   abbrev pub moved-clauses : Clauses 𝓤 moved.ended

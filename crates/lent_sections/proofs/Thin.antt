@@ -47,17 +47,18 @@ use Rattle.calls.proofs.Answer as R
 use Rattle.calls.proofs.Answer.Laws as R′
 use Rattle.sections.proofs.read_name as read
 use Rattle.sections.proofs.read_inline_sources as read-of
-use Rattle.lent_sections.specs.Call.{LentCall, Moves}
-use Rattle.lent_sections.specs.declared.Position.{Position}
+use Rattle.positions.specs.Moving.{Moves}
+use Rattle.lent_sections.specs.Call.{LentCall}
+use Rattle.positions.specs.declared.Position.{Position}
 use Rattle.lent_sections.proofs.Laws.{fits-pack, lent-call}
 use Rattle.lent_sections.proofs.Number.{Takes, also, past, InRange, alloc-also, pass-also, free-also, from-past, load-also}
 pub use Rattle.lent_sections.proofs.Number.{no-number, a-number}
-use Rattle.lent_sections.proofs.Position as P
-use Rattle.lent_sections.proofs.Position.Laws as P′
+use Rattle.positions.proofs.Position as P
+use Rattle.positions.proofs.Position.Laws as P′
 use Rattle.lent_sections.proofs.Moving.{moved-clauses, Moved, to-moved, goes-moved, moved-of}
-use Rattle.lent_sections.proofs.moved as moved
-use Rattle.lent_sections.proofs.moved.Symbol as moved-symbol
-use Rattle.lent_sections.proofs.moved.Met as moved-met
+use Rattle.positions.proofs.moved as moved
+use Rattle.positions.proofs.moved.Symbol as moved-symbol
+use Rattle.positions.proofs.moved.Met as moved-met
 use Rattle.lent_sections.proofs.read_name as thin
 use Rattle.lent_sections.proofs.read_inline_sources as thin-of
 

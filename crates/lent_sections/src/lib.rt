@@ -1,39 +1,16 @@
 // The section calls that are lent their place and budget and advance them: each calls its section's reader by value.
 // The Rust has no such calls; its ByteReader advances its pos and allocation_remaining so.
 ghost use Rattle.vob24.specs.Grammar as vob;
-ghost use Rattle.lent_sections.specs.Call.{Fits, Moves, LentCall};
+ghost use Rattle.lent_sections.specs.Call.{LentCall};
 use calls::Answer;
-
-pub struct Position {
-    pub place: usize,
-    pub budget: u64,
-}
-
-// Past the bytes taken, with what is left; a refusal leaves the position.
-fn moved(at: Position, answer: Answer) -> Position
-    requires { ⌜ Fits at answer ⌝ }
-    ensures { λ q. ⌜ Moves at answer q ⌝ }
-{
-    match answer {
-        Answer::Taken {
-            words: _,
-            bytes,
-            charged: _,
-            left,
-        } => Position {
-            place: at.place + bytes,
-            budget: left,
-        },
-        Answer::Refused(_) => at,
-    }
-}
+pub use positions::Position;
 
 pub fn read_name(pack: &[u8], at: &mut Position, tape: &mut [u32]) -> Answer
     ensures { λ q. ⌜ LentCall 0 vob.name (now (pack .entry)) (now (at .entry)) (now (tape .entry)) q (now (at .exit)) (now (tape .exit)) ⌝ }
 {
     let from = *at;
     let answer = sections::read_name(pack, from.place, from.budget, tape);
-    *at = moved(from, answer);
+    *at = positions::moved(from, answer);
     answer
 }
 
@@ -42,7 +19,7 @@ pub fn read_structs(pack: &[u8], at: &mut Position, tape: &mut [u32]) -> Answer
 {
     let from = *at;
     let answer = sections::read_structs(pack, from.place, from.budget, tape);
-    *at = moved(from, answer);
+    *at = positions::moved(from, answer);
     answer
 }
 
@@ -51,7 +28,7 @@ pub fn read_interfaces(pack: &[u8], at: &mut Position, tape: &mut [u32]) -> Answ
 {
     let from = *at;
     let answer = sections::read_interfaces(pack, from.place, from.budget, tape);
-    *at = moved(from, answer);
+    *at = positions::moved(from, answer);
     answer
 }
 
@@ -60,7 +37,7 @@ pub fn read_named_types(pack: &[u8], at: &mut Position, tape: &mut [u32]) -> Ans
 {
     let from = *at;
     let answer = sections::read_named_types(pack, from.place, from.budget, tape);
-    *at = moved(from, answer);
+    *at = positions::moved(from, answer);
     answer
 }
 
@@ -69,7 +46,7 @@ pub fn read_itabs(pack: &[u8], at: &mut Position, tape: &mut [u32]) -> Answer
 {
     let from = *at;
     let answer = sections::read_itabs(pack, from.place, from.budget, tape);
-    *at = moved(from, answer);
+    *at = positions::moved(from, answer);
     answer
 }
 
@@ -78,7 +55,7 @@ pub fn read_runtime_types(pack: &[u8], at: &mut Position, tape: &mut [u32]) -> A
 {
     let from = *at;
     let answer = sections::read_runtime_types(pack, from.place, from.budget, tape);
-    *at = moved(from, answer);
+    *at = positions::moved(from, answer);
     answer
 }
 
@@ -87,7 +64,7 @@ pub fn read_well_known(pack: &[u8], at: &mut Position, tape: &mut [u32]) -> Answ
 {
     let from = *at;
     let answer = sections::read_well_known(pack, from.place, from.budget, tape);
-    *at = moved(from, answer);
+    *at = positions::moved(from, answer);
     answer
 }
 
@@ -96,7 +73,7 @@ pub fn read_constants(pack: &[u8], at: &mut Position, tape: &mut [u32]) -> Answe
 {
     let from = *at;
     let answer = sections::read_constants(pack, from.place, from.budget, tape);
-    *at = moved(from, answer);
+    *at = positions::moved(from, answer);
     answer
 }
 
@@ -105,7 +82,7 @@ pub fn read_globals(pack: &[u8], at: &mut Position, tape: &mut [u32]) -> Answer
 {
     let from = *at;
     let answer = sections::read_globals(pack, from.place, from.budget, tape);
-    *at = moved(from, answer);
+    *at = positions::moved(from, answer);
     answer
 }
 
@@ -114,7 +91,7 @@ pub fn read_functions(pack: &[u8], at: &mut Position, tape: &mut [u32]) -> Answe
 {
     let from = *at;
     let answer = sections::read_functions(pack, from.place, from.budget, tape);
-    *at = moved(from, answer);
+    *at = positions::moved(from, answer);
     answer
 }
 
@@ -123,7 +100,7 @@ pub fn read_externs(pack: &[u8], at: &mut Position, tape: &mut [u32]) -> Answer
 {
     let from = *at;
     let answer = sections::read_externs(pack, from.place, from.budget, tape);
-    *at = moved(from, answer);
+    *at = positions::moved(from, answer);
     answer
 }
 
@@ -132,7 +109,7 @@ pub fn read_entry(pack: &[u8], at: &mut Position, tape: &mut [u32]) -> Answer
 {
     let from = *at;
     let answer = sections::read_entry(pack, from.place, from.budget, tape);
-    *at = moved(from, answer);
+    *at = positions::moved(from, answer);
     answer
 }
 
@@ -141,7 +118,7 @@ pub fn read_island_init(pack: &[u8], at: &mut Position, tape: &mut [u32]) -> Ans
 {
     let from = *at;
     let answer = sections::read_island_init(pack, from.place, from.budget, tape);
-    *at = moved(from, answer);
+    *at = positions::moved(from, answer);
     answer
 }
 
@@ -150,7 +127,7 @@ pub fn read_artifacts(pack: &[u8], at: &mut Position, tape: &mut [u32]) -> Answe
 {
     let from = *at;
     let answer = sections::read_artifacts(pack, from.place, from.budget, tape);
-    *at = moved(from, answer);
+    *at = positions::moved(from, answer);
     answer
 }
 
@@ -159,7 +136,7 @@ pub fn read_files(pack: &[u8], at: &mut Position, tape: &mut [u32]) -> Answer
 {
     let from = *at;
     let answer = sections::read_files(pack, from.place, from.budget, tape);
-    *at = moved(from, answer);
+    *at = positions::moved(from, answer);
     answer
 }
 
@@ -168,7 +145,7 @@ pub fn read_function_locations(pack: &[u8], at: &mut Position, tape: &mut [u32])
 {
     let from = *at;
     let answer = sections::read_function_locations(pack, from.place, from.budget, tape);
-    *at = moved(from, answer);
+    *at = positions::moved(from, answer);
     answer
 }
 
@@ -183,6 +160,6 @@ pub fn read_inline_sources(
 {
     let from = *at;
     let answer = sections::read_inline_sources(pack, from.place, from.budget, functions, tape);
-    *at = moved(from, answer);
+    *at = positions::moved(from, answer);
     answer
 }

@@ -45,8 +45,9 @@ fn item(s: &[u8], c: Cursor) -> Number
     leaves::read_small(s, d, 5, numbers::INVALID_SLOT_TYPE)
 }
 
-// Hands out how many they are. `number_any` is called with copies: what is lent to it, or is its answer, stands in memory and not in
-// registers, also where it is not called.
+// Hands out how many they are. The budget and the count are looked at before the leaf asks, so that the compiler drops the leaf's refusals
+// here. `number_any` is called with copies: what is lent to it, or is its answer, stands in memory and not in registers, also where it is
+// not called.
 pub fn number_slot_types(s: &[u8], c: Cursor, tape: &mut [u32]) -> Number
     requires { ⌜ ReadyAt (now s) c ⌝ }
     ensures { λ q. ⌜ NumberOf (slotTypes settings) counted (now (s .entry)) c (now (tape .entry)) q (now (tape .exit)) ⌝ }

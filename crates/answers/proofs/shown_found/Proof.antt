@@ -1,7 +1,7 @@
-use Rattle.exports.proofs.Laws.{numbers}
+use Rattle.answers.proofs.Laws.{numbers}
 use borrow.Author.Needs.{needs}
-use Rattle.exports.proofs.shown_found.Statement.{statement}
-use Rattle.exports.proofs.shown_found.Tie as tie
+use Rattle.answers.proofs.shown_found.Statement.{statement}
+use Rattle.answers.proofs.shown_found.Tie as tie
 
 enum-known-found : tie.Need-enum-known-found
 enum-known-found c = search needs

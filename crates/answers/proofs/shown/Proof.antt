@@ -1,7 +1,7 @@
-use Rattle.exports.proofs.Laws.{numbers}
+use Rattle.answers.proofs.Laws.{numbers}
 use borrow.Author.Needs.{needs}
-use Rattle.exports.proofs.shown.Statement.{statement}
-use Rattle.exports.proofs.shown.Tie as tie
+use Rattle.answers.proofs.shown.Statement.{statement}
+use Rattle.answers.proofs.shown.Tie as tie
 
 enum-known-answer : tie.Need-enum-known-answer
 enum-known-answer c = search needs

@@ -6,7 +6,7 @@ use native.Mathlib.Omega.{arith}
 use Rattle.format.specs.Trace.{Wrong}
 use Rattle.vob24.specs.Calls as vob
 use Rattle.vob24.specs.Numbered.{Answered, taken, refused, Looked, found, missed}
-use Rattle.exports.specs.declared.VobAnswer.{VobAnswer}
+use Rattle.answers.specs.declared.VobAnswer.{VobAnswer}
 
 abbrev refusedNumbers : Wrong → ℕ → ℕ → VobAnswer
 refusedNumbers w p l = record { number = w .number; value1 = w .context; value2 = w .detail1; value3 = w .detail2; value4 = p; value5 = l }

@@ -1,7 +1,7 @@
 use borrow.Author.Needs.{needs}
-use Rattle.lent_sections.proofs.Laws.{moving}
-use Rattle.lent_sections.proofs.moved.Statement.{statement}
-use Rattle.lent_sections.proofs.moved.Tie as tie
+use Rattle.positions.proofs.Laws.{moving}
+use Rattle.positions.proofs.moved.Statement.{statement}
+use Rattle.positions.proofs.moved.Tie as tie
 
 enum-known-answer : tie.Need-enum-known-answer
 enum-known-answer c = search needs
