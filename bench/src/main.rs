@@ -46,22 +46,27 @@ fn timed<T>(work: impl FnOnce() -> T) -> (Duration, T) {
     (start.elapsed(), result)
 }
 
-/// The best times of both, taken in turns. Of a small pack many readings are timed together, so that the clock's own time does not count.
+/// The best times of both, each in rounds of its own. Of a small pack many readings are timed together, so that the clock's own time does
+/// not count.
 fn best(pack: &[u8], tape: &mut [u32], seconds: f64) -> (Duration, Duration) {
-    let (mut fastest, mut fastest_rust) = (Duration::MAX, Duration::MAX);
     let readings = (100_000 / pack.len()).max(1);
+    let fastest = fastest_of(seconds / 2.0, || timed(|| (0..readings).map(|_| ours(black_box(pack), tape)).sum::<u64>()).0);
     let mut modules = Vec::with_capacity(readings);
-    let begun = Instant::now();
-    loop {
-        let (time, _) = timed(|| (0..readings).map(|_| ours(black_box(pack), tape)).sum::<u64>());
-        fastest = fastest.min(time / readings as u32);
-        let (time, _) = timed(|| modules.extend((0..readings).map(|_| rust(black_box(pack)))));
-        fastest_rust = fastest_rust.min(time / readings as u32);
+    let fastest_rust = fastest_of(seconds / 2.0, || {
         modules.clear();
-        if begun.elapsed().as_secs_f64() >= seconds {
-            return (fastest, fastest_rust);
-        }
+        timed(|| modules.extend((0..readings).map(|_| rust(black_box(pack))))).0
+    });
+    (fastest / readings as u32, fastest_rust / readings as u32)
+}
+
+/// The best of the rounds that fit in so many seconds, at least one.
+fn fastest_of(seconds: f64, mut round: impl FnMut() -> Duration) -> Duration {
+    let begun = Instant::now();
+    let mut fastest = round();
+    while begun.elapsed().as_secs_f64() < seconds {
+        fastest = fastest.min(round());
     }
+    fastest
 }
 
 struct Case {
