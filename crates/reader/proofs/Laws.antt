@@ -129,10 +129,6 @@ module _ {f : Format} {of : Value → ℕ} {s : List ℕ} {c : Cursor} {t t₁ :
       let g = got-of e k in
       record { reads = thenReads (g .takes) (rw (g .is) at (m .reads)); ready = m .ready }
 
-  -- the number is k
-  pub numberAt : (h : ℕ → Format) {q : Number} {n k : ℕ} {c′ : Cursor} {t₂ : List ℕ} {r₂ : Step} → q ≡ Got n c′ → n ≡ k → NumberOf f of s c t q t₁ → Reader (h k) s (Taken c′) t₁ r₂ t₂ → Reader (seq f (λ v. h (of v))) s (Taken c) t r₂ t₂
-  numberAt h e i k m = numberThen h e k (rw i m)
-
   -- not got: the whole is refused
   pub numberNot : (g : Value → Format) {q : Number} {x : Refusal} {r : Step} {t₂ : List ℕ} → q ≡ Not x → r ≡ stepOf q → NumberOf f of s c t q t₁ → Reader (seq f g) s (Taken c) t r t₂
   numberNot g {q} {x} {r} {t₂} e i k = rw (i, e) (go (rw e at (k .reads)))

@@ -10,7 +10,7 @@ use Rattle.format.specs.Reading.{little, part, trace}
 use Rattle.format.specs.Ending.{leaf-ends}
 use Rattle.vob24.specs.Refusals.{invalidBoolean}
 use Rattle.vob24.specs.Leaves.{atMost, atMostBare, choose, optional}
-use Rattle.reader.specs.Contract.{stepOf, payloadStep, ReadyAt, Takes, ReadsSpan, gotSpan, lostSpan, Reader, NumberOf, SpanOf, refuses}
+use Rattle.reader.specs.Contract.{stepOf, ReadyAt, Takes, ReadsSpan, gotSpan, Reader, NumberOf, SpanOf}
 use Rattle.reader.specs.declared.Cursor.{Cursor}
 use Rattle.reader.specs.declared.Refusal.{Refusal}
 use Rattle.reader.specs.declared.Step.{Step}
@@ -18,7 +18,7 @@ use Rattle.reader.specs.declared.Step.the-variants.{Taken, Refused}
 use Rattle.reader.specs.declared.Number.{Number}
 use Rattle.reader.specs.declared.Number.the-variants.{Got, Not}
 use Rattle.reader.specs.declared.Payload.{Payload}
-use Rattle.reader.proofs.Laws.{takes-ends, got-of, numberThen, numberNot, at-step, emptyThen, got-ready, thenReads, seq-refuses, Turns, turns-done, turns-refused}
+use Rattle.reader.proofs.Laws.{takes-ends, got-of, numberThen, numberNot, at-step, emptyThen, got-ready, Turns, turns-done, turns-refused}
 
 -- the number was not got: the whole is refused
 pub partNot : {f : Format} {of : Value → ℕ} {g : Value → Format} {s : List ℕ} {c : Cursor} {q : Number} {x : Refusal} {r r₂ : Step} {t t₁ t₂ : List ℕ} → r ≡ Taken c → q ≡ Not x → r₂ ≡ stepOf q → NumberOf f of s c t q t₁ → Reader (seq f g) s r t r₂ t₂
@@ -80,13 +80,3 @@ module _ {f : Format} {s : List ℕ} {c : Cursor} {t t₁ : List ℕ} {q : Paylo
 
   pub span-ready : {p n : ℕ} {c′ : Cursor} → q ≡ Payload.Got p n c′ → SpanOf f s c t q t₁ → ReadyAt s c′
   span-ready e h = span-of e h .ready
-
-  -- the text, and the rest by it
-  pub spanThen : (g : Value → Format) {p n : ℕ} {c′ : Cursor} {t₂ : List ℕ} {r₂ : Step} → q ≡ Payload.Got p n c′ → SpanOf f s c t q t₁ → Reader (g (text p (part s p n))) s (Taken c′) t₁ r₂ t₂ → Reader (seq f g) s (Taken c) t r₂ t₂
-  spanThen g e k m = record { reads = thenReads (span-of e k .takes) (m .reads); ready = m .ready }
-
-  pub spanNot : (g : Value → Format) {x : Refusal} {r : Step} {t₂ : List ℕ} → q ≡ Payload.Not x → r ≡ payloadStep q → SpanOf f s c t q t₁ → Reader (seq f g) s (Taken c) t r t₂
-  spanNot g {x} {r} {t₂} e i k = rw (i, e) (go (rw e at (k .reads)))
-    where
-      go : ReadsSpan f s c t (Payload.Not x) t₁ → Reader (seq f g) s (Taken c) t (Refused x) t₂
-      go (lostSpan h) = record { reads = refuses (seq-refuses h); ready = tt }
