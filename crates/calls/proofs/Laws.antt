@@ -21,6 +21,7 @@ use Rattle.vob24.specs.Grammar.{Section, section, pack}
 use Rattle.vob24.specs.Calls as vob
 use Rattle.vob24.specs.Theorems.{whole-settled, section-alone}
 use Rattle.reader.specs.Contract.{refusal, wrongOf, ReadyAt, Takes, Reads, takes, refuses, skips, Reader}
+use Rattle.second_pass.specs.Granted.{Granted}
 use Rattle.reader.specs.declared.Cursor.{Cursor}
 use Rattle.reader.specs.declared.Refusal.{Refusal}
 use Rattle.reader.specs.declared.Step.{Step}
@@ -145,6 +146,11 @@ module _ {f : Format} {t : Trace Value} {s : List ℕ} {p b : ℕ} {r₀ : Step}
       record { place = λ c′ e. let x : c′ ≡ c = cc in rw x (omega (arith, trace-place f s p (k .0) .0)); left = λ c′ e. let x : c′ ≡ c = cc in rw x (omega (arith, k .2)) }
   passed-since (denied i) = record { place = λ c e. let no : _≡_ {A = ℕ} 0 1 = cc in absurd (omega arith); left = λ c e. let no : _≡_ {A = ℕ} 0 1 = cc in absurd (omega arith) }
 
+  -- what a first pass has taken is not refused in a second
+  passed-granted : {g : Bool} {r : Step} {c : Cursor} → Passed f t s p b r₀ r → r ≡ Taken c → Granted g f s r₀
+  passed-granted (passed o _ i _) e = record { is = λ _. record { cursor = from p b; is = o; never = λ x k. let no : _≡_ {A = ℕ} 0 1 = cc (i, k .settles) in absurd (omega arith) } }
+  passed-granted (denied i) e = let no : _≡_ {A = ℕ} 0 1 = cc in absurd (omega arith)
+
 -- the question of room, answered either way
 data Closed (p b room : ℕ) (c : Cursor) : Answer → Type 0 where
   fits : c .at ≤ room → Closed p b room c (Answer.Taken (c .at) (c .place - p) (b - c .left) (c .left))
@@ -175,15 +181,13 @@ module _ {f : Format} {s : List ℕ} {p b : ℕ} {r₀ r : Step} {tape t₂ : Li
   twice : Reads f s r₀ tape r t₂ → Recorded f s p b r₀ tape w t₂
   twice z = record { is = λ v k o e i h j. written i h (rw e at z) }
 
-  -- one pass, over a tape of its own with a word for each byte: what it has written is copied
-  once : {e e′ : List ℕ} → p ≤ length s → length s ≤ length e → Reads f s r₀ e r e′ → t₂ ≡ paste tape 0 e′ w → Recorded f s p b r₀ tape w t₂
-  once {e} {e′} h m z y =
+  -- one pass, over a tape of its own that has the room: what it has written is copied
+  once : {e e′ : List ℕ} → w ≤ length e → Reads f s r₀ e r e′ → t₂ ≡ paste tape 0 e′ w → Recorded f s p b r₀ tape w t₂
+  once {e} {e′} m z y =
       record {
         is =
             λ v k o x i g j.
-            let a = settle-taken b (trace f s p) v k o .0 i in
-            let l = trace-place f s p (a .0) in
-            let n : length (words f v) ≤ length e = omega (arith, l .0, l .1 h) in
+            let n : length (words f v) ≤ length e = omega (arith, j) in
             let u : e′ ≡ words f v ++ drop (length (words f v)) e = written i n (rw x at z) in
             y ∙ rw (u, j, take-append-seam, zero-add);
       }
@@ -250,6 +254,9 @@ module _ (n : ℕ) (x : Section) {s : List ℕ} {p b : ℕ} {r₀ r : Step} {t�
   pub section-since : Since p b r
   section-since = passed-since section-passed
 
+  pub section-granted : {g : Bool} {room : ℕ} {q : Answer} {w i c l : ℕ} → Closes p b room r q → q ≡ Answer.Taken w i c l → Granted g (section settings n x) s r₀
+  section-granted {room = room} m j = passed-granted section-passed (closed-taken p b room r (m .is) j .1)
+
   module _ {t : List ℕ} {q : Answer} (z : length e ≡ 0) (m : Closes p b (length (e ++ t)) r q) where
     pub section-refused : {y : Refusal} → q ≡ Answer.Refused y → SectionCall n x s p b t q (e ++ t)
     unfolding vob.sectionOutcome
@@ -283,19 +290,25 @@ module _ {s : List ℕ} {b : ℕ} {r₀ r : Step} {t₀ e : List ℕ} (o : Opens
     unfolding vob.readOutcome
     read-taken j k₂ = let i = nil e z in record { is = taken-so _ _ 0 b t whole-passed (m .is ∙ rw i) j (twice (rw i at (k₂ .reads))) }
 
-  -- a pack has no more words than bytes, and a call that takes it has the room
-  pub read-room : {room : ℕ} {q : Answer} {w i n l : ℕ} → Closes 0 b room (ended (length s) r) q → q ≡ Answer.Taken w i n l → (w ≤ length s) × (w ≤ room)
-  read-room {room} m j =
-      let d = closed-taken 0 b room (ended (length s) r) (m .is) j in
-      let y : ReadyAt s (d .0) = rw (ended-taken (length s) r (d .1)) at (k .ready) in
-      (omega (arith, y .behind, y .within, d .2), omega (arith, d .2, d .3))
+  module _ {room : ℕ} {q : Answer} {w i n l : ℕ} (m : Closes 0 b room (ended (length s) r) q) (j : q ≡ Answer.Taken w i n l) where
+    -- a call that takes a pack has the room
+    pub read-room : w ≤ room
+    read-room = let d = closed-taken 0 b room (ended (length s) r) (m .is) j in omega (arith, d .2, d .3)
 
-  -- a small pack: read once, over a tape of its own
+    pub read-granted : {g : Bool} → Granted g (pack settings) s r₀
+    read-granted = passed-granted whole-passed (closed-taken 0 b room (ended (length s) r) (m .is) j .1)
+
+  -- a small pack: read over a tape of its own
   module _ {t : List ℕ} {q : Answer} (m : Closes 0 b (length t) (ended (length s) r) q) where
     pub small-refused : {y : Refusal} → q ≡ Answer.Refused y → ReadCall s b t q t
     unfolding vob.readOutcome
     small-refused j = record { is = refused-so _ _ 0 b t whole-passed (m .is) j }
 
-    pub small-taken : {w i c l : ℕ} {t₂ : List ℕ} → length s ≤ length t₀ → q ≡ Answer.Taken w i c l → t₂ ≡ paste t 0 e w → ReadCall s b t (Answer.Taken w i c l) t₂
+    pub small-taken : {w i c l : ℕ} {t₂ : List ℕ} → w ≤ length t₀ → q ≡ Answer.Taken w i c l → t₂ ≡ paste t 0 e w → ReadCall s b t (Answer.Taken w i c l) t₂
     unfolding vob.readOutcome
-    small-taken {t₂ = t₂} h j y = let a : ReadCall s b t q t₂ = record { is = taken-so _ _ 0 b t whole-passed (m .is) j (once (omega arith) h (k .reads) y) } in rw j at a
+    small-taken {t₂ = t₂} h j y = let a : ReadCall s b t q t₂ = record { is = taken-so _ _ 0 b t whole-passed (m .is) j (once h (k .reads) y) } in rw j at a
+
+    -- and a second time, where its record is longer than that
+    pub small-again : {w i c l : ℕ} {r₂ : Step} {t₂ : List ℕ} → q ≡ Answer.Taken w i c l → Reader (pack settings) s r₀ t r₂ t₂ → ReadCall s b t (Answer.Taken w i c l) t₂
+    unfolding vob.readOutcome
+    small-again {t₂ = t₂} j k₂ = let a : ReadCall s b t q t₂ = record { is = taken-so _ _ 0 b t whole-passed (m .is) j (twice (k₂ .reads)) } in rw j at a

@@ -1,9 +1,11 @@
 // The whole pack: magic, version and the seventeen sections, in file order.
 // Ports Module::deserialize of serialize.rs.
+ghost use mathlib.Core.Bool.{true};
 ghost use Rattle.format.specs.Format.{Format, counted};
 ghost use Rattle.vob24.specs.Settings.{settings};
 ghost use Rattle.vob24.specs.Grammar.{afterFunctions, section, functions as functionsSection, sections as sectionsFormat, pack as packFormat};
 ghost use Rattle.reader.specs.Contract.{Ready, Reader};
+ghost use Rattle.second_pass.specs.Granted.{Granted};
 ghost use Rattle.deserialize.specs.Reach.{Reaches};
 use reader::Number;
 use reader::Step;
@@ -38,45 +40,45 @@ fn functions_on(s: &[u8], r: Step, tape: &mut [u32]) -> Step
 }
 
 // All sections, in file order.
-fn sections(s: &[u8], r: Step, tape: &mut [u32]) -> Step
-    requires { ⌜ Ready (now s) r ⌝ }
+fn sections(s: &[u8], r: Step, again: bool, tape: &mut [u32]) -> Step
+    requires { ⌜ (Ready (now s) r) × (Granted again (sectionsFormat settings) (now s) r) ⌝ }
     ensures { λ q. ⌜ Reader (sectionsFormat settings) (now (s .entry)) r (now (tape .entry)) q (now (tape .exit)) ⌝ }
 {
     let r1 = fields::field_str(s, r, tape);
-    let r2 = structs::structs(s, r1, tape);
-    let r3 = interfaces::interfaces(s, r2, tape);
-    let r4 = named_types::named_types(s, r3, tape);
+    let r2 = structs::structs(s, r1, again, tape);
+    let r3 = interfaces::interfaces(s, r2, again, tape);
+    let r4 = named_types::named_types(s, r3, again, tape);
     let r5 = tables::itabs(s, r4, tape);
-    let r6 = runtime_type::runtime_types(s, r5, tape);
+    let r6 = runtime_type::runtime_types(s, r5, again, tape);
     let r7 = tables::well_known(s, r6, tape);
     let r8 = constants::constants(s, r7, tape);
     let r9 = tables::globals(s, r8, tape);
     functions_on(s, r9, tape)
 }
 
-// The whole pack, up to the question of what comes after it.
-pub fn deserialize(s: &[u8], r: Step, tape: &mut [u32]) -> Step
-    requires { ⌜ Ready (now s) r ⌝ }
+// The whole pack, up to the question of what comes after it. A second pass leaves out the search for repeated names.
+pub fn deserialize(s: &[u8], r: Step, again: bool, tape: &mut [u32]) -> Step
+    requires { ⌜ (Ready (now s) r) × (Granted again (packFormat settings) (now s) r) ⌝ }
     ensures { λ q. ⌜ Reader (packFormat settings) (now (s .entry)) r (now (tape .entry)) q (now (tape .exit)) ⌝ }
 {
     let r1 = fields::field_magic(s, r, tape);
     let r2 = fields::field_version(s, r1, tape);
-    sections(s, r2, tape)
+    sections(s, r2, again, tape)
 }
 
 // On to the artifacts of a pack that is taken.
 pub fn to_artifacts(s: &[u8], r: Step, tape: &mut [u32]) -> Step
-    requires { ⌜ Ready (now s) r ⌝ }
+    requires { ⌜ (Ready (now s) r) × (Granted true (packFormat settings) (now s) r) ⌝ }
     ensures { λ q. ⌜ Reaches (now (s .entry)) r q ⌝ }
 {
     let r1 = fields::field_magic(s, r, tape);
     let r2 = fields::field_version(s, r1, tape);
     let r3 = fields::field_str(s, r2, tape);
-    let r4 = structs::structs(s, r3, tape);
-    let r5 = interfaces::interfaces(s, r4, tape);
-    let r6 = named_types::named_types(s, r5, tape);
+    let r4 = structs::structs(s, r3, true, tape);
+    let r5 = interfaces::interfaces(s, r4, true, tape);
+    let r6 = named_types::named_types(s, r5, true, tape);
     let r7 = tables::itabs(s, r6, tape);
-    let r8 = runtime_type::runtime_types(s, r7, tape);
+    let r8 = runtime_type::runtime_types(s, r7, true, tape);
     let r9 = tables::well_known(s, r8, tape);
     let r10 = constants::constants(s, r9, tape);
     let r11 = tables::globals(s, r10, tape);

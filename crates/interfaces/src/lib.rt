@@ -1,6 +1,7 @@
 // The interface section: each interface's method names and methods, then a set of each list's names.
 // Ports what Module::deserialize of serialize.rs reads into InterfaceMeta and InterfaceMethodMeta of bytecode.rs.
 ghost use Rattle.reader.specs.Contract.{Ready, Reader};
+ghost use Rattle.second_pass.specs.Granted.{Granted};
 ghost use Rattle.interfaces.specs.Interfaces.{nameList, methodFormat, methodList, interfaceFormat, interfaceList};
 use items::Item;
 use reader::Number;
@@ -62,19 +63,19 @@ pub fn interface_methods(s: &[u8], r: Step, tape: &mut [u32]) -> Step
 }
 
 // Both lists are read before either set is charged and judged.
-pub fn interface(s: &[u8], r: Step, tape: &mut [u32]) -> Step
-    requires { ⌜ Ready (now s) r ⌝ }
+pub fn interface(s: &[u8], r: Step, again: bool, tape: &mut [u32]) -> Step
+    requires { ⌜ (Ready (now s) r) × (Granted again interfaceFormat (now s) r) ⌝ }
     ensures { λ q. ⌜ Reader interfaceFormat (now (s .entry)) r (now (tape .entry)) q (now (tape .exit)) ⌝ }
 {
     let name = fields::field_str(s, r, tape);
     let names = method_names(s, name, tape);
     let methods = interface_methods(s, names, tape);
-    let unique = names::method_set(s, Item::Name, name, methods);
-    names::method_set(s, Item::InterfaceMethod, names, unique)
+    let unique = names::method_set(s, Item::Name, name, methods, again);
+    names::method_set(s, Item::InterfaceMethod, names, unique, again)
 }
 
-pub fn interfaces(s: &[u8], r: Step, tape: &mut [u32]) -> Step
-    requires { ⌜ Ready (now s) r ⌝ }
+pub fn interfaces(s: &[u8], r: Step, again: bool, tape: &mut [u32]) -> Step
+    requires { ⌜ (Ready (now s) r) × (Granted again interfaceList (now s) r) ⌝ }
     ensures { λ q. ⌜ Reader interfaceList (now (s .entry)) r (now (tape .entry)) q (now (tape .exit)) ⌝ }
 {
     let Step::Taken(c) = r else {
@@ -87,7 +88,7 @@ pub fn interfaces(s: &[u8], r: Step, tape: &mut [u32]) -> Step
     let mut k = n;
     let mut here = Step::Taken(d);
     while 0 < k {
-        here = interface(s, here, tape);
+        here = interface(s, here, again, tape);
         let Step::Taken(_) = here else {
             return here;
         };

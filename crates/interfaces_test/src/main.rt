@@ -7,8 +7,8 @@ fn read(which: u64, s: &[u8], r: Step, tape: &mut [u32]) -> Step
     requires { ⌜ Ready (now s) r ⌝ }
 {
     match which {
-        1 => interfaces::interfaces(s, r, tape),
-        _ => named_types::named_types(s, r, tape),
+        1 => interfaces::interfaces(s, r, false, tape),
+        _ => named_types::named_types(s, r, false, tape),
     }
 }
 

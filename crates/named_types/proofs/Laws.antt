@@ -2,7 +2,7 @@
 use Prim.Native.Nat.{ℕ, _+_, _≤_, _<_}
 use mathlib.Core.Path.{_≡_, refl, ap, sym, _∙_}
 use mathlib.Core.List.{List, [], _∷_}
-use mathlib.Core.Bool.{true, false}
+use mathlib.Core.Bool.{Bool, true, false}
 use native.Mathlib.Omega.{arith}
 use native.Mathlib.Numerals.{add-one}
 use lib.ListN.{length}
@@ -28,7 +28,9 @@ use Rattle.items.specs.Contract.{Items}
 use Rattle.repeats.specs.Repeats.{repeatAt, FirstRepeat}
 use Rattle.names.specs.Contract.{MethodBehind, MethodAsked}
 use Rattle.names.proofs.Lists.{method-repeat, method-refused}
-use Rattle.names.proofs.Methods.{Methods, methods-start, methods-more, methods-refused, methods-done}
+use Rattle.names.proofs.Methods.{Methods, methods-start, methods-more, methods-refused, methods-done, all-new}
+use Rattle.second_pass.specs.Granted.{Granted}
+use Rattle.second_pass.proofs.Laws.{granted-part, granted-ends}
 use Rattle.named_types.specs.NamedTypes.{namedMethod, namedMethods, newMethods, AllNew, MethodsRead}
 
 pub methodsThen : {s : List ℕ} {c d : Cursor} {q : Number} {n : ℕ} {r r₂ : Step} {t t₁ t₂ : List ℕ} → r ≡ Taken c → q ≡ Got n d → NumberOf methodCount number s c t q t₁ → Reader (chain (newMethod settings) (alsoSeen settings) [] n) s (Taken d) t₁ r₂ t₂ → Reader namedMethods s r t r₂ t₂
@@ -171,3 +173,9 @@ module _ {s : List ℕ} {d : Cursor} {n m lim : ℕ} {t t₁ : List ℕ} {q : St
 
       go : (z : Step) → (x : Refusal) × (z ≡ Refused x) → Reader (newMethods n) s (Taken d) t₁ z t₂ → Reader (newMethods n) s (Taken d) t z t₂
       go z e c = let i = e .1 in rw i (record { reads = again (rw i at (c .reads)); ready = tt })
+
+-- in a second pass there is none
+pub granted-run : {s : List ℕ} {b : Bool} {r : Step} {c d : Cursor} {p : Number} {n m : ℕ} {q : Step} {t t₁ t₂ : List ℕ} → r ≡ Taken c → p ≡ Got n d → NumberOf methodCount number s c t p t₁ → b ≡ true → Granted b namedMethods s r → MethodsRead s d n n t₁ m q t₂ → Reader namedMethods s r t q t₂
+granted-run {s} {d = d} {n = n} y e h i g a =
+    let w = granted-ends i (granted-part (λ x k. methodsThen y e h k) g) in
+    methodsThen y e h (a .reads (record { new = λ k l. all-new s (d .place) n (w .2) k (omega (arith, a .within)) }) (λ l. absurd (omega arith)))

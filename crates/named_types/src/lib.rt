@@ -1,6 +1,7 @@
 // The named-type section: each named type's methods, whose names are new one by one.
 // Ports what Module::deserialize of serialize.rs reads into NamedTypeMeta and MethodInfo of bytecode.rs.
 ghost use Rattle.reader.specs.Contract.{Ready, ReadyAt, Reader};
+ghost use Rattle.second_pass.specs.Granted.{Granted};
 ghost use Rattle.named_types.specs.NamedTypes.{namedMethod, namedMethods, namedFormat, namedList, MethodsRead};
 use items::Item;
 use items::Table;
@@ -55,9 +56,10 @@ fn read_methods(s: &[u8], d: Cursor, n: usize, lim: usize, tape: &mut [u32]) -> 
     }
 }
 
-// The methods are read, and then the first repeat among those that were read is looked for; it is judged where it comes, by a second run.
-pub fn methods(s: &[u8], r: Step, tape: &mut [u32]) -> Step
-    requires { ⌜ Ready (now s) r ⌝ }
+// The methods are read, and then, in a first pass, the first repeat among those that were read is looked for; it is judged where it comes, by
+// a second run.
+pub fn methods(s: &[u8], r: Step, again: bool, tape: &mut [u32]) -> Step
+    requires { ⌜ (Ready (now s) r) × (Granted again namedMethods (now s) r) ⌝ }
     ensures { λ q. ⌜ Reader namedMethods (now (s .entry)) r (now (tape .entry)) q (now (tape .exit)) ⌝ }
 {
     let Step::Taken(c) = r else {
@@ -69,26 +71,29 @@ pub fn methods(s: &[u8], r: Step, tape: &mut [u32]) -> Step
     };
     let count = n as usize;
     let run = read_methods(s, d, count, count, tape);
+    if again {
+        return run.step;
+    }
     let lim = repeats::first_repeat(s, Table::Methods(Item::NamedMethod), d.place, run.count);
     if lim == run.count {
         return run.step;
     }
-    let again = read_methods(s, d, count, lim, tape);
-    again.step
+    let judged = read_methods(s, d, count, lim, tape);
+    judged.step
 }
 
-pub fn named_type(s: &[u8], r: Step, tape: &mut [u32]) -> Step
-    requires { ⌜ Ready (now s) r ⌝ }
+pub fn named_type(s: &[u8], r: Step, again: bool, tape: &mut [u32]) -> Step
+    requires { ⌜ (Ready (now s) r) × (Granted again namedFormat (now s) r) ⌝ }
     ensures { λ q. ⌜ Reader namedFormat (now (s .entry)) r (now (tape .entry)) q (now (tape .exit)) ⌝ }
 {
     let name = fields::field_str(s, r, tape);
     let underlying_meta = fields::field_value_meta(s, name, tape);
     let underlying_rttid = fields::field_value_rttid(s, underlying_meta, tape);
-    methods(s, underlying_rttid, tape)
+    methods(s, underlying_rttid, again, tape)
 }
 
-pub fn named_types(s: &[u8], r: Step, tape: &mut [u32]) -> Step
-    requires { ⌜ Ready (now s) r ⌝ }
+pub fn named_types(s: &[u8], r: Step, again: bool, tape: &mut [u32]) -> Step
+    requires { ⌜ (Ready (now s) r) × (Granted again namedList (now s) r) ⌝ }
     ensures { λ q. ⌜ Reader namedList (now (s .entry)) r (now (tape .entry)) q (now (tape .exit)) ⌝ }
 {
     let Step::Taken(c) = r else {
@@ -101,7 +106,7 @@ pub fn named_types(s: &[u8], r: Step, tape: &mut [u32]) -> Step
     let mut k = n;
     let mut here = Step::Taken(d);
     while 0 < k {
-        here = named_type(s, here, tape);
+        here = named_type(s, here, again, tape);
         let Step::Taken(_) = here else {
             return here;
         };

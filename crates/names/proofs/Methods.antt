@@ -2,15 +2,19 @@
 use Prim.Native.Nat.{ℕ, suc, zero, _+_, _-_, _≤_, _<_}
 use mathlib.Core.Path.{_≡_, refl, ap, sym, _∙_}
 use mathlib.Core.List.{List, []}
+use mathlib.Core.Bool.{Bool, true, false, not}
 use native.Mathlib.Omega.{arith}
 use native.Mathlib.Numerals.{add-one}
 use lib.ListN.{length}
-use Rattle.format.specs.Trace.{Ends}
-use Rattle.format.specs.Format.{Value, first, ask, Format, leaf, seq, chain}
+use lib.Dec.{T, leb, leb→le, nleb→lt}
+use Rattle.format.specs.Trace.{Wrong, pick, Ends}
+use Rattle.format.specs.Format.{Value, content, first, ask, Format, leaf, seq, chain}
 use Rattle.format.specs.Reading.{traceLeaf, trace}
+use Rattle.format.specs.Layout.{clear}
 use Rattle.format.specs.Ending.{ask-ends, seq-ends}
 use Rattle.vob24.specs.Settings.{settings}
-use Rattle.vob24.specs.Grammar.{method, newMethod, alsoSeen}
+use Rattle.vob24.specs.Questions.{refuseIf, among}
+use Rattle.vob24.specs.Grammar.{method, methodName, newMethod, alsoSeen}
 use Rattle.reader.specs.Contract.{Ready, ReadyAt, Reads, takes, refuses, skips, Reader, Asks, Follows}
 use Rattle.reader.specs.declared.Cursor.{Cursor}
 use Rattle.reader.specs.declared.Refusal.{Refusal}
@@ -21,8 +25,12 @@ use Rattle.reader.proofs.Asks.{followThen}
 use Rattle.items.specs.Walk.{Stands, valueAt, nextAt, lastAt, stand, items-nil, stand-snoc, last-snoc}
 use Rattle.items.specs.Contract.{Items}
 use Rattle.items.proofs.Asking.{apart}
+use Rattle.items.specs.declared.Item.the-variants.{NamedMethod}
+use Rattle.items.specs.declared.Table.the-variants.{Methods as methodTable}
+use Rattle.repeats.specs.Repeats.{repeatAt}
 use Rattle.names.specs.Asking.{seenAt, methodAsks}
 use Rattle.names.specs.Contract.{MethodAsked}
+use Rattle.names.proofs.Lists.{method-repeat}
 
 unseen : (s : List ℕ) (from : ℕ) → seenAt 0 s from ≡ []
 unfolding seenAt
@@ -69,6 +77,13 @@ record MethodRead (seen : List (List ℕ)) (s : List ℕ) (p : ℕ) (w : Value) 
   stands : Stands (method settings) s p
   value : valueAt (method settings) s p ≡ first w
   next : q ≡ nextAt (method settings) s p
+  new : among (content (methodName settings (first w))) seen ≡ false
+
+-- a question that is passed was answered with no
+passed-no : (d : Bool) (w : Wrong) → T (clear (refuseIf d w)) → d ≡ false
+unfolding clear pick
+passed-no true w h = absurd h
+passed-no false w h = refl
 
 method-read : {seen : List (List ℕ)} {s : List ℕ} {p : ℕ} {w : Value} {q : ℕ} → Ends (trace (newMethod settings seen) s p) w q → MethodRead seen s p w q
 unfolding newMethod trace traceLeaf
@@ -76,7 +91,7 @@ method-read {seen} {s} {p} {w} {q} h =
     let b = seq-ends (method settings) (λ v. leaf (ask (methodAsks seen v))) s p h in
     let a = stand (b .fore) in
     let e = ask-ends (methodAsks seen (first w)) (b .mid) (b .back) in
-    record { stands = a .stands; value = a .value; next = e .2 ∙ sym (a .next) }
+    record { stands = a .stands; value = a .value; next = e .2 ∙ sym (a .next); new = passed-no _ _ (e .0) }
 
 module _ {s t₀ : List ℕ} {r₀ : Step} {n from : ℕ} {t : List ℕ} {r : Step} {i : ℕ} (l : Methods s t₀ r₀ n from t r i) where
   module _ {t₁ : List ℕ} {r₁ : Step} (a : Reader (method settings) s r t r₁ t₁) where
@@ -112,3 +127,22 @@ module _ {s t₀ : List ℕ} {r₀ : Step} {n from : ℕ} {t : List ℕ} {r : St
 
   pub methods-done : n ≤ i → Reader (chain (newMethod settings) (alsoSeen settings) [] n) s r₀ t₀ r t
   methods-done h = chained-done (omega arith) (l .chained)
+
+-- where all of them can be read, none repeats one before it
+new-from : (s : List ℕ) (from m i : ℕ) {p : ℕ} {w : Value} {q : ℕ} → p ≡ lastAt (method settings) i s from → Ends (trace (chain (newMethod settings) (alsoSeen settings) (seenAt i s from) m) s p) w q → (k : ℕ) → i ≤ k → k < i + m → repeatAt (methodTable NamedMethod) s from k ≡ false
+unfolding chain newMethod trace traceLeaf
+new-from s from zero i e h k a b = absurd (omega arith)
+new-from s from (suc m) i {p} {w} e h k a b =
+    let x = seq-ends (newMethod settings (seenAt i s from)) (λ v. chain (newMethod settings) (alsoSeen settings) (alsoSeen settings (seenAt i s from) v) m) s p h in
+    let y = method-read (x .fore) in
+    let o : x .mid ≡ lastAt (method settings) (i + 1) s from = y .next ∙ ap (nextAt (method settings) s) e ∙ sym (last-snoc (method settings) i s from) ∙ ap (λ j. lastAt (method settings) j s from) (sym (add-one i)) in
+    go (new-from s from m (i + 1) o (rw (seen-more i s from (first w) e (y .value)) at (x .back)) k) (leb (i + 1) k) (leb→le _ _) (nleb→lt _ _) (sym (method-repeat i s from) ∙ rw (← e, y .value) (y .new))
+  where
+    go : (i + 1 ≤ k → k < i + 1 + m → repeatAt (methodTable NamedMethod) s from k ≡ false) → (z : Bool) → (T z → i + 1 ≤ k) → (T (not z) → k < i + 1) → repeatAt (methodTable NamedMethod) s from i ≡ false → repeatAt (methodTable NamedMethod) s from k ≡ false
+    go r true u v n = r (u tt) (omega arith)
+    go r false u v n = let j : k ≡ i = omega (arith, v tt) in rw j n
+
+pub all-new : (s : List ℕ) (from n : ℕ) {w : Value} {q : ℕ} → Ends (trace (chain (newMethod settings) (alsoSeen settings) [] n) s from) w q → (k : ℕ) → k < n → repeatAt (methodTable NamedMethod) s from k ≡ false
+all-new s from n {w} {q} h k a =
+    let h′ : Ends (trace (chain (newMethod settings) (alsoSeen settings) (seenAt 0 s from) n) s from) w q = rw (unseen s from) h in
+    new-from s from n 0 (sym (items-nil (method settings) s from .2)) h′ k (omega arith) (omega arith)

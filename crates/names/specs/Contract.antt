@@ -2,7 +2,10 @@
 use Prim.Native.Nat.{ℕ, _+_, _≤_}
 use mathlib.Core.Path.{_≡_}
 use mathlib.Core.List.{List, map}
+use mathlib.Core.Bool.{Bool}
 use lib.ListN.{length}
+use Rattle.format.specs.Format.{Value, Ask, Format}
+use Rattle.format.specs.Reading.{little, part}
 use Rattle.vob24.specs.Settings.{settings}
 use Rattle.vob24.specs.Questions.{named}
 use Rattle.vob24.specs.Grammar.{method}
@@ -19,7 +22,12 @@ use Rattle.items.specs.Walk.{Stands, valueAt, itemsAt}
 use Rattle.items.specs.Items.{formatOf, nameOf, textAt}
 use Rattle.items.specs.Tables.{formatIn}
 use Rattle.items.specs.Contract.{Items}
+use Rattle.second_pass.specs.Granted.{AsksGranted}
 use Rattle.names.specs.Asking.{charges, price, wrongIn, seenAt, methodAsks}
+
+-- In a second pass the questions at r₁ on the entries of a list that was read at r are not refused.
+pub record ListGranted (again : Bool) (f : Format) (l : List Value → List Ask) (s : List ℕ) (r r₁ : Step) : Type 0 where
+  pub never : (c d : Cursor) → r ≡ Taken c → r₁ ≡ Taken d → AsksGranted again (l (itemsAt f (little (part s (c .place) 4)) s (c .place + 4))) d
 
 -- The charge, at c, of the key of the item at p.
 pub record Charged (t : Table) (s : List ℕ) (p : ℕ) (c : Cursor) (q : Step) : Type 0 where

@@ -12,9 +12,10 @@ ghost use Rattle.items.specs.Walk.{itemsAt};
 ghost use Rattle.items.specs.Items.{formatOf, namesOf};
 ghost use Rattle.items.specs.Tables.{formatIn};
 ghost use Rattle.items.specs.Contract.{over, TextAt, Placed, Items, ListBehind, ListAsked};
+ghost use Rattle.second_pass.specs.Granted.{AsksGranted};
 ghost use Rattle.repeats.specs.Repeats.{FirstRepeat};
 ghost use Rattle.names.specs.Asking.{tableAsks};
-ghost use Rattle.names.specs.Contract.{Charged, Repeated, RepeatTold, Cost, Tallied, MethodBehind, MethodAsked};
+ghost use Rattle.names.specs.Contract.{ListGranted, Charged, Repeated, RepeatTold, Cost, Tallied, MethodBehind, MethodAsked};
 use items::Item;
 use items::Table;
 use reader::Cursor;
@@ -108,12 +109,12 @@ fn judged(s: &[u8], table: Table, from: usize, n: usize, lim: usize, c: Cursor) 
     Step::Taken(here)
 }
 
-// The questions on n items whose keys cost so much in all: at once where none repeats another and all can be paid.
-fn distinct(s: &[u8], table: Table, from: usize, n: usize, cost: u64, c: Cursor) -> Step
-    requires { ⌜ (Items (formatIn table) n (now s) from) × (Cost table (now s) from n cost) ⌝ }
+// The questions on n items whose keys cost so much in all, item lim being the first that repeats another: at once where there is none and
+// all can be paid.
+fn settled(s: &[u8], table: Table, from: usize, n: usize, lim: usize, cost: u64, c: Cursor) -> Step
+    requires { ⌜ (Items (formatIn table) n (now s) from) × (FirstRepeat table (now s) from n lim) × (Cost table (now s) from n cost) ⌝ }
     ensures { λ q. ⌜ Asks (over (tableAsks table) [] (itemsAt (formatIn table) n (now (s .entry)) from)) c q ⌝ }
 {
-    let lim = repeats::first_repeat(s, table, from, n);
     if lim < n {
         return judged(s, table, from, n, lim, c);
     }
@@ -126,6 +127,26 @@ fn distinct(s: &[u8], table: Table, from: usize, n: usize, cost: u64, c: Cursor)
         left: left - cost,
         at: c.at,
     })
+}
+
+// The same, the first repeat being looked for in a first pass only: in a second there is none.
+fn distinct(
+    s: &[u8],
+    table: Table,
+    from: usize,
+    n: usize,
+    cost: u64,
+    again: bool,
+    c: Cursor,
+) -> Step
+    requires { ⌜ (Items (formatIn table) n (now s) from) × (Cost table (now s) from n cost) × (AsksGranted again (over (tableAsks table) [] (itemsAt (formatIn table) n (now s) from)) c) ⌝ }
+    ensures { λ q. ⌜ Asks (over (tableAsks table) [] (itemsAt (formatIn table) n (now (s .entry)) from)) c q ⌝ }
+{
+    if again {
+        return settled(s, table, from, n, n, cost, c);
+    }
+    let lim = repeats::first_repeat(s, table, from, n);
+    settled(s, table, from, n, lim, cost, c)
 }
 
 // ---- 16: the fields of a struct
@@ -161,8 +182,8 @@ fn named(s: &[u8], from: usize, n: usize) -> Tally
 }
 
 // The index of the fields whose list was read at r, asked at r1.
-pub fn field_index(s: &[u8], r: Step, r1: Step) -> Step
-    requires { ⌜ ListBehind (structField settings) (now s) r r1 ⌝ }
+pub fn field_index(s: &[u8], r: Step, r1: Step, again: bool) -> Step
+    requires { ⌜ (ListBehind (structField settings) (now s) r r1) × (ListGranted again (structField settings) (λ vs. fieldIndex settings (map (fieldName settings) vs)) (now s) r r1) ⌝ }
     ensures { λ q. ⌜ ListAsked (structField settings) (λ vs. fieldIndex settings (map (fieldName settings) vs)) (now (s .entry)) r r1 q ⌝ }
 {
     let Step::Taken(d) = r1 else {
@@ -182,14 +203,14 @@ pub fn field_index(s: &[u8], r: Step, r1: Step) -> Step
     let Step::Taken(e) = paid else {
         return paid;
     };
-    distinct(s, Table::Fields, from, n, bytes, e)
+    distinct(s, Table::Fields, from, n, bytes, again, e)
 }
 
 // ---- 17: the methods of an interface
 
 // The set of the names whose list was read at r, asked at r1.
-pub fn method_set(s: &[u8], item: Item, r: Step, r1: Step) -> Step
-    requires { ⌜ ListBehind (formatOf item) (now s) r r1 ⌝ }
+pub fn method_set(s: &[u8], item: Item, r: Step, r1: Step, again: bool) -> Step
+    requires { ⌜ (ListBehind (formatOf item) (now s) r r1) × (ListGranted again (formatOf item) (λ vs. methodSet settings (namesOf item vs)) (now s) r r1) ⌝ }
     ensures { λ q. ⌜ ListAsked (formatOf item) (λ vs. methodSet settings (namesOf item vs)) (now (s .entry)) r r1 q ⌝ }
 {
     let Step::Taken(d) = r1 else {
@@ -205,7 +226,7 @@ pub fn method_set(s: &[u8], item: Item, r: Step, r1: Step) -> Step
     let Step::Taken(e) = paid else {
         return paid;
     };
-    distinct(s, Table::Methods(item), place + 4, n, 0, e)
+    distinct(s, Table::Methods(item), place + 4, n, 0, again, e)
 }
 
 // ---- 18: the methods of a named type
@@ -231,8 +252,8 @@ pub fn new_method(s: &[u8], from: usize, n: usize, r: Step, r1: Step) -> Step
 // ---- 19: the fields of a runtime struct
 
 // The set of the fields whose list was read at r, asked at r1; "_" is charged too.
-pub fn field_set(s: &[u8], r: Step, r1: Step) -> Step
-    requires { ⌜ ListBehind (runtimeField settings) (now s) r r1 ⌝ }
+pub fn field_set(s: &[u8], r: Step, r1: Step, again: bool) -> Step
+    requires { ⌜ (ListBehind (runtimeField settings) (now s) r r1) × (ListGranted again (runtimeField settings) (λ vs. fieldSet settings (map (identity settings) vs)) (now s) r r1) ⌝ }
     ensures { λ q. ⌜ ListAsked (runtimeField settings) (λ vs. fieldSet settings (map (identity settings) vs)) (now (s .entry)) r r1 q ⌝ }
 {
     let Step::Taken(d) = r1 else {
@@ -248,5 +269,5 @@ pub fn field_set(s: &[u8], r: Step, r1: Step) -> Step
     let Step::Taken(e) = paid else {
         return paid;
     };
-    distinct(s, Table::Identities, place + 4, n, 0, e)
+    distinct(s, Table::Identities, place + 4, n, 0, again, e)
 }

@@ -3,6 +3,8 @@
 // Ports StructField and InterfaceMethod of runtime_type.rs and their reading by read_runtime_type of serialize.rs.
 ghost use Rattle.format.specs.Format.{counted};
 ghost use Rattle.reader.specs.Contract.{Ready, ReadyAt, Reader, NumberOf};
+ghost use Rattle.reader.specs.declared.Step.the-variants.{Taken};
+ghost use Rattle.second_pass.specs.Granted.{Granted};
 ghost use Rattle.runtime_members.specs.Formats.{fieldFormat, fieldList, newFields, methodFormat, methodList, newMethods, newCount};
 use items::Item;
 use reader::Cursor;
@@ -45,15 +47,18 @@ fn number_fields(s: &[u8], c: Cursor, tape: &mut [u32]) -> Number
 }
 
 // A struct's fields, each with an identity of its own; hands out how many they are.
-pub fn number_new_fields(s: &[u8], c: Cursor, tape: &mut [u32]) -> Number
-    requires { ⌜ ReadyAt (now s) c ⌝ }
+pub fn number_new_fields(s: &[u8], c: Cursor, again: bool, tape: &mut [u32]) -> Number
+    requires { ⌜ (ReadyAt (now s) c) × (Granted again newFields (now s) (Taken c)) ⌝ }
     ensures { λ q. ⌜ NumberOf newFields newCount (now (s .entry)) c (now (tape .entry)) q (now (tape .exit)) ⌝ }
 {
     let q = number_fields(s, c, tape);
     let Number::Got(n, d) = q else {
         return q;
     };
-    reader::with(n, names::field_set(s, Step::Taken(c), Step::Taken(d)))
+    reader::with(
+        n,
+        names::field_set(s, Step::Taken(c), Step::Taken(d), again),
+    )
 }
 
 // ---- methods of interfaces
@@ -88,8 +93,8 @@ fn number_methods(s: &[u8], c: Cursor, tape: &mut [u32]) -> Number
 }
 
 // An interface's methods, each with a name of its own; hands out how many they are.
-pub fn number_new_methods(s: &[u8], c: Cursor, tape: &mut [u32]) -> Number
-    requires { ⌜ ReadyAt (now s) c ⌝ }
+pub fn number_new_methods(s: &[u8], c: Cursor, again: bool, tape: &mut [u32]) -> Number
+    requires { ⌜ (ReadyAt (now s) c) × (Granted again newMethods (now s) (Taken c)) ⌝ }
     ensures { λ q. ⌜ NumberOf newMethods newCount (now (s .entry)) c (now (tape .entry)) q (now (tape .exit)) ⌝ }
 {
     let q = number_methods(s, c, tape);
@@ -98,6 +103,12 @@ pub fn number_new_methods(s: &[u8], c: Cursor, tape: &mut [u32]) -> Number
     };
     reader::with(
         n,
-        names::method_set(s, Item::RuntimeMethod, Step::Taken(c), Step::Taken(d)),
+        names::method_set(
+            s,
+            Item::RuntimeMethod,
+            Step::Taken(c),
+            Step::Taken(d),
+            again,
+        ),
     )
 }

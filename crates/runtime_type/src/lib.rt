@@ -6,6 +6,8 @@ ghost use Prim.Native.Nat.{_<_};
 ghost use Rattle.format.specs.Format.{counted};
 ghost use Rattle.vob24.specs.Leaves.{valueKind, valueRttid};
 ghost use Rattle.reader.specs.Contract.{stepOf, Ready, ReadyAt, Reader, NumberOf};
+ghost use Rattle.reader.specs.declared.Step.the-variants.{Taken};
+ghost use Rattle.second_pass.specs.Granted.{Granted};
 ghost use Rattle.runtime_type.specs.Records.{typeFormat, typeList, rttidList, namedFormat, arrayFormat, mapFormat, directedFormat, funcFormat, structFormat, interfaceFormat, optionalOf, bareOf, basicOf, namedOf, pointerOf, arrayOf, sliceOf, mapOf, chanOf, funcOf, structOf, interfaceOf, tupleOf, portOf, runtimeTypeOf};
 ghost use Rattle.runtime_type.specs.Contract.{typeStep, TypeReader};
 use reader::Cursor;
@@ -246,15 +248,15 @@ fn func(s: &[u8], c: Cursor, tape: &mut [u32]) -> RuntimeTypeRead
 }
 
 // meta_id, fields
-fn struct_type(s: &[u8], c: Cursor, tape: &mut [u32]) -> RuntimeTypeRead
-    requires { ⌜ ReadyAt (now s) c ⌝ }
+fn struct_type(s: &[u8], c: Cursor, again: bool, tape: &mut [u32]) -> RuntimeTypeRead
+    requires { ⌜ (ReadyAt (now s) c) × (Granted again structFormat (now s) (Taken c)) ⌝ }
     ensures { λ q. ⌜ TypeReader structFormat structOf (now (s .entry)) c (now (tape .entry)) q (now (tape .exit)) ⌝ }
 {
     let q1 = fields::number_u32(s, c, tape);
     let Number::Got(id, d) = q1 else {
         return not_type(q1);
     };
-    let q2 = runtime_members::number_new_fields(s, d, tape);
+    let q2 = runtime_members::number_new_fields(s, d, again, tape);
     let Number::Got(n, e) = q2 else {
         return not_type(q2);
     };
@@ -269,15 +271,15 @@ fn struct_type(s: &[u8], c: Cursor, tape: &mut [u32]) -> RuntimeTypeRead
 }
 
 // meta_id, methods
-fn interface(s: &[u8], c: Cursor, tape: &mut [u32]) -> RuntimeTypeRead
-    requires { ⌜ ReadyAt (now s) c ⌝ }
+fn interface(s: &[u8], c: Cursor, again: bool, tape: &mut [u32]) -> RuntimeTypeRead
+    requires { ⌜ (ReadyAt (now s) c) × (Granted again interfaceFormat (now s) (Taken c)) ⌝ }
     ensures { λ q. ⌜ TypeReader interfaceFormat interfaceOf (now (s .entry)) c (now (tape .entry)) q (now (tape .exit)) ⌝ }
 {
     let q1 = fields::number_u32(s, c, tape);
     let Number::Got(id, d) = q1 else {
         return not_type(q1);
     };
-    let q2 = runtime_members::number_new_methods(s, d, tape);
+    let q2 = runtime_members::number_new_methods(s, d, again, tape);
     let Number::Got(n, e) = q2 else {
         return not_type(q2);
     };
@@ -331,8 +333,8 @@ fn port(s: &[u8], c: Cursor, tape: &mut [u32]) -> RuntimeTypeRead
 // ---- the section
 
 // The tag, and what it stands for; the last arm is 12, as number_runtime_tag refuses all others.
-pub fn runtime_type(s: &[u8], c: Cursor, tape: &mut [u32]) -> RuntimeTypeRead
-    requires { ⌜ ReadyAt (now s) c ⌝ }
+pub fn runtime_type(s: &[u8], c: Cursor, again: bool, tape: &mut [u32]) -> RuntimeTypeRead
+    requires { ⌜ (ReadyAt (now s) c) × (Granted again typeFormat (now s) (Taken c)) ⌝ }
     ensures { λ q. ⌜ TypeReader typeFormat runtimeTypeOf (now (s .entry)) c (now (tape .entry)) q (now (tape .exit)) ⌝ }
 {
     let q = fields::number_runtime_tag(s, c, tape);
@@ -348,8 +350,8 @@ pub fn runtime_type(s: &[u8], c: Cursor, tape: &mut [u32]) -> RuntimeTypeRead
         5 => map(s, d, tape),
         6 => chan(s, d, tape),
         7 => func(s, d, tape),
-        8 => struct_type(s, d, tape),
-        9 => interface(s, d, tape),
+        8 => struct_type(s, d, again, tape),
+        9 => interface(s, d, again, tape),
         10 => tuple(s, d, tape),
         11 => port(s, d, tape),
         _ => RuntimeTypeRead::Got(bare(RuntimeType::Island), d),
@@ -366,8 +368,8 @@ fn type_refused(q: RuntimeTypeRead) -> Step
     }
 }
 
-pub fn runtime_types(s: &[u8], r: Step, tape: &mut [u32]) -> Step
-    requires { ⌜ Ready (now s) r ⌝ }
+pub fn runtime_types(s: &[u8], r: Step, again: bool, tape: &mut [u32]) -> Step
+    requires { ⌜ (Ready (now s) r) × (Granted again typeList (now s) r) ⌝ }
     ensures { λ q. ⌜ Reader typeList (now (s .entry)) r (now (tape .entry)) q (now (tape .exit)) ⌝ }
 {
     let Step::Taken(c) = r else {
@@ -380,7 +382,7 @@ pub fn runtime_types(s: &[u8], r: Step, tape: &mut [u32]) -> Step
     let mut k = n;
     let mut here = d;
     while 0 < k {
-        let item = runtime_type(s, here, tape);
+        let item = runtime_type(s, here, again, tape);
         let RuntimeTypeRead::Got(_, next) = item else {
             return type_refused(item);
         };

@@ -25,12 +25,12 @@ pub fn read_structs(pack: &[u8], place: usize, budget: u64, tape: &mut [u32]) ->
     ensures { λ q. ⌜ SectionCall 0 vob.structs (now (pack .entry)) place budget (now (tape .entry)) q (now (tape .exit)) ⌝ }
 {
     let start = calls::opening(pack, place, budget);
-    let first = structs::structs(pack, start, &mut tape[..0]);
+    let first = structs::structs(pack, start, false, &mut tape[..0]);
     let answer = calls::closed(first, place, budget, tape.len());
     let Answer::Taken { .. } = answer else {
         return answer;
     };
-    structs::structs(pack, start, tape);
+    structs::structs(pack, start, true, tape);
     answer
 }
 
@@ -38,12 +38,12 @@ pub fn read_interfaces(pack: &[u8], place: usize, budget: u64, tape: &mut [u32])
     ensures { λ q. ⌜ SectionCall 0 vob.interfaces (now (pack .entry)) place budget (now (tape .entry)) q (now (tape .exit)) ⌝ }
 {
     let start = calls::opening(pack, place, budget);
-    let first = interfaces::interfaces(pack, start, &mut tape[..0]);
+    let first = interfaces::interfaces(pack, start, false, &mut tape[..0]);
     let answer = calls::closed(first, place, budget, tape.len());
     let Answer::Taken { .. } = answer else {
         return answer;
     };
-    interfaces::interfaces(pack, start, tape);
+    interfaces::interfaces(pack, start, true, tape);
     answer
 }
 
@@ -51,12 +51,12 @@ pub fn read_named_types(pack: &[u8], place: usize, budget: u64, tape: &mut [u32]
     ensures { λ q. ⌜ SectionCall 0 vob.namedTypes (now (pack .entry)) place budget (now (tape .entry)) q (now (tape .exit)) ⌝ }
 {
     let start = calls::opening(pack, place, budget);
-    let first = named_types::named_types(pack, start, &mut tape[..0]);
+    let first = named_types::named_types(pack, start, false, &mut tape[..0]);
     let answer = calls::closed(first, place, budget, tape.len());
     let Answer::Taken { .. } = answer else {
         return answer;
     };
-    named_types::named_types(pack, start, tape);
+    named_types::named_types(pack, start, true, tape);
     answer
 }
 
@@ -77,12 +77,12 @@ pub fn read_runtime_types(pack: &[u8], place: usize, budget: u64, tape: &mut [u3
     ensures { λ q. ⌜ SectionCall 0 vob.runtimeTypes (now (pack .entry)) place budget (now (tape .entry)) q (now (tape .exit)) ⌝ }
 {
     let start = calls::opening(pack, place, budget);
-    let first = runtime_type::runtime_types(pack, start, &mut tape[..0]);
+    let first = runtime_type::runtime_types(pack, start, false, &mut tape[..0]);
     let answer = calls::closed(first, place, budget, tape.len());
     let Answer::Taken { .. } = answer else {
         return answer;
     };
-    runtime_type::runtime_types(pack, start, tape);
+    runtime_type::runtime_types(pack, start, true, tape);
     answer
 }
 

@@ -1,7 +1,5 @@
 // The public calls on a whole pack: reading it under a budget, and the lookup of an artifact.
 // Port the callers' side of Module::deserialize and Module::artifact; the budget and the tape are added.
-ghost use Prim.Native.Nat.{_≤_};
-ghost use lib.ListN.{length};
 ghost use Rattle.calls.specs.Call.{Opens, ReadCall};
 ghost use Rattle.serialize.specs.Find.{Whole, Located, LocateCall, FindCall};
 use calls::Answer;
@@ -12,21 +10,27 @@ use reader::Step;
 // The Rust's own, under which the lookup reads.
 const STARTING_BUDGET: u64 = 536_870_912;
 
-// A pack of at most so many bytes, and so of no more words, is read once.
+// A pack of at most so many bytes is read over a tape of the call's own, which has so many words.
 const SMALL: usize = 128;
 
-// A small pack: its words go to a tape of the call's own, and are copied where it is taken.
+const OWN: usize = 64;
+
+// A small pack: where its record fits the call's own tape, it is copied from there.
 fn read_small(pack: &[u8], start: Step, budget: u64, tape: &mut [u32]) -> Answer
-    requires { ⌜ (length (now pack) ≤ 128) × Opens (now pack) 0 budget start ⌝ }
+    requires { ⌜ Opens (now pack) 0 budget start ⌝ }
     ensures { λ q. ⌜ ReadCall (now (pack .entry)) budget (now (tape .entry)) q (now (tape .exit)) ⌝ }
 {
-    let mut own = [0u32; SMALL];
-    let read = deserialize::deserialize(pack, start, &mut own);
-    let answer = calls::closed_whole(read, pack.len(), budget, tape.len());
+    let mut own = [0u32; OWN];
+    let first = deserialize::deserialize(pack, start, false, &mut own);
+    let answer = calls::closed_whole(first, pack.len(), budget, tape.len());
     let Answer::Taken { words, .. } = answer else {
         return answer;
     };
-    calls::copy_words(&own, words, tape);
+    if words <= OWN {
+        calls::copy_words(&own, words, tape);
+        return answer;
+    }
+    deserialize::deserialize(pack, start, true, tape);
     answer
 }
 
@@ -38,12 +42,12 @@ pub fn read(pack: &[u8], budget: u64, tape: &mut [u32]) -> Answer
     if pack.len() <= SMALL {
         return read_small(pack, start, budget, tape);
     }
-    let first = deserialize::deserialize(pack, start, &mut tape[..0]);
+    let first = deserialize::deserialize(pack, start, false, &mut tape[..0]);
     let answer = calls::closed_whole(first, pack.len(), budget, tape.len());
     let Answer::Taken { .. } = answer else {
         return answer;
     };
-    deserialize::deserialize(pack, start, tape);
+    deserialize::deserialize(pack, start, true, tape);
     answer
 }
 
@@ -66,7 +70,7 @@ pub fn locate_artifact(pack: &[u8], name: &[u8]) -> Found
 {
     let mut none = [0u32; 1];
     let start = calls::opening_whole(pack, STARTING_BUDGET);
-    let first = deserialize::deserialize(pack, start, &mut none[..0]);
+    let first = deserialize::deserialize(pack, start, false, &mut none[..0]);
     let end = calls::ended(first, pack.len());
     match end {
         Step::Refused(x) => Found::Not(x),

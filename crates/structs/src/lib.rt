@@ -1,6 +1,7 @@
 // The struct section: each struct's slot types and fields, then the index of its fields.
 // Ports what Module::deserialize of serialize.rs reads into StructMeta and FieldMeta of bytecode.rs.
 ghost use Rattle.reader.specs.Contract.{Ready, Reader};
+ghost use Rattle.second_pass.specs.Granted.{Granted};
 ghost use Rattle.structs.specs.Structs.{fieldFormat, fieldList, structFormat, structList};
 use reader::Number;
 use reader::Step;
@@ -42,17 +43,17 @@ pub fn struct_fields(s: &[u8], r: Step, tape: &mut [u32]) -> Step
 }
 
 // The field index is built after the whole list, from where the list stands.
-pub fn structure(s: &[u8], r: Step, tape: &mut [u32]) -> Step
-    requires { ⌜ Ready (now s) r ⌝ }
+pub fn structure(s: &[u8], r: Step, again: bool, tape: &mut [u32]) -> Step
+    requires { ⌜ (Ready (now s) r) × (Granted again structFormat (now s) r) ⌝ }
     ensures { λ q. ⌜ Reader structFormat (now (s .entry)) r (now (tape .entry)) q (now (tape .exit)) ⌝ }
 {
     let slot_types = slots::slot_types(s, r, tape);
     let fields = struct_fields(s, slot_types, tape);
-    names::field_index(s, slot_types, fields)
+    names::field_index(s, slot_types, fields, again)
 }
 
-pub fn structs(s: &[u8], r: Step, tape: &mut [u32]) -> Step
-    requires { ⌜ Ready (now s) r ⌝ }
+pub fn structs(s: &[u8], r: Step, again: bool, tape: &mut [u32]) -> Step
+    requires { ⌜ (Ready (now s) r) × (Granted again structList (now s) r) ⌝ }
     ensures { λ q. ⌜ Reader structList (now (s .entry)) r (now (tape .entry)) q (now (tape .exit)) ⌝ }
 {
     let Step::Taken(c) = r else {
@@ -65,7 +66,7 @@ pub fn structs(s: &[u8], r: Step, tape: &mut [u32]) -> Step
     let mut k = n;
     let mut here = Step::Taken(d);
     while 0 < k {
-        here = structure(s, here, tape);
+        here = structure(s, here, again, tape);
         let Step::Taken(_) = here else {
             return here;
         };

@@ -1,5 +1,6 @@
 use Rattle.reader.proofs.Reading.{reading}
 use Rattle.vob24.specs.Grammar.{section, sections, pack}
+use Rattle.second_pass.proofs.Laws.{granted-next}
 use borrow.Author.Needs.{needs}
 use Rattle.deserialize.proofs.deserialize.Statement.{statement}
 use Rattle.deserialize.proofs.deserialize.Tie as tie
@@ -11,7 +12,8 @@ field-version-requires : tie.Need-field-version-requires
 field-version-requires c κs = search needs
 
 sections-requires : tie.Need-sections-requires
-sections-requires c κs = search needs
+unfolding pack
+sections-requires c κs = (search needs, granted-next ((c .before .before .before .field-version) .ensures) (granted-next ((c .before .before .before .before .before .before .before .field-magic) .ensures) ((c .before .before .before .before .before .before .before .before .before .before .before .pre) .1)))
 
 same-length : tie.Need-same-length
 same-length c = search needs

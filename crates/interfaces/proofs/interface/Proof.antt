@@ -1,7 +1,13 @@
 use borrow.Author.Needs.{needs}
-use Rattle.vob24.specs.Grammar.{interface as interfaceRecord}
+use Rattle.vob24.specs.Settings.{settings}
+use Rattle.vob24.specs.Grammar.{interface as interfaceRecord, methodSet}
+use Rattle.items.specs.Items.{namesOf}
+use Rattle.items.specs.declared.Item.the-variants.{InterfaceMethod}
 use Rattle.reader.proofs.Laws.{fieldThen}
 use Rattle.items.proofs.Following.{first-behind, second-behind, listsAsk}
+use Rattle.items.proofs.Asking.{list-refused}
+use Rattle.names.proofs.Granting.{granted-list}
+use mathlib.Core.Path.{refl}
 use Rattle.interfaces.proofs.interface.Statement.{statement}
 use Rattle.interfaces.proofs.interface.Tie as tie
 
@@ -15,10 +21,12 @@ interface-methods-requires : tie.Need-interface-methods-requires
 interface-methods-requires c κs = search needs
 
 method-set-requires : tie.Need-method-set-requires
-method-set-requires c κs = first-behind ((c .before .before .before .before .before .before .method-names) .ensures) ((c .before .before .interface-methods) .ensures) ((c .before .before .before .before .before .before .before .before .before .before .field-str) .ensures .ready)
+unfolding interfaceRecord
+method-set-requires c κs = (first-behind ((c .before .before .before .before .before .before .method-names) .ensures) ((c .before .before .interface-methods) .ensures) ((c .before .before .before .before .before .before .before .before .before .before .field-str) .ensures .ready), granted-list (λ x a. fieldThen ((c .before .before .before .before .before .before .before .before .before .before .field-str) .ensures) (λ _. listsAsk ((c .before .before .before .before .before .before .method-names) .ensures) ((c .before .before .interface-methods) .ensures) a (list-refused {l = λ vs. methodSet settings (namesOf InterfaceMethod vs)} refl))) (c .before .before .before .before .before .before .before .before .before .before .before .before .before .before .pre .1))
 
 method-set-requires-2 : tie.Need-method-set-requires-2
-method-set-requires-2 c κs = second-behind ((c .before .before .before .before .before .before .before .method-names) .ensures) ((c .before .before .before .interface-methods) .ensures) ((c .method-set) .ensures)
+unfolding interfaceRecord
+method-set-requires-2 c κs = (second-behind ((c .before .before .before .before .before .before .before .method-names) .ensures) ((c .before .before .before .interface-methods) .ensures) ((c .method-set) .ensures), granted-list (λ x a. fieldThen ((c .before .before .before .before .before .before .before .before .before .before .before .field-str) .ensures) (λ _. listsAsk ((c .before .before .before .before .before .before .before .method-names) .ensures) ((c .before .before .before .interface-methods) .ensures) ((c .method-set) .ensures) a)) (c .before .before .before .before .before .before .before .before .before .before .before .before .before .before .before .pre .1))
 
 same-length : tie.Need-same-length
 same-length c = search needs

@@ -1,6 +1,7 @@
 use borrow.Author.Needs.{needs}
 use Rattle.vob24.specs.Grammar.{namedType}
 use Rattle.reader.proofs.Reading.{reading}
+use Rattle.second_pass.proofs.Laws.{granted-next}
 use Rattle.named_types.proofs.named_type.Statement.{statement}
 use Rattle.named_types.proofs.named_type.Tie as tie
 
@@ -14,7 +15,8 @@ field-value-rttid-requires : tie.Need-field-value-rttid-requires
 field-value-rttid-requires c κs = search needs
 
 methods-requires : tie.Need-methods-requires
-methods-requires c κs = search needs
+unfolding namedType
+methods-requires c κs = (search needs, granted-next ((c .before .before .before .field-value-rttid) .ensures) (granted-next ((c .before .before .before .before .before .before .before .field-value-meta) .ensures) (granted-next ((c .before .before .before .before .before .before .before .before .before .before .before .field-str) .ensures) ((c .before .before .before .before .before .before .before .before .before .before .before .before .before .before .before .pre) .1))))
 
 same-length : tie.Need-same-length
 same-length c = search needs

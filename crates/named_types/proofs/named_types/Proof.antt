@@ -2,15 +2,16 @@ use borrow.Author.Needs.{needs}
 use Rattle.reader.proofs.Reading.{reading}
 use Rattle.reader.proofs.Laws.{Turns}
 use Rattle.reader.proofs.Parts.{list-done, list-refused}
+use Rattle.second_pass.proofs.Laws.{granted-item}
 use Rattle.named_types.specs.NamedTypes.{namedFormat}
 use Rattle.named_types.proofs.named_types.Statement.{statement}
 use Rattle.named_types.proofs.named_types.Tie as tie
 
 abbrev Inv-loop : tie.InvT-loop
-Inv-loop s tape₀ n k₀ here₀ tape k here = Turns namedFormat s tape₀ here₀ k₀ tape here k
+Inv-loop s again tape₀ n k₀ here₀ tape k here = Turns namedFormat s tape₀ here₀ k₀ tape here k
 
 abbrev μ-loop : tie.MeasureT-loop
-μ-loop s tape₀ n k₀ here₀ tape k here = k
+μ-loop s again tape₀ n k₀ here₀ tape k here = k
 
 enum-known-r : tie.Need-enum-known-r Inv-loop μ-loop
 enum-known-r c = search (needs, reading)
@@ -43,7 +44,7 @@ loop-holds : tie.Need-loop-holds Inv-loop μ-loop
 loop-holds c = search (needs, reading)
 
 named-type-requires : tie.Need-named-type-requires Inv-loop μ-loop
-named-type-requires c κs = search (needs, reading)
+named-type-requires c κs = (search (needs, reading), granted-item ((c .before .before .before .before .before .before .before .before .before .before .before .r) .given .1) ((c .before .before .before .before .q) .given .1) ((c .before .before .before .before .before .before .before .before .number-count) .ensures) ((c .before .loop-test) .taken) ((c .before .before .loop) .inv) (c .before .before .before .before .before .before .before .before .before .before .before .before .before .before .before .pre .1))
 
 enum-told-3 : tie.Need-enum-told-3 Inv-loop μ-loop
 enum-told-3 c = search (needs, reading)

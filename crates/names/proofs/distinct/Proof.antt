@@ -1,27 +1,24 @@
 use borrow.Author.Needs.{needs}
-use Rattle.names.proofs.Paying.{all-paid}
+use Rattle.names.proofs.Granting.{none-repeats}
 use Rattle.names.proofs.distinct.Statement.{statement}
 use Rattle.names.proofs.distinct.Tie as tie
 
-first-repeat-requires : tie.Need-first-repeat-requires
-first-repeat-requires c κs = search needs
-
-judged-requires : tie.Need-judged-requires
-judged-requires c κs = search needs
+settled-requires : tie.Need-settled-requires
+settled-requires c κs = search (needs, none-repeats)
 
 returns : tie.Need-returns
 returns c = search needs
 
-judged-requires-2 : tie.Need-judged-requires-2
-judged-requires-2 c κs = search needs
+first-repeat-requires : tie.Need-first-repeat-requires
+first-repeat-requires c κs = search needs
+
+settled-requires-2 : tie.Need-settled-requires-2
+settled-requires-2 c κs = search needs
 
 returns-2 : tie.Need-returns-2
 returns-2 c = search needs
 
-returns-3 : tie.Need-returns-3
-returns-3 c = search (needs, all-paid)
-
 pub distinct-spec : {M : Type 1} → statement M
 distinct-spec =
     tie.close
-    (tie.spec first-repeat-requires judged-requires returns judged-requires-2 returns-2 returns-3)
+    (tie.spec settled-requires returns first-repeat-requires settled-requires-2 returns-2)

@@ -2,6 +2,7 @@ use Rattle.reader.proofs.Leaves.{product-fits}
 use native.Mathlib.Omega.{arith}
 use Rattle.items.proofs.Asking.{list-refused, list-skipped, list-asked, list-room, list-small, list-items}
 use Rattle.names.proofs.Lists.{index-poor, index-then}
+use Rattle.names.proofs.Granting.{granted-asks}
 use borrow.Author.Needs.{needs}
 use Rattle.names.proofs.field_index.Statement.{statement}
 use Rattle.names.proofs.field_index.Tie as tie
@@ -25,13 +26,13 @@ returns-2 : tie.Need-returns-2
 returns-2 c = list-skipped ((c .enum-told2) .given .1) ((c .before .before .before .r1) .given .1)
 
 word-at-requires : tie.Need-word-at-requires
-word-at-requires c κs = list-room ((c .before .r) .given .1) ((c .before .before .before .before .r1) .given .1) (c .before .before .before .before .before .before .before .pre)
+word-at-requires c κs = list-room ((c .before .r) .given .1) ((c .before .before .before .before .r1) .given .1) (c .before .before .before .before .before .before .before .pre .0)
 
 add-from : tie.Need-add-from
-add-from c = omega (arith, list-room ((c .before .before .r) .given .1) ((c .before .before .before .before .before .r1) .given .1) (c .before .before .before .before .before .before .before .before .pre), list-small ((c .before .before .r) .given .1) ((c .before .before .before .before .before .r1) .given .1) (c .before .before .before .before .before .before .before .before .pre))
+add-from c = omega (arith, list-room ((c .before .before .r) .given .1) ((c .before .before .before .before .before .r1) .given .1) (c .before .before .before .before .before .before .before .before .pre .0), list-small ((c .before .before .r) .given .1) ((c .before .before .before .before .before .r1) .given .1) (c .before .before .before .before .before .before .before .before .pre .0))
 
 named-requires : tie.Need-named-requires
-named-requires c κs = (list-items ((c .before .before .r) .given .1) ((c .before .before .before .before .before .r1) .given .1) (c .before .before .before .before .before .before .before .before .pre) ((c .word-at) .ensures), c .word-at .ensures .below)
+named-requires c κs = (list-items ((c .before .before .r) .given .1) ((c .before .before .before .before .before .r1) .given .1) (c .before .before .before .before .before .before .before .before .pre .0) ((c .word-at) .ensures), c .word-at .ensures .below)
 
 size-requires : tie.Need-size-requires
 size-requires c κs = search needs
@@ -52,7 +53,7 @@ returns-3 : tie.Need-returns-3
 returns-3 c = list-asked ((c .before .before .before .before .before .before .before .r) .given .1) ((c .before .before .before .before .before .before .before .before .before .before .r1) .given .1) ((c .before .before .before .before .before .word-at) .ensures) (index-poor (c .before .before .before .before .named .ensures .named) ((c .before .before .before .size) .ensures .0) ((c .before .before .charge-allocation) .ensures) ((c .enum-told3) .given .1))
 
 distinct-requires : tie.Need-distinct-requires
-distinct-requires c κs = (list-items ((c .before .before .before .before .before .before .before .before .r) .given .1) ((c .before .before .before .before .before .before .before .before .before .before .before .r1) .given .1) (c .before .before .before .before .before .before .before .before .before .before .before .before .before .before .pre) ((c .before .before .before .before .before .before .word-at) .ensures), c .before .before .before .before .before .named .ensures .cost)
+distinct-requires c κs = (list-items ((c .before .before .before .before .before .before .before .before .r) .given .1) ((c .before .before .before .before .before .before .before .before .before .before .before .r1) .given .1) (c .before .before .before .before .before .before .before .before .before .before .before .before .before .before .pre .0) ((c .before .before .before .before .before .before .word-at) .ensures), c .before .before .before .before .before .named .ensures .cost, granted-asks (c .before .before .before .before .before .before .before .before .before .before .before .before .before .before .pre .1) ((c .before .before .before .before .before .before .before .before .r) .given .1) ((c .before .before .before .before .before .before .before .before .before .before .before .r1) .given .1) (λ x a. list-asked ((c .before .before .before .before .before .before .before .before .r) .given .1) ((c .before .before .before .before .before .before .before .before .before .before .before .r1) .given .1) ((c .before .before .before .before .before .before .word-at) .ensures) (index-then (c .before .before .before .before .before .named .ensures .named) ((c .before .before .before .before .size) .ensures .0) ((c .before .before .before .charge-allocation) .ensures) ((c .before .paid) .given .1) a)))
 
 returns-4 : tie.Need-returns-4
 returns-4 c = list-asked ((c .before .before .before .before .before .before .before .before .before .r) .given .1) ((c .before .before .before .before .before .before .before .before .before .before .before .before .r1) .given .1) ((c .before .before .before .before .before .before .before .word-at) .ensures) (index-then (c .before .before .before .before .before .before .named .ensures .named) ((c .before .before .before .before .before .size) .ensures .0) ((c .before .before .before .before .charge-allocation) .ensures) ((c .before .before .paid) .given .1) ((c .distinct) .ensures))

@@ -3,6 +3,7 @@ use native.Mathlib.Omega.{arith}
 use Rattle.items.proofs.Asking.{list-refused, list-skipped, list-asked, list-room, list-small, list-items}
 use Rattle.names.proofs.Paying.{method-cost}
 use Rattle.names.proofs.Lists.{method-set-poor, method-set-then}
+use Rattle.names.proofs.Granting.{granted-asks}
 use borrow.Author.Needs.{needs}
 use Rattle.names.proofs.method_set.Statement.{statement}
 use Rattle.names.proofs.method_set.Tie as tie
@@ -26,7 +27,7 @@ returns-2 : tie.Need-returns-2
 returns-2 c = list-skipped ((c .enum-told2) .given .1) ((c .before .before .before .r1) .given .1)
 
 word-at-requires : tie.Need-word-at-requires
-word-at-requires c κs = list-room ((c .before .r) .given .1) ((c .before .before .before .before .r1) .given .1) (c .before .before .before .before .before .before .before .pre)
+word-at-requires c κs = list-room ((c .before .r) .given .1) ((c .before .before .before .before .r1) .given .1) (c .before .before .before .before .before .before .before .pre .0)
 
 size-requires : tie.Need-size-requires
 size-requires c κs = search needs
@@ -47,16 +48,16 @@ enum-told-3 : tie.Need-enum-told-3
 enum-told-3 c = search needs
 
 returns-3 : tie.Need-returns-3
-returns-3 c = list-asked ((c .before .before .before .before .before .before .r) .given .1) ((c .before .before .before .before .before .before .before .before .before .r1) .given .1) ((c .before .before .before .before .word-at) .ensures) (method-set-poor ((c .before .before .before .before .before .before .before .before .before .before .before .before .args) .item) (list-items ((c .before .before .before .before .before .before .r) .given .1) ((c .before .before .before .before .before .before .before .before .before .r1) .given .1) (c .before .before .before .before .before .before .before .before .before .before .before .before .pre) ((c .before .before .before .before .word-at) .ensures)) ((c .before .before .before .size) .ensures .0) ((c .before .before .charge-allocation) .ensures) ((c .enum-told3) .given .1))
+returns-3 c = list-asked ((c .before .before .before .before .before .before .r) .given .1) ((c .before .before .before .before .before .before .before .before .before .r1) .given .1) ((c .before .before .before .before .word-at) .ensures) (method-set-poor ((c .before .before .before .before .before .before .before .before .before .before .before .before .args) .item) (list-items ((c .before .before .before .before .before .before .r) .given .1) ((c .before .before .before .before .before .before .before .before .before .r1) .given .1) (c .before .before .before .before .before .before .before .before .before .before .before .before .pre .0) ((c .before .before .before .before .word-at) .ensures)) ((c .before .before .before .size) .ensures .0) ((c .before .before .charge-allocation) .ensures) ((c .enum-told3) .given .1))
 
 add-distinct : tie.Need-add-distinct
-add-distinct c = omega (arith, list-room ((c .before .before .before .before .before .before .before .r) .given .1) ((c .before .before .before .before .before .before .before .before .before .before .r1) .given .1) (c .before .before .before .before .before .before .before .before .before .before .before .before .before .pre), list-small ((c .before .before .before .before .before .before .before .r) .given .1) ((c .before .before .before .before .before .before .before .before .before .before .r1) .given .1) (c .before .before .before .before .before .before .before .before .before .before .before .before .before .pre))
+add-distinct c = omega (arith, list-room ((c .before .before .before .before .before .before .before .r) .given .1) ((c .before .before .before .before .before .before .before .before .before .before .r1) .given .1) (c .before .before .before .before .before .before .before .before .before .before .before .before .before .pre .0), list-small ((c .before .before .before .before .before .before .before .r) .given .1) ((c .before .before .before .before .before .before .before .before .before .before .r1) .given .1) (c .before .before .before .before .before .before .before .before .before .before .before .before .before .pre .0))
 
 distinct-requires : tie.Need-distinct-requires
-distinct-requires c κs = (list-items ((c .before .before .before .before .before .before .before .r) .given .1) ((c .before .before .before .before .before .before .before .before .before .before .r1) .given .1) (c .before .before .before .before .before .before .before .before .before .before .before .before .before .pre) ((c .before .before .before .before .before .word-at) .ensures), method-cost (c .before .before .before .before .before .before .before .before .before .before .before .before .before .args .item))
+distinct-requires c κs = (list-items ((c .before .before .before .before .before .before .before .r) .given .1) ((c .before .before .before .before .before .before .before .before .before .before .r1) .given .1) (c .before .before .before .before .before .before .before .before .before .before .before .before .before .pre .0) ((c .before .before .before .before .before .word-at) .ensures), method-cost (c .before .before .before .before .before .before .before .before .before .before .before .before .before .args .item), granted-asks (c .before .before .before .before .before .before .before .before .before .before .before .before .before .pre .1) ((c .before .before .before .before .before .before .before .r) .given .1) ((c .before .before .before .before .before .before .before .before .before .before .r1) .given .1) (λ x a. list-asked ((c .before .before .before .before .before .before .before .r) .given .1) ((c .before .before .before .before .before .before .before .before .before .before .r1) .given .1) ((c .before .before .before .before .before .word-at) .ensures) (method-set-then ((c .before .before .before .before .before .before .before .before .before .before .before .before .before .args) .item) (list-items ((c .before .before .before .before .before .before .before .r) .given .1) ((c .before .before .before .before .before .before .before .before .before .before .r1) .given .1) (c .before .before .before .before .before .before .before .before .before .before .before .before .before .pre .0) ((c .before .before .before .before .before .word-at) .ensures)) ((c .before .before .before .before .size) .ensures .0) ((c .before .before .before .charge-allocation) .ensures) ((c .before .paid) .given .1) a)))
 
 returns-4 : tie.Need-returns-4
-returns-4 c = list-asked ((c .before .before .before .before .before .before .before .before .r) .given .1) ((c .before .before .before .before .before .before .before .before .before .before .before .r1) .given .1) ((c .before .before .before .before .before .before .word-at) .ensures) (method-set-then ((c .before .before .before .before .before .before .before .before .before .before .before .before .before .before .args) .item) (list-items ((c .before .before .before .before .before .before .before .before .r) .given .1) ((c .before .before .before .before .before .before .before .before .before .before .before .r1) .given .1) (c .before .before .before .before .before .before .before .before .before .before .before .before .before .before .pre) ((c .before .before .before .before .before .before .word-at) .ensures)) ((c .before .before .before .before .before .size) .ensures .0) ((c .before .before .before .before .charge-allocation) .ensures) ((c .before .before .paid) .given .1) ((c .distinct) .ensures))
+returns-4 c = list-asked ((c .before .before .before .before .before .before .before .before .r) .given .1) ((c .before .before .before .before .before .before .before .before .before .before .before .r1) .given .1) ((c .before .before .before .before .before .before .word-at) .ensures) (method-set-then ((c .before .before .before .before .before .before .before .before .before .before .before .before .before .before .args) .item) (list-items ((c .before .before .before .before .before .before .before .before .r) .given .1) ((c .before .before .before .before .before .before .before .before .before .before .before .r1) .given .1) (c .before .before .before .before .before .before .before .before .before .before .before .before .before .before .pre .0) ((c .before .before .before .before .before .before .word-at) .ensures)) ((c .before .before .before .before .before .size) .ensures .0) ((c .before .before .before .before .charge-allocation) .ensures) ((c .before .before .paid) .given .1) ((c .distinct) .ensures))
 
 pub method-set-spec : {M : Type 1} → statement M
 method-set-spec =

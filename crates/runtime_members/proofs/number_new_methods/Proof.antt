@@ -1,5 +1,8 @@
 use borrow.Author.Needs.{needs}
+use mathlib.Core.Path.{refl}
 use Rattle.reader.proofs.Reading.{reading}
+use Rattle.reader.proofs.Laws.{numberJust}
+use Rattle.names.proofs.Granting.{granted-list}
 use Rattle.records.proofs.Numbering.{numbering}
 use Rattle.runtime_members.proofs.Laws.{listAsked, listBehind}
 use Rattle.runtime_members.proofs.number_new_methods.Statement.{statement}
@@ -21,7 +24,7 @@ returns : tie.Need-returns
 returns c = search (needs, reading, numbering)
 
 method-set-requires : tie.Need-method-set-requires
-method-set-requires c κs = listBehind ((c .before .q) .given .1) (c .before .before .before .before .before .before .before .before .before .pre) ((c .before .before .before .before .before .number-methods) .ensures)
+method-set-requires c κs = (listBehind ((c .before .q) .given .1) ((c .before .before .before .before .before .before .before .before .before .pre) .0) ((c .before .before .before .before .before .number-methods) .ensures), granted-list (λ x a. numberJust refl (listAsked ((c .before .q) .given .1) ((c .before .before .before .before .before .number-methods) .ensures) a refl)) ((c .before .before .before .before .before .before .before .before .before .pre) .1))
 
 with-requires : tie.Need-with-requires
 with-requires c κs = search (needs, reading, numbering)

@@ -1,7 +1,9 @@
+use mathlib.Core.Path.{refl}
 use borrow.Author.Needs.{needs}
 use Rattle.reader.proofs.Reading.{reading}
 use Rattle.reader.proofs.Laws.{got-ready}
-use Rattle.reader.proofs.Parts.{tag-most}
+use Rattle.reader.proofs.Parts.{tag-most, chooseAt}
+use Rattle.second_pass.proofs.Laws.{granted-part}
 use Rattle.vob24.specs.Grammar.{runtimeType, runtimeVariants}
 use Rattle.vob24.specs.Settings.{settings}
 use Rattle.records.proofs.Recording.{recording, recordedEmpty, variantAt}
@@ -55,10 +57,12 @@ func-requires : tie.Need-func-requires
 func-requires c κs = search (needs, reading, recording)
 
 struct-type-requires : tie.Need-struct-type-requires
-struct-type-requires c κs = search (needs, reading, recording)
+unfolding runtimeType
+struct-type-requires c κs = (search (needs, reading, recording), granted-part (λ x k. chooseAt (runtimeVariants settings) 8 refl ((c .before .before .before .q) .given .1) ((c .before .match2) .keys9) ((c .before .before .before .before .before .before .before .number-runtime-tag) .ensures) k) ((c .before .before .before .before .before .before .before .before .before .before .before .pre) .1))
 
 interface-requires : tie.Need-interface-requires
-interface-requires c κs = search (needs, reading, recording)
+unfolding runtimeType
+interface-requires c κs = (search (needs, reading, recording), granted-part (λ x k. chooseAt (runtimeVariants settings) 9 refl ((c .before .before .before .q) .given .1) ((c .before .match2) .keys10) ((c .before .before .before .before .before .before .before .number-runtime-tag) .ensures) k) ((c .before .before .before .before .before .before .before .before .before .before .before .pre) .1))
 
 tuple-requires : tie.Need-tuple-requires
 tuple-requires c κs = search (needs, reading, recording)

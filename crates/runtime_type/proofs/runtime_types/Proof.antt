@@ -3,6 +3,7 @@ use borrow.Author.Needs.{needs}
 use Rattle.reader.proofs.Reading.{reading}
 use Rattle.reader.proofs.Laws.{Turns}
 use Rattle.reader.proofs.Parts.{list-done, list-refused}
+use Rattle.second_pass.proofs.Laws.{granted-item}
 use Rattle.reader.specs.declared.Step.the-variants.{Taken}
 use Rattle.vob24.specs.Grammar.{runtimeType}
 use Rattle.vob24.specs.Settings.{settings}
@@ -12,10 +13,10 @@ use Rattle.runtime_type.proofs.runtime_types.Statement.{statement}
 use Rattle.runtime_type.proofs.runtime_types.Tie as tie
 
 abbrev Inv-loop : tie.InvT-loop
-Inv-loop s tape₀ n k₀ here₀ tape k here = Turns (runtimeType settings) s tape₀ (Taken here₀) k₀ tape (Taken here) k
+Inv-loop s again tape₀ n k₀ here₀ tape k here = Turns (runtimeType settings) s tape₀ (Taken here₀) k₀ tape (Taken here) k
 
 abbrev μ-loop : tie.MeasureT-loop
-μ-loop s tape₀ n k₀ here₀ tape k here = k
+μ-loop s again tape₀ n k₀ here₀ tape k here = k
 
 enum-known-r : tie.Need-enum-known-r Inv-loop μ-loop
 enum-known-r c = search (needs, reading)
@@ -48,7 +49,7 @@ loop-holds : tie.Need-loop-holds Inv-loop μ-loop
 loop-holds c = search (needs, reading)
 
 runtime-type-requires : tie.Need-runtime-type-requires Inv-loop μ-loop
-runtime-type-requires c κs = search (needs, reading)
+runtime-type-requires c κs = (search (needs, reading), granted-item ((c .before .before .before .before .before .before .before .before .before .before .before .r) .given .1) ((c .before .before .before .before .q) .given .1) ((c .before .before .before .before .before .before .before .before .number-count) .ensures) ((c .before .loop-test) .taken) ((c .before .before .loop) .inv) (c .before .before .before .before .before .before .before .before .before .before .before .before .before .before .before .pre .1))
 
 enum-known-item : tie.Need-enum-known-item Inv-loop μ-loop
 enum-known-item c = search (needs, reading)

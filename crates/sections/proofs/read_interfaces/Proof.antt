@@ -1,6 +1,7 @@
 use borrow.Author.Needs.{needs}
 use Rattle.vob24.specs.Grammar.{section, interfaces}
-use Rattle.calls.proofs.Laws.{section-since, section-refused, section-taken}
+use Rattle.calls.proofs.Laws.{section-since, section-granted, section-refused, section-taken}
+use Rattle.second_pass.proofs.Laws.{unknown}
 use Rattle.sections.proofs.read_interfaces.Statement.{statement}
 use Rattle.sections.proofs.read_interfaces.Tie as tie
 
@@ -14,7 +15,7 @@ slice-aggregate-interfaces : tie.Need-slice-aggregate-interfaces
 slice-aggregate-interfaces c = search needs
 
 interfaces-requires : tie.Need-interfaces-requires
-interfaces-requires c κs = search needs
+interfaces-requires c κs = (search needs, unknown)
 
 closed-requires : tie.Need-closed-requires
 unfolding section
@@ -34,7 +35,8 @@ unfolding section
 returns c = section-refused 0 interfaces ((c .before .before .before .before .before .before .before .opening) .ensures) ((c .before .before .before .before .before .interfaces) .ensures) (search needs) ((c .before .before .closed) .ensures) ((c .enum-told2) .given .1)
 
 interfaces-requires-2 : tie.Need-interfaces-requires-2
-interfaces-requires-2 c κs = search needs
+unfolding section
+interfaces-requires-2 c κs = (search needs, section-granted 0 interfaces ((c .before .before .before .before .before .before .before .before .opening) .ensures) ((c .before .before .before .before .before .before .interfaces) .ensures) ((c .before .before .before .closed) .ensures) ((c .before .enum-told) .given .1))
 
 same-length-2 : tie.Need-same-length-2
 same-length-2 c = search needs

@@ -1,6 +1,7 @@
 use borrow.Author.Needs.{needs}
 use Rattle.vob24.specs.Grammar.{section, namedTypes}
-use Rattle.calls.proofs.Laws.{section-since, section-refused, section-taken}
+use Rattle.calls.proofs.Laws.{section-since, section-granted, section-refused, section-taken}
+use Rattle.second_pass.proofs.Laws.{unknown}
 use Rattle.sections.proofs.read_named_types.Statement.{statement}
 use Rattle.sections.proofs.read_named_types.Tie as tie
 
@@ -14,7 +15,7 @@ slice-aggregate-named-types : tie.Need-slice-aggregate-named-types
 slice-aggregate-named-types c = search needs
 
 named-types-requires : tie.Need-named-types-requires
-named-types-requires c κs = search needs
+named-types-requires c κs = (search needs, unknown)
 
 closed-requires : tie.Need-closed-requires
 unfolding section
@@ -34,7 +35,8 @@ unfolding section
 returns c = section-refused 0 namedTypes ((c .before .before .before .before .before .before .before .opening) .ensures) ((c .before .before .before .before .before .named-types) .ensures) (search needs) ((c .before .before .closed) .ensures) ((c .enum-told2) .given .1)
 
 named-types-requires-2 : tie.Need-named-types-requires-2
-named-types-requires-2 c κs = search needs
+unfolding section
+named-types-requires-2 c κs = (search needs, section-granted 0 namedTypes ((c .before .before .before .before .before .before .before .before .opening) .ensures) ((c .before .before .before .before .before .before .named-types) .ensures) ((c .before .before .before .closed) .ensures) ((c .before .enum-told) .given .1))
 
 same-length-2 : tie.Need-same-length-2
 same-length-2 c = search needs

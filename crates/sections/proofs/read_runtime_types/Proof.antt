@@ -1,6 +1,7 @@
 use borrow.Author.Needs.{needs}
 use Rattle.vob24.specs.Grammar.{section, runtimeTypes}
-use Rattle.calls.proofs.Laws.{section-since, section-refused, section-taken}
+use Rattle.calls.proofs.Laws.{section-since, section-granted, section-refused, section-taken}
+use Rattle.second_pass.proofs.Laws.{unknown}
 use Rattle.sections.proofs.read_runtime_types.Statement.{statement}
 use Rattle.sections.proofs.read_runtime_types.Tie as tie
 
@@ -14,7 +15,7 @@ slice-aggregate-runtime-types : tie.Need-slice-aggregate-runtime-types
 slice-aggregate-runtime-types c = search needs
 
 runtime-types-requires : tie.Need-runtime-types-requires
-runtime-types-requires c κs = search needs
+runtime-types-requires c κs = (search needs, unknown)
 
 closed-requires : tie.Need-closed-requires
 unfolding section
@@ -34,7 +35,8 @@ unfolding section
 returns c = section-refused 0 runtimeTypes ((c .before .before .before .before .before .before .before .opening) .ensures) ((c .before .before .before .before .before .runtime-types) .ensures) (search needs) ((c .before .before .closed) .ensures) ((c .enum-told2) .given .1)
 
 runtime-types-requires-2 : tie.Need-runtime-types-requires-2
-runtime-types-requires-2 c κs = search needs
+unfolding section
+runtime-types-requires-2 c κs = (search needs, section-granted 0 runtimeTypes ((c .before .before .before .before .before .before .before .before .opening) .ensures) ((c .before .before .before .before .before .before .runtime-types) .ensures) ((c .before .before .before .closed) .ensures) ((c .before .enum-told) .given .1))
 
 same-length-2 : tie.Need-same-length-2
 same-length-2 c = search needs

@@ -1,6 +1,7 @@
 use borrow.Author.Needs.{needs}
 use Rattle.vob24.specs.Grammar.{section, structs}
-use Rattle.calls.proofs.Laws.{section-since, section-refused, section-taken}
+use Rattle.calls.proofs.Laws.{section-since, section-granted, section-refused, section-taken}
+use Rattle.second_pass.proofs.Laws.{unknown}
 use Rattle.sections.proofs.read_structs.Statement.{statement}
 use Rattle.sections.proofs.read_structs.Tie as tie
 
@@ -14,7 +15,7 @@ slice-aggregate-structs : tie.Need-slice-aggregate-structs
 slice-aggregate-structs c = search needs
 
 structs-requires : tie.Need-structs-requires
-structs-requires c κs = search needs
+structs-requires c κs = (search needs, unknown)
 
 closed-requires : tie.Need-closed-requires
 unfolding section
@@ -34,7 +35,8 @@ unfolding section
 returns c = section-refused 0 structs ((c .before .before .before .before .before .before .before .opening) .ensures) ((c .before .before .before .before .before .structs) .ensures) (search needs) ((c .before .before .closed) .ensures) ((c .enum-told2) .given .1)
 
 structs-requires-2 : tie.Need-structs-requires-2
-structs-requires-2 c κs = search needs
+unfolding section
+structs-requires-2 c κs = (search needs, section-granted 0 structs ((c .before .before .before .before .before .before .before .before .opening) .ensures) ((c .before .before .before .before .before .before .structs) .ensures) ((c .before .before .before .closed) .ensures) ((c .before .enum-told) .given .1))
 
 same-length-2 : tie.Need-same-length-2
 same-length-2 c = search needs

@@ -1,4 +1,5 @@
 use Rattle.calls.proofs.Laws.{read-within}
+use Rattle.second_pass.proofs.Laws.{unknown}
 use Rattle.serialize.proofs.Laws.{locate-whole, locate-found, locate-refused}
 use borrow.Author.Needs.{needs}
 use Rattle.serialize.proofs.locate_artifact.Statement.{statement}
@@ -14,7 +15,7 @@ slice-aggregate-deserialize : tie.Need-slice-aggregate-deserialize
 slice-aggregate-deserialize c = search needs
 
 deserialize-requires : tie.Need-deserialize-requires
-deserialize-requires c κs = search needs
+deserialize-requires c κs = (search needs, unknown)
 
 ended-requires : tie.Need-ended-requires
 ended-requires c κs = read-within ((c .before .before .before .opening-whole) .ensures) ((c .before .deserialize) .ensures)

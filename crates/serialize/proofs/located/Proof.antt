@@ -1,4 +1,4 @@
-use Rattle.serialize.proofs.Laws.{located-refused, located-counted, located-look}
+use Rattle.serialize.proofs.Laws.{whole-granted, located-refused, located-counted, located-look}
 use borrow.Author.Needs.{needs}
 use Rattle.serialize.proofs.located.Statement.{statement}
 use Rattle.serialize.proofs.located.Tie as tie
@@ -10,7 +10,7 @@ slice-aggregate-to-artifacts : tie.Need-slice-aggregate-to-artifacts
 slice-aggregate-to-artifacts c = search needs
 
 to-artifacts-requires : tie.Need-to-artifacts-requires
-to-artifacts-requires c κs = search needs
+to-artifacts-requires c κs = (search needs, whole-granted (c .before .before .before .pre))
 
 enum-known-at : tie.Need-enum-known-at
 enum-known-at c = search needs

@@ -1,4 +1,5 @@
-use Rattle.calls.proofs.Laws.{read-within, read-since, read-refused, read-taken}
+use Rattle.calls.proofs.Laws.{read-within, read-since, read-granted, read-refused, read-taken}
+use Rattle.second_pass.proofs.Laws.{unknown}
 use borrow.Author.Needs.{needs}
 use Rattle.serialize.proofs.read.Statement.{statement}
 use Rattle.serialize.proofs.read.Tie as tie
@@ -22,7 +23,7 @@ slice-aggregate-deserialize : tie.Need-slice-aggregate-deserialize
 slice-aggregate-deserialize c = search needs
 
 deserialize-requires : tie.Need-deserialize-requires
-deserialize-requires c κs = search needs
+deserialize-requires c κs = (search needs, unknown)
 
 closed-whole-requires : tie.Need-closed-whole-requires
 closed-whole-requires c κs = (read-within ((c .before .before .before .before .before .opening-whole) .ensures) ((c .before .before .deserialize) .ensures), read-since ((c .before .before .before .before .before .opening-whole) .ensures) ((c .before .before .deserialize) .ensures))
@@ -40,7 +41,7 @@ returns-2 : tie.Need-returns-2
 returns-2 c = read-refused ((c .before .before .before .before .before .before .before .before .opening-whole) .ensures) ((c .before .before .before .before .before .deserialize) .ensures) (search needs) ((c .before .before .closed-whole) .ensures) ((c .enum-told2) .given .1)
 
 deserialize-requires-2 : tie.Need-deserialize-requires-2
-deserialize-requires-2 c κs = search needs
+deserialize-requires-2 c κs = (search needs, read-granted ((c .before .before .before .before .before .before .before .before .before .opening-whole) .ensures) ((c .before .before .before .before .before .before .deserialize) .ensures) ((c .before .before .before .closed-whole) .ensures) ((c .before .enum-told) .given .1))
 
 same-length-3 : tie.Need-same-length-3
 same-length-3 c = search needs
