@@ -3,7 +3,10 @@ use Prim.Native.Nat.{ℕ, _+_, _≤_}
 use mathlib.Core.Path.{_≡_, refl, sym, _∙_}
 use mathlib.Core.List.{List}
 use native.Mathlib.Omega.{arith}
+use mathlib.Core.Bool.{true}
 use lib.ListN.{length}
+use lib.Dec.{leb}
+use borrow.Author.Tests.{le-leb}
 use Rattle.format.specs.Trace.{Settled, refused, taken, settle}
 use Rattle.format.specs.Format.{Value, pair, first, second, Format, seq, entries}
 use Rattle.format.specs.Reading.{little, part, trace}
@@ -14,10 +17,13 @@ use Rattle.vob24.specs.Grammar.{name, structs, interfaces, namedTypes, itabs, r
 use Rattle.vob24.specs.Cost.{partOf}
 use Rattle.items.specs.Contract.{Items}
 use Rattle.items.specs.Walk.{itemsAt, list-off}
-use Rattle.reader.specs.Contract.{Ready, ReadyAt, Reads, takes, refuses, Reader}
+use Rattle.reader.specs.Contract.{Ready, ReadyAt, Reads, takes, refuses, skips, Reader}
+use Rattle.reader.proofs.Laws.{fieldReads}
 use Rattle.reader.specs.declared.Cursor.{Cursor}
 use Rattle.reader.specs.declared.Step.{Step}
-use Rattle.reader.specs.declared.Step.the-variants.{Taken}
+use Rattle.reader.specs.declared.Refusal.{Refusal}
+use Rattle.reader.specs.declared.Step.the-variants.{Taken, Refused}
+use Rattle.deserialize.specs.Parts.{ComesTo}
 use Rattle.deserialize.specs.Reach.{On, Reaches}
 
 rest : {v₁ : Value} (t : Settled Value) {v : Value} {q l : ℕ} → thenS t (λ w r m. taken (pair v₁ w) r m) ≡ taken v q l → (v₁ ≡ first v) × (t ≡ taken (second v) q l)
@@ -38,6 +44,34 @@ on-next {f} {g} {s} {v} {q} {l} {r} {r′} {t} {t′} o k = go (rw (o .is) at (k
         let x = rest (settle (d .left) (trace (g v₁) s (d .place))) (rw (h .settles) at e) in
         record { cursor = d; is = refl; settles = rw (← (x .0)) (x .1) }
     go (refuses h) = let y = rw (h .settles) at e in let no : _≡_ {A = ℕ} 0 1 = cc in absurd (omega arith)
+
+-- ---- a reader of some of the sections
+
+comes-refused : {f g : Format} {s t : List ℕ} {x : Refusal} {q : Step} {t″ : List ℕ} → Reads g s (Refused x) t q t″ → Reads f s (Refused x) t q t″
+comes-refused skips = skips
+
+module _ {f g : Format} {s t : List ℕ} {r : Step} where
+  pub comes-not : {x : Refusal} → r ≡ Refused x → ComesTo f g s r t r t
+  comes-not e = rw e (record { rest = comes-refused; ready = tt })
+
+  pub comes-at : {c : Cursor} {q : Step} {t′ : List ℕ} → r ≡ Taken c → ComesTo f g s (Taken c) t q t′ → ComesTo f g s r t q t′
+  comes-at e k = rw e k
+
+  pub comesThen : {r′ q : Step} {t′ t″ : List ℕ} → ComesTo f g s r t r′ t′ → Reader g s r′ t′ q t″ → Reader f s r t q t″
+  comesThen c k = record { reads = c .rest (k .reads); ready = k .ready }
+
+-- an empty list is within any limit
+pub within-any : (n : ℕ) → leb 0 n ≡ true
+within-any n = le-leb 0 n (omega arith)
+
+-- one list after another
+pub comes-last : {f g : Format} {s t t′ : List ℕ} {r r′ : Step} → Reader f s r t r′ t′ → ComesTo (seq f (λ _. g)) g s r t r′ t′
+comes-last h = record { rest = λ k. fieldReads (h .reads) (λ _. k); ready = h .ready }
+
+pub comes-next : {f g e : Format} {s t t₁ t′ : List ℕ} {r r₁ r′ : Step} → Reader f s r t r₁ t₁ → ComesTo e g s r₁ t₁ r′ t′ → ComesTo (seq f (λ _. e)) g s r t r′ t′
+comes-next h c = record { rest = λ k. fieldReads (h .reads) (λ _. c .rest k); ready = c .ready }
+
+-- ---- the lookup
 
 -- at the artifacts: their entries are what stands there
 there : (n : ℕ) {s : List ℕ} {g : Value → Format} {v : Value} {q l : ℕ} {r : Step} → On (seq (section settings n artifacts) g) s v q l r → Ready s r

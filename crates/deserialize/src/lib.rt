@@ -3,12 +3,34 @@
 ghost use mathlib.Core.Bool.{true};
 ghost use Rattle.format.specs.Format.{Format, counted};
 ghost use Rattle.vob24.specs.Settings.{settings};
-ghost use Rattle.vob24.specs.Grammar.{afterFunctions, section, functions as functionsSection, sections as sectionsFormat, pack as packFormat};
+ghost use Rattle.vob24.specs.Grammar.{afterFunctions, section, functions as functionsSection, pack as packFormat};
 ghost use Rattle.reader.specs.Contract.{Ready, Reader};
 ghost use Rattle.second_pass.specs.Granted.{Granted};
+ghost use Rattle.deserialize.specs.Parts.{fromArtifacts, fromWellKnown, fromStructs, ComesTo};
 ghost use Rattle.deserialize.specs.Reach.{Reaches};
 use reader::Number;
 use reader::Step;
+
+// The artifacts and the debug information: five lists, which are empty in a small pack.
+fn artifacts_on(s: &[u8], r: Step, functions: u64, tape: &mut [u32]) -> Step
+    requires { ⌜ Ready (now s) r ⌝ }
+    ensures { λ q. ⌜ Reader (fromArtifacts functions) (now (s .entry)) r (now (tape .entry)) q (now (tape .exit)) ⌝ }
+{
+    let Step::Taken(c) = r else {
+        return r;
+    };
+    if empty_lists::five_at(s, c) {
+        let c1 = empty_lists::past(s, c, tape);
+        let c2 = empty_lists::past(s, c1, tape);
+        let c3 = empty_lists::past(s, c2, tape);
+        let c4 = empty_lists::past(s, c3, tape);
+        return Step::Taken(empty_lists::past(s, c4, tape));
+    }
+    let r1 = tables::artifacts(s, r, tape);
+    let r2 = debug_info::files(s, r1, tape);
+    let r3 = debug_info::function_locations(s, r2, tape);
+    debug_info::inline_sources(s, r3, functions, tape)
+}
 
 // The sections after the functions, by the number of functions.
 fn after_functions(s: &[u8], r: Step, functions: u64, tape: &mut [u32]) -> Step
@@ -18,10 +40,7 @@ fn after_functions(s: &[u8], r: Step, functions: u64, tape: &mut [u32]) -> Step
     let r1 = tables::externs(s, r, tape);
     let r2 = tables::entry(s, r1, tape);
     let r3 = tables::island_init(s, r2, tape);
-    let r4 = tables::artifacts(s, r3, tape);
-    let r5 = debug_info::files(s, r4, tape);
-    let r6 = debug_info::function_locations(s, r5, tape);
-    debug_info::inline_sources(s, r6, functions, tape)
+    artifacts_on(s, r3, functions, tape)
 }
 
 // The functions, and the sections after them.
@@ -39,21 +58,26 @@ fn functions_on(s: &[u8], r: Step, tape: &mut [u32]) -> Step
     after_functions(s, Step::Taken(d), n, tape)
 }
 
-// All sections, in file order.
-fn sections(s: &[u8], r: Step, again: bool, tape: &mut [u32]) -> Step
-    requires { ⌜ (Ready (now s) r) × (Granted again (sectionsFormat settings) (now s) r) ⌝ }
-    ensures { λ q. ⌜ Reader (sectionsFormat settings) (now (s .entry)) r (now (tape .entry)) q (now (tape .exit)) ⌝ }
+// The types: five lists, which are empty in a small pack.
+fn types(s: &[u8], r: Step, again: bool, tape: &mut [u32]) -> Step
+    requires { ⌜ (Ready (now s) r) × (Granted again fromStructs (now s) r) ⌝ }
+    ensures { λ q. ⌜ ComesTo fromStructs fromWellKnown (now (s .entry)) r (now (tape .entry)) q (now (tape .exit)) ⌝ }
 {
-    let r1 = fields::field_str(s, r, tape);
-    let r2 = structs::structs(s, r1, again, tape);
-    let r3 = interfaces::interfaces(s, r2, again, tape);
-    let r4 = named_types::named_types(s, r3, again, tape);
-    let r5 = tables::itabs(s, r4, tape);
-    let r6 = runtime_type::runtime_types(s, r5, again, tape);
-    let r7 = tables::well_known(s, r6, tape);
-    let r8 = constants::constants(s, r7, tape);
-    let r9 = tables::globals(s, r8, tape);
-    functions_on(s, r9, tape)
+    let Step::Taken(c) = r else {
+        return r;
+    };
+    if empty_lists::five_at(s, c) {
+        let c1 = empty_lists::past(s, c, tape);
+        let c2 = empty_lists::past(s, c1, tape);
+        let c3 = empty_lists::past(s, c2, tape);
+        let c4 = empty_lists::past(s, c3, tape);
+        return Step::Taken(empty_lists::past(s, c4, tape));
+    }
+    let r1 = structs::structs(s, r, again, tape);
+    let r2 = interfaces::interfaces(s, r1, again, tape);
+    let r3 = named_types::named_types(s, r2, again, tape);
+    let r4 = tables::itabs(s, r3, tape);
+    runtime_type::runtime_types(s, r4, again, tape)
 }
 
 // The whole pack, up to the question of what comes after it. A second pass leaves out the search for repeated names.
@@ -63,7 +87,12 @@ pub fn deserialize(s: &[u8], r: Step, again: bool, tape: &mut [u32]) -> Step
 {
     let r1 = fields::field_magic(s, r, tape);
     let r2 = fields::field_version(s, r1, tape);
-    sections(s, r2, again, tape)
+    let r3 = fields::field_str(s, r2, tape);
+    let r4 = types(s, r3, again, tape);
+    let r5 = tables::well_known(s, r4, tape);
+    let r6 = constants::constants(s, r5, tape);
+    let r7 = tables::globals(s, r6, tape);
+    functions_on(s, r7, tape)
 }
 
 // On to the artifacts of a pack that is taken.

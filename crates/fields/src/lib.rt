@@ -432,7 +432,7 @@ pub fn field_str(s: &[u8], r: Step, tape: &mut [u32]) -> Step
     let Step::Taken(c) = r else {
         return r;
     };
-    let q = payloads::read_string(s, c);
+    let q = payloads::read_string(s, c.place, c.left, c.at);
     let Text::Got(start, length, _, d) = q else {
         return reader::refused_text(q);
     };
@@ -507,7 +507,7 @@ pub fn span_str(s: &[u8], c: Cursor, tape: &mut [u32]) -> Payload
     requires { ⌜ ReadyAt (now s) c ⌝ }
     ensures { λ q. ⌜ SpanOf str (now (s .entry)) c (now (tape .entry)) q (now (tape .exit)) ⌝ }
 {
-    let q = payloads::read_string(s, c);
+    let q = payloads::read_string(s, c.place, c.left, c.at);
     let Text::Got(start, length, _, d) = q else {
         return reader::span(q);
     };

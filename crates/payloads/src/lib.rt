@@ -9,7 +9,7 @@ ghost use Rattle.vob24.specs.Settings.{settings, sizeOf, ModuleArtifact};
 ghost use Rattle.vob24.specs.Utf8.{wellFormed};
 ghost use Rattle.vob24.specs.Leaves.{free, limit};
 ghost use Rattle.vob24.specs.Grammar.{methodSize, noHostCalls};
-ghost use Rattle.reader.specs.Contract.{refusal, stepOf, payloadStep, textStep, ReadyAt};
+ghost use Rattle.reader.specs.Contract.{cursorAt, refusal, stepOf, payloadStep, textStep, ReadyAt};
 ghost use Rattle.reader.specs.Leaves.{Answers, CountAt, Counted, Spans, Bought, Texts, Checked};
 ghost use Rattle.reader.specs.declared.Payload.{Payload as PayloadAnswer};
 use reader::Cursor;
@@ -127,11 +127,12 @@ fn text(s: &[u8], start: usize, length: usize, d: Cursor) -> Text
     Text::Got(start, length, n, d)
 }
 
-pub fn read_string(s: &[u8], c: Cursor) -> Text
-    requires { ⌜ ReadyAt (now s) c ⌝ }
-    ensures { λ q. ⌜ Texts (Leaf.string free Refusals.byteString wellFormed) (now (s .entry)) c q ⌝ }
+// The cursor comes in registers: texts are read one by one, and each waits for the place that the one before it came to.
+pub fn read_string(s: &[u8], place: usize, left: u64, at: usize) -> Text
+    requires { ⌜ ReadyAt (now s) (cursorAt place left at) ⌝ }
+    ensures { λ q. ⌜ Texts (Leaf.string free Refusals.byteString wellFormed) (now (s .entry)) (cursorAt place left at) q ⌝ }
 {
-    let q = read_bytes(s, c);
+    let q = read_bytes(s, Cursor { place, left, at });
     let Payload::Got(start, length, d) = q else {
         return not_text(q);
     };

@@ -57,6 +57,10 @@ abbrev pub numberOf : ℕ → Step → Number
 numberOf n (Taken c) = Got n c
 numberOf n (Refused x) = Not x
 
+-- A cursor by its numbers: a reader that is called often takes these, in registers.
+abbrev pub cursorAt : ℕ → ℕ → ℕ → Cursor
+cursorAt p l i = record { place = p; left = l; at = i }
+
 -- A cursor from which sums cannot wrap: what a reader requires.
 pub record ReadyAt (s : List ℕ) (c : Cursor) : Type 0 where
   pub small : length s ≤ maxPackBytes

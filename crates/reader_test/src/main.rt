@@ -58,7 +58,8 @@ fn text(s: &[u8]) {
     if MOST < s.len() {
         return;
     }
-    match payloads::read_string(s, start()) {
+    let c = start();
+    match payloads::read_string(s, c.place, c.left, c.at) {
         Text::Got(_, _, n, d) => line(true, n as u64, d.place),
         Text::Not(x) => line(false, x.number, x.place),
     }

@@ -46,6 +46,9 @@ granted-ends {b} {f} {s} {c} i g = let k = g .is i in let e : k .cursor ≡ c = 
     go n (refused w p l) e = absurd (n (refusal w p l) (record { settles = e }))
     go n (taken v p l) e = (v, p, settle-taken (c .left) (trace f s (c .place)) v p l .0 e .0)
 
+pub granted-at : {b : Bool} {f : Format} {s : List ℕ} {r : Step} {c : Cursor} → r ≡ Taken c → Granted b f s r → Granted b f s (Taken c)
+granted-at e g = rw e at g
+
 module _ {b : Bool} {f : Format} {g : Value → Format} {s : List ℕ} {r : Step} where
   pub granted-first : Granted b (seq f g) s r → Granted b f s r
   granted-first = granted-part {t = []} (λ x h. fieldThen h (λ v. at-refused refl))

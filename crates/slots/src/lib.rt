@@ -7,7 +7,7 @@ ghost use Rattle.vob24.specs.Settings.{settings};
 ghost use Rattle.vob24.specs.Refusals.{invalidSlotType};
 ghost use Rattle.vob24.specs.Leaves.{atMost};
 ghost use Rattle.vob24.specs.Grammar.{slotTypes};
-ghost use Rattle.reader.specs.Contract.{Ready, ReadyAt, Reader, NumberOf};
+ghost use Rattle.reader.specs.Contract.{cursorAt, Ready, ReadyAt, Reader, NumberOf};
 ghost use Rattle.reader.specs.Leaves.{Answers};
 ghost use Rattle.slots.specs.Past.{past};
 use reader::Cursor;
@@ -45,20 +45,20 @@ fn item(s: &[u8], c: Cursor) -> Number
     leaves::read_small(s, d, 5, numbers::INVALID_SLOT_TYPE)
 }
 
-// Hands out how many they are. The budget and the count are looked at before the leaf asks, so that the compiler drops the leaf's refusals
+// The cursor comes in registers, as for texts. The budget and the count are looked at before the leaf asks, so that the compiler drops the leaf's refusals
 // here. `number_any` is called with copies: what is lent to it, or is its answer, stands in memory and not in registers, also where it is
 // not called.
-pub fn number_slot_types(s: &[u8], c: Cursor, tape: &mut [u32]) -> Number
-    requires { ⌜ ReadyAt (now s) c ⌝ }
-    ensures { λ q. ⌜ NumberOf (slotTypes settings) counted (now (s .entry)) c (now (tape .entry)) q (now (tape .exit)) ⌝ }
+fn number_at(s: &[u8], place: usize, left: u64, at: usize, tape: &mut [u32]) -> Number
+    requires { ⌜ ReadyAt (now s) (cursorAt place left at) ⌝ }
+    ensures { λ q. ⌜ NumberOf (slotTypes settings) counted (now (s .entry)) (cursorAt place left at) (now (tape .entry)) q (now (tape .exit)) ⌝ }
 {
-    if c.left < 2 {
+    let c = Cursor { place, left, at };
+    if left < 2 {
         let pack = s;
         let start = c;
         let any = number_any(pack, start, tape);
         return any;
     }
-    let place = c.place;
     if 4 <= s.len() - place {
         let count = reader::le4([s[place], s[place + 1], s[place + 2], s[place + 3]]);
         if count == 1 {
@@ -94,6 +94,14 @@ pub fn number_slot_types(s: &[u8], c: Cursor, tape: &mut [u32]) -> Number
     let start = c;
     let any = number_any(pack, start, tape);
     any
+}
+
+// Hands out how many they are.
+pub fn number_slot_types(s: &[u8], c: Cursor, tape: &mut [u32]) -> Number
+    requires { ⌜ ReadyAt (now s) c ⌝ }
+    ensures { λ q. ⌜ NumberOf (slotTypes settings) counted (now (s .entry)) c (now (tape .entry)) q (now (tape .exit)) ⌝ }
+{
+    number_at(s, c.place, c.left, c.at, tape)
 }
 
 pub fn slot_types(s: &[u8], r: Step, tape: &mut [u32]) -> Step

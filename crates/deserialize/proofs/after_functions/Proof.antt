@@ -1,5 +1,5 @@
-use Rattle.reader.proofs.Laws.{fieldThen}
 use Rattle.vob24.specs.Grammar.{section, afterFunctions}
+use Rattle.reader.proofs.Laws.{fieldThen}
 use borrow.Author.Needs.{needs}
 use Rattle.deserialize.proofs.after_functions.Statement.{statement}
 use Rattle.deserialize.proofs.after_functions.Tie as tie
@@ -13,24 +13,15 @@ entry-requires c κs = search needs
 island-init-requires : tie.Need-island-init-requires
 island-init-requires c κs = search needs
 
-artifacts-requires : tie.Need-artifacts-requires
-artifacts-requires c κs = search needs
-
-files-requires : tie.Need-files-requires
-files-requires c κs = search needs
-
-function-locations-requires : tie.Need-function-locations-requires
-function-locations-requires c κs = search needs
-
-inline-sources-requires : tie.Need-inline-sources-requires
-inline-sources-requires c κs = search needs
+artifacts-on-requires : tie.Need-artifacts-on-requires
+artifacts-on-requires c κs = search needs
 
 same-length : tie.Need-same-length
 same-length c = search needs
 
 returns : tie.Need-returns
 unfolding section afterFunctions
-returns c = fieldThen ((c .before .before .before .before .before .before .before .before .before .before .before .before .before .before .before .before .before .before .before .before .before .before .before .before .before .before .externs) .ensures) (λ _. fieldThen ((c .before .before .before .before .before .before .before .before .before .before .before .before .before .before .before .before .before .before .before .before .before .before .entry) .ensures) (λ _. fieldThen ((c .before .before .before .before .before .before .before .before .before .before .before .before .before .before .before .before .before .before .island-init) .ensures) (λ _. fieldThen ((c .before .before .before .before .before .before .before .before .before .before .before .before .before .before .artifacts) .ensures) (λ _. fieldThen ((c .before .before .before .before .before .before .before .before .before .before .files) .ensures) (λ _. fieldThen ((c .before .before .before .before .before .before .function-locations) .ensures) (λ _. (c .before .before .inline-sources) .ensures))))))
+returns c = fieldThen ((c .before .before .before .before .before .before .before .before .before .before .before .before .before .before .externs) .ensures) (λ _. fieldThen ((c .before .before .before .before .before .before .before .before .before .before .entry) .ensures) (λ _. fieldThen ((c .before .before .before .before .before .before .island-init) .ensures) (λ _. (c .before .before .artifacts-on) .ensures)))
 
 pub after-functions-spec : {M : Type 1} → statement M
 after-functions-spec =
@@ -39,9 +30,6 @@ after-functions-spec =
     externs-requires
     entry-requires
     island-init-requires
-    artifacts-requires
-    files-requires
-    function-locations-requires
-    inline-sources-requires
+    artifacts-on-requires
     same-length
     returns)

@@ -1,6 +1,7 @@
-use Rattle.reader.proofs.Reading.{reading}
 use Rattle.vob24.specs.Grammar.{section, sections, pack}
+use Rattle.reader.proofs.Laws.{fieldThen}
 use Rattle.second_pass.proofs.Laws.{granted-next}
+use Rattle.deserialize.proofs.Laws.{comesThen}
 use borrow.Author.Needs.{needs}
 use Rattle.deserialize.proofs.deserialize.Statement.{statement}
 use Rattle.deserialize.proofs.deserialize.Tie as tie
@@ -11,18 +12,43 @@ field-magic-requires c κs = search needs
 field-version-requires : tie.Need-field-version-requires
 field-version-requires c κs = search needs
 
-sections-requires : tie.Need-sections-requires
-unfolding pack
-sections-requires c κs = (search needs, granted-next ((c .before .before .before .field-version) .ensures) (granted-next ((c .before .before .before .before .before .before .before .field-magic) .ensures) ((c .before .before .before .before .before .before .before .before .before .before .before .pre) .1)))
+field-str-requires : tie.Need-field-str-requires
+field-str-requires c κs = search needs
+
+types-requires : tie.Need-types-requires
+unfolding section sections pack
+types-requires c κs = (search needs, granted-next ((c .before .before .before .field-str) .ensures) (granted-next ((c .before .before .before .before .before .before .before .field-version) .ensures) (granted-next ((c .before .before .before .before .before .before .before .before .before .before .before .field-magic) .ensures) ((c .before .before .before .before .before .before .before .before .before .before .before .before .before .before .before .pre) .1))))
+
+well-known-requires : tie.Need-well-known-requires
+well-known-requires c κs = search needs
+
+constants-requires : tie.Need-constants-requires
+constants-requires c κs = search needs
+
+globals-requires : tie.Need-globals-requires
+globals-requires c κs = search needs
+
+functions-on-requires : tie.Need-functions-on-requires
+functions-on-requires c κs = search needs
 
 same-length : tie.Need-same-length
-same-length c = search needs
+same-length c = search (needs, (c .before .before .before .before .before .before .before .before .before .before .before .before .before .before .before .before .before .before .before .before .before .before .before .before .before .before .before .before .before .tape) .given, (c .before .before .before .before .before .before .before .before .before .before .before .before .before .before .before .before .before .before .before .before .before .before .before .before .before .tape2) .given, (c .before .before .before .before .before .before .before .before .before .before .before .before .before .before .before .before .before .before .before .before .before .tape3) .given, (c .before .before .before .before .before .before .before .before .before .before .before .before .before .before .before .before .before .tape4) .given, (c .before .before .before .before .before .before .before .before .before .before .before .before .before .tape5) .given, (c .before .before .before .before .before .before .before .before .before .tape6) .given, (c .before .before .before .before .before .tape7) .given, (c .before .tape8) .given)
 
 returns : tie.Need-returns
 unfolding section sections pack
-returns c = search (needs, reading)
+returns c = fieldThen ((c .before .before .before .before .before .before .before .before .before .before .before .before .before .before .before .before .before .before .before .before .before .before .before .before .before .before .before .before .before .before .field-magic) .ensures) (λ _. fieldThen ((c .before .before .before .before .before .before .before .before .before .before .before .before .before .before .before .before .before .before .before .before .before .before .before .before .before .before .field-version) .ensures) (λ _. fieldThen ((c .before .before .before .before .before .before .before .before .before .before .before .before .before .before .before .before .before .before .before .before .before .before .field-str) .ensures) (λ _. comesThen ((c .before .before .before .before .before .before .before .before .before .before .before .before .before .before .before .before .before .before .types) .ensures) (fieldThen ((c .before .before .before .before .before .before .before .before .before .before .before .before .before .before .well-known) .ensures) (λ _. fieldThen ((c .before .before .before .before .before .before .before .before .before .before .constants) .ensures) (λ _. fieldThen ((c .before .before .before .before .before .before .globals) .ensures) (λ _. (c .before .before .functions-on) .ensures)))))))
 
 pub deserialize-spec : {M : Type 1} → statement M
 deserialize-spec =
     tie.close
-    (tie.spec field-magic-requires field-version-requires sections-requires same-length returns)
+    (tie.spec
+    field-magic-requires
+    field-version-requires
+    field-str-requires
+    types-requires
+    well-known-requires
+    constants-requires
+    globals-requires
+    functions-on-requires
+    same-length
+    returns)

@@ -1,0 +1,37 @@
+// Five lists, one after the other, that are all empty: a small pack has no types, or no artifacts and debug information. They are read at once.
+// The Rust has none of these; it reads each by `read_vec` of serialize.rs.
+ghost use mathlib.Core.Bool.{true};
+ghost use mathlib.Core.Path.{_≡_};
+ghost use Rattle.reader.specs.Contract.{ReadyAt};
+ghost use Rattle.empty_lists.specs.Empty.{Five, PastEmpty};
+use reader::Cursor;
+
+// Are the five lists from c on empty?
+pub fn five_at(s: &[u8], c: Cursor) -> bool
+    requires { ⌜ ReadyAt (now s) c ⌝ }
+    ensures { λ q. ⌜ (q ≡ true → Five (now (s .entry)) (c .place)) ⌝ }
+{
+    let p = c.place;
+    if s.len() - p < 20 {
+        return false;
+    }
+    let first = items::word_at(s, p);
+    let second = items::word_at(s, p + 4);
+    let third = items::word_at(s, p + 8);
+    let fourth = items::word_at(s, p + 12);
+    let fifth = items::word_at(s, p + 16);
+    first + second + third + fourth + fifth == 0
+}
+
+// An empty list: its count, and no item.
+pub fn past(s: &[u8], c: Cursor, tape: &mut [u32]) -> Cursor
+    requires { ⌜ ReadyAt (now s) c ⌝ }
+    ensures { λ d. ⌜ PastEmpty c (now (tape .entry)) d (now (tape .exit)) ⌝ }
+{
+    let d = reader::keep(c, 0, tape);
+    Cursor {
+        place: c.place + 4,
+        left: c.left,
+        at: d.at,
+    }
+}
