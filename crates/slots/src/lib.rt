@@ -111,5 +111,5 @@ pub fn slot_types(s: &[u8], r: Step, tape: &mut [u32]) -> Step
     let Step::Taken(c) = r else {
         return r;
     };
-    reader::refused(number_slot_types(s, c, tape))
+    reader::refused(number_at(s, c.place, c.left, c.at, tape))
 }

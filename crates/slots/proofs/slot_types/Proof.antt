@@ -1,4 +1,5 @@
 use Rattle.reader.proofs.Reading.{reading}
+use Rattle.reader.proofs.Laws.{at-step, numberJust}
 use borrow.Author.Needs.{needs}
 use Rattle.slots.proofs.slot_types.Statement.{statement}
 use Rattle.slots.proofs.slot_types.Tie as tie
@@ -12,8 +13,8 @@ enum-told c = search needs
 returns : tie.Need-returns
 returns c = search (needs, reading)
 
-number-slot-types-requires : tie.Need-number-slot-types-requires
-number-slot-types-requires c κs = search (needs, reading)
+number-at-requires : tie.Need-number-at-requires
+number-at-requires c κs = search (needs, reading)
 
 refused-requires : tie.Need-refused-requires
 refused-requires c κs = search needs
@@ -22,7 +23,7 @@ same-length : tie.Need-same-length
 same-length c = search needs
 
 returns-2 : tie.Need-returns-2
-returns-2 c = search (needs, reading)
+returns-2 c = at-step ((c .before .before .before .before .before .before .r) .given .1) (numberJust ((c .refused) .ensures) ((c .before .before .before .number-at) .ensures))
 
 pub slot-types-spec : {M : Type 1} → statement M
 slot-types-spec =
@@ -31,7 +32,7 @@ slot-types-spec =
     enum-known-r
     enum-told
     returns
-    number-slot-types-requires
+    number-at-requires
     refused-requires
     same-length
     returns-2)
