@@ -20,11 +20,7 @@ fn artifacts_on(s: &[u8], r: Step, functions: u64, tape: &mut [u32]) -> Step
         return r;
     };
     if empty_lists::five_at(s, c) {
-        let c1 = empty_lists::past(s, c, tape);
-        let c2 = empty_lists::past(s, c1, tape);
-        let c3 = empty_lists::past(s, c2, tape);
-        let c4 = empty_lists::past(s, c3, tape);
-        return Step::Taken(empty_lists::past(s, c4, tape));
+        return Step::Taken(empty_lists::past_five(s, c, tape));
     }
     let r1 = tables::artifacts(s, r, tape);
     let r2 = debug_info::files(s, r1, tape);
@@ -67,11 +63,7 @@ fn types(s: &[u8], r: Step, again: bool, tape: &mut [u32]) -> Step
         return r;
     };
     if empty_lists::five_at(s, c) {
-        let c1 = empty_lists::past(s, c, tape);
-        let c2 = empty_lists::past(s, c1, tape);
-        let c3 = empty_lists::past(s, c2, tape);
-        let c4 = empty_lists::past(s, c3, tape);
-        return Step::Taken(empty_lists::past(s, c4, tape));
+        return Step::Taken(empty_lists::past_five(s, c, tape));
     }
     let r1 = structs::structs(s, r, again, tape);
     let r2 = interfaces::interfaces(s, r1, again, tape);

@@ -2,12 +2,12 @@
 use Prim.Native.Nat.{ℕ, _+_, _-_, _*_, _≤_}
 use mathlib.Core.Path.{_≡_, refl, ap, _∙_}
 use mathlib.Core.List.{List}
-use mathlib.Core.Bool.{Bool, true}
+use mathlib.Core.Bool.{true}
 use native.Mathlib.Omega.{arith}
-use lib.ListN.{length, set}
+use lib.ListN.{length}
 use Rattle.format.specs.Trace.{settle, taken, end}
 use Rattle.format.specs.Format.{Value, num, number, Rule, count, Format, leaf, seq, chain, times}
-use Rattle.format.specs.Reading.{little, part, traceLeaf, trace}
+use Rattle.format.specs.Reading.{traceLeaf, trace}
 use Rattle.format.specs.Record.{words, wordsLeaf}
 use Rattle.reader.specs.Contract.{ReadyAt, Takes, Reader, Kept}
 use Rattle.reader.specs.declared.Cursor.{Cursor}
@@ -15,7 +15,7 @@ use Rattle.reader.specs.declared.Step.the-variants.{Taken}
 use Rattle.reader.proofs.Settles.{guard-yes, room-yes, field-yes, pay-yes}
 use Rattle.reader.proofs.Laws.{thenReads, chained-start, chained-done}
 use Rattle.items.specs.Contract.{WordIs}
-use Rattle.empty_lists.specs.Empty.{Zero, Five, PastEmpty}
+use Rattle.empty_lists.specs.Empty.{Zero, Five, PastEmpty, PastFive}
 
 -- the answers of `five_at` and `past`
 pub five-of : {s : List ℕ} {p a b c d e : ℕ} → p ≤ length s → 20 ≤ length s - p → WordIs s p a → WordIs s (p + 4) b → WordIs s (p + 8) c → WordIs s (p + 12) d → WordIs s (p + 16) e → a + b + c + d + e ≡ 0 → Five s p
@@ -51,17 +51,17 @@ module _ {s : List ℕ} {c d : Cursor} {t t′ : List ℕ} (r : ReadyAt s c) (o 
   unfolding trace words wordsLeaf
   zero-takes ρ m k z i = rw (p .is, p .writes) (record { settles = zero-settles ρ m k z s (c .place) (c .left) o i; moves = refl; writes = refl })
 
-  pub past-ready : ReadyAt s d
+  past-ready : ReadyAt s d
   past-ready = rw (p .is) (record { small = r .small; within = o .room; behind = omega (arith, r .behind) })
 
   -- a list whose items go by a state
-  pub emptyChain : {S : Type 0} (f : S → Format) (u : S → Value → S) (x : S) {ρ : Rule} {m k z : ℕ} → ρ .test 0 ≡ true → Reader (seq (leaf (count ρ m k z)) (λ v. chain f u x (number v))) s (Taken c) t (Taken d) t′
+  emptyChain : {S : Type 0} (f : S → Format) (u : S → Value → S) (x : S) {ρ : Rule} {m k z : ℕ} → ρ .test 0 ≡ true → Reader (seq (leaf (count ρ m k z)) (λ v. chain f u x (number v))) s (Taken c) t (Taken d) t′
   emptyChain f u x {ρ} {m} {k} {z} i =
       let h : Reader (chain f u x 0) s (Taken d) t′ (Taken d) t′ = chained-done (omega arith) (chained-start past-ready) in
       record { reads = thenReads (zero-takes ρ m k z i) (h .reads); ready = past-ready }
 
   -- a list of like items
-  pub emptyRead : (f : Format) {ρ : Rule} {m k z : ℕ} → ρ .test 0 ≡ true → Reader (seq (leaf (count ρ m k z)) (λ v. times f (number v))) s (Taken c) t (Taken d) t′
+  emptyRead : (f : Format) {ρ : Rule} {m k z : ℕ} → ρ .test 0 ≡ true → Reader (seq (leaf (count ρ m k z)) (λ v. times f (number v))) s (Taken c) t (Taken d) t′
   emptyRead f i = emptyChain {S = Unit {0}} (λ _. f) (λ _ _. tt) tt i
 
 -- five of them, one after the other
@@ -69,26 +69,43 @@ module _ {s : List ℕ} {c : Cursor} {t : List ℕ} (r : ReadyAt s c) (o : Five 
   pub ready-1 : ReadyAt s c₁
   ready-1 = past-ready r (o .first) p₁
 
-  pub zero-1 : Zero s (c₁ .place)
+  zero-1 : Zero s (c₁ .place)
   zero-1 = rw (p₁ .is) (o .second)
 
   module _ {c₂ : Cursor} {t₂ : List ℕ} (p₂ : PastEmpty c₁ t₁ c₂ t₂) where
     pub ready-2 : ReadyAt s c₂
     ready-2 = past-ready ready-1 zero-1 p₂
 
-    pub zero-2 : Zero s (c₂ .place)
+    zero-2 : Zero s (c₂ .place)
     zero-2 = rw (p₂ .is, p₁ .is) (o .third)
 
     module _ {c₃ : Cursor} {t₃ : List ℕ} (p₃ : PastEmpty c₂ t₂ c₃ t₃) where
       pub ready-3 : ReadyAt s c₃
       ready-3 = past-ready ready-2 zero-2 p₃
 
-      pub zero-3 : Zero s (c₃ .place)
+      zero-3 : Zero s (c₃ .place)
       zero-3 = rw (p₃ .is, p₂ .is, p₁ .is) (o .fourth)
 
       module _ {c₄ : Cursor} {t₄ : List ℕ} (p₄ : PastEmpty c₃ t₃ c₄ t₄) where
         pub ready-4 : ReadyAt s c₄
         ready-4 = past-ready ready-3 zero-3 p₄
 
-        pub zero-4 : Zero s (c₄ .place)
+        zero-4 : Zero s (c₄ .place)
         zero-4 = rw (p₄ .is, p₃ .is, p₂ .is, p₁ .is) (o .fifth)
+
+-- each of the five, as a reader of a list
+module _ {s : List ℕ} {c d : Cursor} {t t′ : List ℕ} (r : ReadyAt s c) (o : Five s (c .place)) (p : PastFive c t d t′) where
+  pub emptyFirst : (f : Format) {ρ : Rule} {m k z : ℕ} → ρ .test 0 ≡ true → Reader (seq (leaf (count ρ m k z)) (λ v. times f (number v))) s (Taken c) t (Taken (p .c₁)) (p .t₁)
+  emptyFirst f i = emptyRead r (o .first) (p .first) f i
+
+  pub emptySecond : (f : Format) {ρ : Rule} {m k z : ℕ} → ρ .test 0 ≡ true → Reader (seq (leaf (count ρ m k z)) (λ v. times f (number v))) s (Taken (p .c₁)) (p .t₁) (Taken (p .c₂)) (p .t₂)
+  emptySecond f i = emptyRead (ready-1 r o (p .first)) (zero-1 r o (p .first)) (p .second) f i
+
+  pub emptyThird : (f : Format) {ρ : Rule} {m k z : ℕ} → ρ .test 0 ≡ true → Reader (seq (leaf (count ρ m k z)) (λ v. times f (number v))) s (Taken (p .c₂)) (p .t₂) (Taken (p .c₃)) (p .t₃)
+  emptyThird f i = emptyRead (ready-2 r o (p .first) (p .second)) (zero-2 r o (p .first) (p .second)) (p .third) f i
+
+  pub emptyFourth : (f : Format) {ρ : Rule} {m k z : ℕ} → ρ .test 0 ≡ true → Reader (seq (leaf (count ρ m k z)) (λ v. times f (number v))) s (Taken (p .c₃)) (p .t₃) (Taken (p .c₄)) (p .t₄)
+  emptyFourth f i = emptyRead (ready-3 r o (p .first) (p .second) (p .third)) (zero-3 r o (p .first) (p .second) (p .third)) (p .fourth) f i
+
+  pub emptyFifth : {S : Type 0} (f : S → Format) (u : S → Value → S) (x : S) {ρ : Rule} {m k z : ℕ} → ρ .test 0 ≡ true → Reader (seq (leaf (count ρ m k z)) (λ v. chain f u x (number v))) s (Taken (p .c₄)) (p .t₄) (Taken d) t′
+  emptyFifth f u x i = emptyChain (ready-4 r o (p .first) (p .second) (p .third) (p .fourth)) (zero-4 r o (p .first) (p .second) (p .third) (p .fourth)) (p .fifth) f u x i

@@ -23,3 +23,19 @@ pub record Five (s : List ℕ) (p : ℕ) : Type 0 where
 pub record PastEmpty (c : Cursor) (t : List ℕ) (d : Cursor) (t′ : List ℕ) : Type 0 where
   pub is : d ≡ record { place = c .place + 4; left = c .left; at = c .at + 1 }
   pub writes : t′ ≡ set t (c .at) 0
+
+-- The same past five of them.
+pub record PastFive (c : Cursor) (t : List ℕ) (d : Cursor) (t′ : List ℕ) : Type 0 where
+  pub c₁ : Cursor
+  pub c₂ : Cursor
+  pub c₃ : Cursor
+  pub c₄ : Cursor
+  pub t₁ : List ℕ
+  pub t₂ : List ℕ
+  pub t₃ : List ℕ
+  pub t₄ : List ℕ
+  pub first : PastEmpty c t c₁ t₁
+  pub second : PastEmpty c₁ t₁ c₂ t₂
+  pub third : PastEmpty c₂ t₂ c₃ t₃
+  pub fourth : PastEmpty c₃ t₃ c₄ t₄
+  pub fifth : PastEmpty c₄ t₄ d t′

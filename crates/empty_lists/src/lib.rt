@@ -3,7 +3,7 @@
 ghost use mathlib.Core.Bool.{true};
 ghost use mathlib.Core.Path.{_≡_};
 ghost use Rattle.reader.specs.Contract.{ReadyAt};
-ghost use Rattle.empty_lists.specs.Empty.{Five, PastEmpty};
+ghost use Rattle.empty_lists.specs.Empty.{Five, PastEmpty, PastFive};
 use reader::Cursor;
 
 // Are the five lists from c on empty?
@@ -24,7 +24,7 @@ pub fn five_at(s: &[u8], c: Cursor) -> bool
 }
 
 // An empty list: its count, and no item.
-pub fn past(s: &[u8], c: Cursor, tape: &mut [u32]) -> Cursor
+fn past(s: &[u8], c: Cursor, tape: &mut [u32]) -> Cursor
     requires { ⌜ ReadyAt (now s) c ⌝ }
     ensures { λ d. ⌜ PastEmpty c (now (tape .entry)) d (now (tape .exit)) ⌝ }
 {
@@ -34,4 +34,16 @@ pub fn past(s: &[u8], c: Cursor, tape: &mut [u32]) -> Cursor
         left: c.left,
         at: d.at,
     }
+}
+
+// Five of them.
+pub fn past_five(s: &[u8], c: Cursor, tape: &mut [u32]) -> Cursor
+    requires { ⌜ (ReadyAt (now s) c) × (Five (now s) (c .place)) ⌝ }
+    ensures { λ d. ⌜ PastFive c (now (tape .entry)) d (now (tape .exit)) ⌝ }
+{
+    let c1 = past(s, c, tape);
+    let c2 = past(s, c1, tape);
+    let c3 = past(s, c2, tape);
+    let c4 = past(s, c3, tape);
+    past(s, c4, tape)
 }

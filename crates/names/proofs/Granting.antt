@@ -13,7 +13,7 @@ use Rattle.reader.specs.declared.Step.{Step}
 use Rattle.reader.specs.declared.Step.the-variants.{Taken, Refused}
 use Rattle.reader.proofs.Asks.{asks-then, asks-not, asks-none, asks-deny, asks-poor, asks-paid}
 use Rattle.items.specs.declared.Table.{Table}
-use Rattle.items.specs.Walk.{valueAt, nextAt, itemsAt, lastAt, items-snoc, items-nil, last-snoc}
+use Rattle.items.specs.Walk.{valueAt, itemsAt, lastAt, items-snoc, items-nil, last-snoc}
 use Rattle.items.specs.Tables.{formatIn}
 use Rattle.items.specs.Contract.{over, ListAsked}
 use Rattle.items.proofs.Asking.{apart}

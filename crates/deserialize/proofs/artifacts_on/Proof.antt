@@ -5,7 +5,7 @@ use Rattle.vob24.specs.Settings.{settings}
 use Rattle.vob24.specs.Leaves.{str}
 use Rattle.vob24.specs.Grammar.{section, list, artifact, location, frame, inlineFunction, stillLeft, inlineFrames, inlineFunctions}
 use Rattle.reader.proofs.Laws.{fieldThen, at-step, at-refused, ready-at}
-use Rattle.empty_lists.proofs.Laws.{emptyRead, emptyChain, ready-1, zero-1, ready-2, zero-2, ready-3, zero-3, ready-4, zero-4}
+use Rattle.empty_lists.proofs.Laws.{emptyFirst, emptySecond, emptyThird, emptyFourth, emptyFifth}
 use Rattle.deserialize.proofs.Laws.{within-any}
 use borrow.Author.Needs.{needs}
 use Rattle.deserialize.proofs.artifacts_on.Statement.{statement}
@@ -21,29 +21,17 @@ returns : tie.Need-returns
 returns c = at-refused ((c .enum-told) .given .1)
 
 five-at-requires : tie.Need-five-at-requires
-five-at-requires c κs = (ready-at ((c .before .r) .given .1) (c .before .before .before .before .before .pre))
+five-at-requires c κs = ready-at ((c .before .r) .given .1) (c .before .before .before .before .before .pre)
 
-past-requires : tie.Need-past-requires
-past-requires c κs = (ready-at ((c .before .before .before .before .r) .given .1) (c .before .before .before .before .before .before .before .before .pre))
-
-past-requires-2 : tie.Need-past-requires-2
-past-requires-2 c κs = ready-1 (ready-at ((c .before .before .before .before .before .before .before .before .r) .given .1) (c .before .before .before .before .before .before .before .before .before .before .before .before .pre)) ((c .before .before .before .before .before .before .five-at) .ensures ((c .before .before .before .before .before .if1) .taken)) ((c .before .before .before .past) .ensures)
-
-past-requires-3 : tie.Need-past-requires-3
-past-requires-3 c κs = ready-2 (ready-at ((c .before .before .before .before .before .before .before .before .before .before .before .before .r) .given .1) (c .before .before .before .before .before .before .before .before .before .before .before .before .before .before .before .before .pre)) ((c .before .before .before .before .before .before .before .before .before .before .five-at) .ensures ((c .before .before .before .before .before .before .before .before .before .if1) .taken)) ((c .before .before .before .before .before .before .before .past) .ensures) ((c .before .before .before .past2) .ensures)
-
-past-requires-4 : tie.Need-past-requires-4
-past-requires-4 c κs = ready-3 (ready-at ((c .before .before .before .before .before .before .before .before .before .before .before .before .before .before .before .before .r) .given .1) (c .before .before .before .before .before .before .before .before .before .before .before .before .before .before .before .before .before .before .before .before .pre)) ((c .before .before .before .before .before .before .before .before .before .before .before .before .before .before .five-at) .ensures ((c .before .before .before .before .before .before .before .before .before .before .before .before .before .if1) .taken)) ((c .before .before .before .before .before .before .before .before .before .before .before .past) .ensures) ((c .before .before .before .before .before .before .before .past2) .ensures) ((c .before .before .before .past3) .ensures)
-
-past-requires-5 : tie.Need-past-requires-5
-past-requires-5 c κs = ready-4 (ready-at ((c .before .before .before .before .before .before .before .before .before .before .before .before .before .before .before .before .before .before .before .before .r) .given .1) (c .before .before .before .before .before .before .before .before .before .before .before .before .before .before .before .before .before .before .before .before .before .before .before .before .pre)) ((c .before .before .before .before .before .before .before .before .before .before .before .before .before .before .before .before .before .before .five-at) .ensures ((c .before .before .before .before .before .before .before .before .before .before .before .before .before .before .before .before .before .if1) .taken)) ((c .before .before .before .before .before .before .before .before .before .before .before .before .before .before .before .past) .ensures) ((c .before .before .before .before .before .before .before .before .before .before .before .past2) .ensures) ((c .before .before .before .before .before .before .before .past3) .ensures) ((c .before .before .before .past4) .ensures)
+past-five-requires : tie.Need-past-five-requires
+past-five-requires c κs = ((ready-at ((c .before .before .before .before .r) .given .1) (c .before .before .before .before .before .before .before .before .pre)), ((c .before .before .five-at) .ensures ((c .before .if1) .taken)))
 
 same-length : tie.Need-same-length
 same-length c = search needs
 
 returns-2 : tie.Need-returns-2
 unfolding section inlineFrames inlineFunctions
-returns-2 c = at-step ((c .before .before .before .before .before .before .before .before .before .before .before .before .before .before .before .before .before .before .before .before .before .before .before .r) .given .1) (fieldThen (emptyRead (ready-at ((c .before .before .before .before .before .before .before .before .before .before .before .before .before .before .before .before .before .before .before .before .before .before .before .r) .given .1) (c .before .before .before .before .before .before .before .before .before .before .before .before .before .before .before .before .before .before .before .before .before .before .before .before .before .before .before .pre)) (((c .before .before .before .before .before .before .before .before .before .before .before .before .before .before .before .before .before .before .before .before .before .five-at) .ensures ((c .before .before .before .before .before .before .before .before .before .before .before .before .before .before .before .before .before .before .before .before .if1) .taken)) .first) ((c .before .before .before .before .before .before .before .before .before .before .before .before .before .before .before .before .before .before .past) .ensures) (artifact settings) refl) (λ _. fieldThen (emptyRead (ready-1 (ready-at ((c .before .before .before .before .before .before .before .before .before .before .before .before .before .before .before .before .before .before .before .before .before .before .before .r) .given .1) (c .before .before .before .before .before .before .before .before .before .before .before .before .before .before .before .before .before .before .before .before .before .before .before .before .before .before .before .pre)) ((c .before .before .before .before .before .before .before .before .before .before .before .before .before .before .before .before .before .before .before .before .before .five-at) .ensures ((c .before .before .before .before .before .before .before .before .before .before .before .before .before .before .before .before .before .before .before .before .if1) .taken)) ((c .before .before .before .before .before .before .before .before .before .before .before .before .before .before .before .before .before .before .past) .ensures)) (zero-1 (ready-at ((c .before .before .before .before .before .before .before .before .before .before .before .before .before .before .before .before .before .before .before .before .before .before .before .r) .given .1) (c .before .before .before .before .before .before .before .before .before .before .before .before .before .before .before .before .before .before .before .before .before .before .before .before .before .before .before .pre)) ((c .before .before .before .before .before .before .before .before .before .before .before .before .before .before .before .before .before .before .before .before .before .five-at) .ensures ((c .before .before .before .before .before .before .before .before .before .before .before .before .before .before .before .before .before .before .before .before .if1) .taken)) ((c .before .before .before .before .before .before .before .before .before .before .before .before .before .before .before .before .before .before .past) .ensures)) ((c .before .before .before .before .before .before .before .before .before .before .before .before .before .before .past2) .ensures) str refl) (λ _. fieldThen (emptyRead (ready-2 (ready-at ((c .before .before .before .before .before .before .before .before .before .before .before .before .before .before .before .before .before .before .before .before .before .before .before .r) .given .1) (c .before .before .before .before .before .before .before .before .before .before .before .before .before .before .before .before .before .before .before .before .before .before .before .before .before .before .before .pre)) ((c .before .before .before .before .before .before .before .before .before .before .before .before .before .before .before .before .before .before .before .before .before .five-at) .ensures ((c .before .before .before .before .before .before .before .before .before .before .before .before .before .before .before .before .before .before .before .before .if1) .taken)) ((c .before .before .before .before .before .before .before .before .before .before .before .before .before .before .before .before .before .before .past) .ensures) ((c .before .before .before .before .before .before .before .before .before .before .before .before .before .before .past2) .ensures)) (zero-2 (ready-at ((c .before .before .before .before .before .before .before .before .before .before .before .before .before .before .before .before .before .before .before .before .before .before .before .r) .given .1) (c .before .before .before .before .before .before .before .before .before .before .before .before .before .before .before .before .before .before .before .before .before .before .before .before .before .before .before .pre)) ((c .before .before .before .before .before .before .before .before .before .before .before .before .before .before .before .before .before .before .before .before .before .five-at) .ensures ((c .before .before .before .before .before .before .before .before .before .before .before .before .before .before .before .before .before .before .before .before .if1) .taken)) ((c .before .before .before .before .before .before .before .before .before .before .before .before .before .before .before .before .before .before .past) .ensures) ((c .before .before .before .before .before .before .before .before .before .before .before .before .before .before .past2) .ensures)) ((c .before .before .before .before .before .before .before .before .before .before .past3) .ensures) (list settings of.DebugLoc (location settings)) refl) (λ _. fieldThen (emptyRead (ready-3 (ready-at ((c .before .before .before .before .before .before .before .before .before .before .before .before .before .before .before .before .before .before .before .before .before .before .before .r) .given .1) (c .before .before .before .before .before .before .before .before .before .before .before .before .before .before .before .before .before .before .before .before .before .before .before .before .before .before .before .pre)) ((c .before .before .before .before .before .before .before .before .before .before .before .before .before .before .before .before .before .before .before .before .before .five-at) .ensures ((c .before .before .before .before .before .before .before .before .before .before .before .before .before .before .before .before .before .before .before .before .if1) .taken)) ((c .before .before .before .before .before .before .before .before .before .before .before .before .before .before .before .before .before .before .past) .ensures) ((c .before .before .before .before .before .before .before .before .before .before .before .before .before .before .past2) .ensures) ((c .before .before .before .before .before .before .before .before .before .before .past3) .ensures)) (zero-3 (ready-at ((c .before .before .before .before .before .before .before .before .before .before .before .before .before .before .before .before .before .before .before .before .before .before .before .r) .given .1) (c .before .before .before .before .before .before .before .before .before .before .before .before .before .before .before .before .before .before .before .before .before .before .before .before .before .before .before .pre)) ((c .before .before .before .before .before .before .before .before .before .before .before .before .before .before .before .before .before .before .before .before .before .five-at) .ensures ((c .before .before .before .before .before .before .before .before .before .before .before .before .before .before .before .before .before .before .before .before .if1) .taken)) ((c .before .before .before .before .before .before .before .before .before .before .before .before .before .before .before .before .before .before .past) .ensures) ((c .before .before .before .before .before .before .before .before .before .before .before .before .before .before .past2) .ensures) ((c .before .before .before .before .before .before .before .before .before .before .past3) .ensures)) ((c .before .before .before .before .before .before .past4) .ensures) (frame settings) refl) (λ _. emptyChain (ready-4 (ready-at ((c .before .before .before .before .before .before .before .before .before .before .before .before .before .before .before .before .before .before .before .before .before .before .before .r) .given .1) (c .before .before .before .before .before .before .before .before .before .before .before .before .before .before .before .before .before .before .before .before .before .before .before .before .before .before .before .pre)) ((c .before .before .before .before .before .before .before .before .before .before .before .before .before .before .before .before .before .before .before .before .before .five-at) .ensures ((c .before .before .before .before .before .before .before .before .before .before .before .before .before .before .before .before .before .before .before .before .if1) .taken)) ((c .before .before .before .before .before .before .before .before .before .before .before .before .before .before .before .before .before .before .past) .ensures) ((c .before .before .before .before .before .before .before .before .before .before .before .before .before .before .past2) .ensures) ((c .before .before .before .before .before .before .before .before .before .before .past3) .ensures) ((c .before .before .before .before .before .before .past4) .ensures)) (zero-4 (ready-at ((c .before .before .before .before .before .before .before .before .before .before .before .before .before .before .before .before .before .before .before .before .before .before .before .r) .given .1) (c .before .before .before .before .before .before .before .before .before .before .before .before .before .before .before .before .before .before .before .before .before .before .before .before .before .before .before .pre)) ((c .before .before .before .before .before .before .before .before .before .before .before .before .before .before .before .before .before .before .before .before .before .five-at) .ensures ((c .before .before .before .before .before .before .before .before .before .before .before .before .before .before .before .before .before .before .before .before .if1) .taken)) ((c .before .before .before .before .before .before .before .before .before .before .before .before .before .before .before .before .before .before .past) .ensures) ((c .before .before .before .before .before .before .before .before .before .before .before .before .before .before .past2) .ensures) ((c .before .before .before .before .before .before .before .before .before .before .past3) .ensures) ((c .before .before .before .before .before .before .past4) .ensures)) ((c .before .before .past5) .ensures) (inlineFunction settings) (stillLeft settings) (settings .inlineRecords) (within-any (min (c .before .before .before .before .before .before .before .before .before .before .before .before .before .before .before .before .before .before .before .before .before .before .before .before .before .before .before .args .functions) (settings .inlineRecords))))))))
+returns-2 c = at-step ((c .before .before .before .before .before .before .before .r) .given .1) (fieldThen (emptyFirst (ready-at ((c .before .before .before .before .before .before .before .r) .given .1) (c .before .before .before .before .before .before .before .before .before .before .before .pre)) ((c .before .before .before .before .before .five-at) .ensures ((c .before .before .before .before .if1) .taken)) ((c .before .before .past-five) .ensures) (artifact settings) refl) (λ _. fieldThen (emptySecond (ready-at ((c .before .before .before .before .before .before .before .r) .given .1) (c .before .before .before .before .before .before .before .before .before .before .before .pre)) ((c .before .before .before .before .before .five-at) .ensures ((c .before .before .before .before .if1) .taken)) ((c .before .before .past-five) .ensures) str refl) (λ _. fieldThen (emptyThird (ready-at ((c .before .before .before .before .before .before .before .r) .given .1) (c .before .before .before .before .before .before .before .before .before .before .before .pre)) ((c .before .before .before .before .before .five-at) .ensures ((c .before .before .before .before .if1) .taken)) ((c .before .before .past-five) .ensures) (list settings of.DebugLoc (location settings)) refl) (λ _. fieldThen (emptyFourth (ready-at ((c .before .before .before .before .before .before .before .r) .given .1) (c .before .before .before .before .before .before .before .before .before .before .before .pre)) ((c .before .before .before .before .before .five-at) .ensures ((c .before .before .before .before .if1) .taken)) ((c .before .before .past-five) .ensures) (frame settings) refl) (λ _. emptyFifth (ready-at ((c .before .before .before .before .before .before .before .r) .given .1) (c .before .before .before .before .before .before .before .before .before .before .before .pre)) ((c .before .before .before .before .before .five-at) .ensures ((c .before .before .before .before .if1) .taken)) ((c .before .before .past-five) .ensures) (inlineFunction settings) (stillLeft settings) (settings .inlineRecords) (within-any (min ((c .before .before .before .before .before .before .before .before .before .before .before .args) .functions) (settings .inlineRecords))))))))
 
 artifacts-requires : tie.Need-artifacts-requires
 artifacts-requires c κs = ready-at ((c .before .before .before .before .r) .given .1) (c .before .before .before .before .before .before .before .before .pre)
@@ -72,11 +60,7 @@ artifacts-on-spec =
     enum-told
     returns
     five-at-requires
-    past-requires
-    past-requires-2
-    past-requires-3
-    past-requires-4
-    past-requires-5
+    past-five-requires
     same-length
     returns-2
     artifacts-requires

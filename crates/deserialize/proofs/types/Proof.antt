@@ -3,7 +3,7 @@ use Rattle.vob24.specs.Settings.{settings}
 use Rattle.vob24.specs.Grammar.{section, struct, interface, namedType, itab, runtimeType}
 use Rattle.reader.proofs.Laws.{ready-at}
 use Rattle.second_pass.proofs.Laws.{granted-at, granted-first, granted-next}
-use Rattle.empty_lists.proofs.Laws.{emptyRead, ready-1, zero-1, ready-2, zero-2, ready-3, zero-3, ready-4, zero-4}
+use Rattle.empty_lists.proofs.Laws.{emptyFirst, emptySecond, emptyThird, emptyFourth, emptyFifth}
 use Rattle.deserialize.proofs.Laws.{comes-not, comes-at, comes-last, comes-next}
 use borrow.Author.Needs.{needs}
 use Rattle.deserialize.proofs.types.Statement.{statement}
@@ -19,48 +19,36 @@ returns : tie.Need-returns
 returns c = comes-not ((c .enum-told) .given .1)
 
 five-at-requires : tie.Need-five-at-requires
-five-at-requires c κs = (ready-at ((c .before .r) .given .1) ((c .before .before .before .before .before .pre) .0))
+five-at-requires c κs = ready-at ((c .before .r) .given .1) ((c .before .before .before .before .before .pre) .0)
 
-past-requires : tie.Need-past-requires
-past-requires c κs = (ready-at ((c .before .before .before .before .r) .given .1) ((c .before .before .before .before .before .before .before .before .pre) .0))
-
-past-requires-2 : tie.Need-past-requires-2
-past-requires-2 c κs = ready-1 (ready-at ((c .before .before .before .before .before .before .before .before .r) .given .1) ((c .before .before .before .before .before .before .before .before .before .before .before .before .pre) .0)) ((c .before .before .before .before .before .before .five-at) .ensures ((c .before .before .before .before .before .if1) .taken)) ((c .before .before .before .past) .ensures)
-
-past-requires-3 : tie.Need-past-requires-3
-past-requires-3 c κs = ready-2 (ready-at ((c .before .before .before .before .before .before .before .before .before .before .before .before .r) .given .1) ((c .before .before .before .before .before .before .before .before .before .before .before .before .before .before .before .before .pre) .0)) ((c .before .before .before .before .before .before .before .before .before .before .five-at) .ensures ((c .before .before .before .before .before .before .before .before .before .if1) .taken)) ((c .before .before .before .before .before .before .before .past) .ensures) ((c .before .before .before .past2) .ensures)
-
-past-requires-4 : tie.Need-past-requires-4
-past-requires-4 c κs = ready-3 (ready-at ((c .before .before .before .before .before .before .before .before .before .before .before .before .before .before .before .before .r) .given .1) ((c .before .before .before .before .before .before .before .before .before .before .before .before .before .before .before .before .before .before .before .before .pre) .0)) ((c .before .before .before .before .before .before .before .before .before .before .before .before .before .before .five-at) .ensures ((c .before .before .before .before .before .before .before .before .before .before .before .before .before .if1) .taken)) ((c .before .before .before .before .before .before .before .before .before .before .before .past) .ensures) ((c .before .before .before .before .before .before .before .past2) .ensures) ((c .before .before .before .past3) .ensures)
-
-past-requires-5 : tie.Need-past-requires-5
-past-requires-5 c κs = ready-4 (ready-at ((c .before .before .before .before .before .before .before .before .before .before .before .before .before .before .before .before .before .before .before .before .r) .given .1) ((c .before .before .before .before .before .before .before .before .before .before .before .before .before .before .before .before .before .before .before .before .before .before .before .before .pre) .0)) ((c .before .before .before .before .before .before .before .before .before .before .before .before .before .before .before .before .before .before .five-at) .ensures ((c .before .before .before .before .before .before .before .before .before .before .before .before .before .before .before .before .before .if1) .taken)) ((c .before .before .before .before .before .before .before .before .before .before .before .before .before .before .before .past) .ensures) ((c .before .before .before .before .before .before .before .before .before .before .before .past2) .ensures) ((c .before .before .before .before .before .before .before .past3) .ensures) ((c .before .before .before .past4) .ensures)
+past-five-requires : tie.Need-past-five-requires
+past-five-requires c κs = ((ready-at ((c .before .before .before .before .r) .given .1) ((c .before .before .before .before .before .before .before .before .pre) .0)), ((c .before .before .five-at) .ensures ((c .before .if1) .taken)))
 
 same-length : tie.Need-same-length
 same-length c = search needs
 
 returns-2 : tie.Need-returns-2
 unfolding section
-returns-2 c = comes-at ((c .before .before .before .before .before .before .before .before .before .before .before .before .before .before .before .before .before .before .before .before .before .before .before .r) .given .1) (comes-next (emptyRead (ready-at ((c .before .before .before .before .before .before .before .before .before .before .before .before .before .before .before .before .before .before .before .before .before .before .before .r) .given .1) ((c .before .before .before .before .before .before .before .before .before .before .before .before .before .before .before .before .before .before .before .before .before .before .before .before .before .before .before .pre) .0)) (((c .before .before .before .before .before .before .before .before .before .before .before .before .before .before .before .before .before .before .before .before .before .five-at) .ensures ((c .before .before .before .before .before .before .before .before .before .before .before .before .before .before .before .before .before .before .before .before .if1) .taken)) .first) ((c .before .before .before .before .before .before .before .before .before .before .before .before .before .before .before .before .before .before .past) .ensures) (struct settings) refl) (comes-next (emptyRead (ready-1 (ready-at ((c .before .before .before .before .before .before .before .before .before .before .before .before .before .before .before .before .before .before .before .before .before .before .before .r) .given .1) ((c .before .before .before .before .before .before .before .before .before .before .before .before .before .before .before .before .before .before .before .before .before .before .before .before .before .before .before .pre) .0)) ((c .before .before .before .before .before .before .before .before .before .before .before .before .before .before .before .before .before .before .before .before .before .five-at) .ensures ((c .before .before .before .before .before .before .before .before .before .before .before .before .before .before .before .before .before .before .before .before .if1) .taken)) ((c .before .before .before .before .before .before .before .before .before .before .before .before .before .before .before .before .before .before .past) .ensures)) (zero-1 (ready-at ((c .before .before .before .before .before .before .before .before .before .before .before .before .before .before .before .before .before .before .before .before .before .before .before .r) .given .1) ((c .before .before .before .before .before .before .before .before .before .before .before .before .before .before .before .before .before .before .before .before .before .before .before .before .before .before .before .pre) .0)) ((c .before .before .before .before .before .before .before .before .before .before .before .before .before .before .before .before .before .before .before .before .before .five-at) .ensures ((c .before .before .before .before .before .before .before .before .before .before .before .before .before .before .before .before .before .before .before .before .if1) .taken)) ((c .before .before .before .before .before .before .before .before .before .before .before .before .before .before .before .before .before .before .past) .ensures)) ((c .before .before .before .before .before .before .before .before .before .before .before .before .before .before .past2) .ensures) (interface settings) refl) (comes-next (emptyRead (ready-2 (ready-at ((c .before .before .before .before .before .before .before .before .before .before .before .before .before .before .before .before .before .before .before .before .before .before .before .r) .given .1) ((c .before .before .before .before .before .before .before .before .before .before .before .before .before .before .before .before .before .before .before .before .before .before .before .before .before .before .before .pre) .0)) ((c .before .before .before .before .before .before .before .before .before .before .before .before .before .before .before .before .before .before .before .before .before .five-at) .ensures ((c .before .before .before .before .before .before .before .before .before .before .before .before .before .before .before .before .before .before .before .before .if1) .taken)) ((c .before .before .before .before .before .before .before .before .before .before .before .before .before .before .before .before .before .before .past) .ensures) ((c .before .before .before .before .before .before .before .before .before .before .before .before .before .before .past2) .ensures)) (zero-2 (ready-at ((c .before .before .before .before .before .before .before .before .before .before .before .before .before .before .before .before .before .before .before .before .before .before .before .r) .given .1) ((c .before .before .before .before .before .before .before .before .before .before .before .before .before .before .before .before .before .before .before .before .before .before .before .before .before .before .before .pre) .0)) ((c .before .before .before .before .before .before .before .before .before .before .before .before .before .before .before .before .before .before .before .before .before .five-at) .ensures ((c .before .before .before .before .before .before .before .before .before .before .before .before .before .before .before .before .before .before .before .before .if1) .taken)) ((c .before .before .before .before .before .before .before .before .before .before .before .before .before .before .before .before .before .before .past) .ensures) ((c .before .before .before .before .before .before .before .before .before .before .before .before .before .before .past2) .ensures)) ((c .before .before .before .before .before .before .before .before .before .before .past3) .ensures) (namedType settings) refl) (comes-next (emptyRead (ready-3 (ready-at ((c .before .before .before .before .before .before .before .before .before .before .before .before .before .before .before .before .before .before .before .before .before .before .before .r) .given .1) ((c .before .before .before .before .before .before .before .before .before .before .before .before .before .before .before .before .before .before .before .before .before .before .before .before .before .before .before .pre) .0)) ((c .before .before .before .before .before .before .before .before .before .before .before .before .before .before .before .before .before .before .before .before .before .five-at) .ensures ((c .before .before .before .before .before .before .before .before .before .before .before .before .before .before .before .before .before .before .before .before .if1) .taken)) ((c .before .before .before .before .before .before .before .before .before .before .before .before .before .before .before .before .before .before .past) .ensures) ((c .before .before .before .before .before .before .before .before .before .before .before .before .before .before .past2) .ensures) ((c .before .before .before .before .before .before .before .before .before .before .past3) .ensures)) (zero-3 (ready-at ((c .before .before .before .before .before .before .before .before .before .before .before .before .before .before .before .before .before .before .before .before .before .before .before .r) .given .1) ((c .before .before .before .before .before .before .before .before .before .before .before .before .before .before .before .before .before .before .before .before .before .before .before .before .before .before .before .pre) .0)) ((c .before .before .before .before .before .before .before .before .before .before .before .before .before .before .before .before .before .before .before .before .before .five-at) .ensures ((c .before .before .before .before .before .before .before .before .before .before .before .before .before .before .before .before .before .before .before .before .if1) .taken)) ((c .before .before .before .before .before .before .before .before .before .before .before .before .before .before .before .before .before .before .past) .ensures) ((c .before .before .before .before .before .before .before .before .before .before .before .before .before .before .past2) .ensures) ((c .before .before .before .before .before .before .before .before .before .before .past3) .ensures)) ((c .before .before .before .before .before .before .past4) .ensures) (itab settings) refl) (comes-last (emptyRead (ready-4 (ready-at ((c .before .before .before .before .before .before .before .before .before .before .before .before .before .before .before .before .before .before .before .before .before .before .before .r) .given .1) ((c .before .before .before .before .before .before .before .before .before .before .before .before .before .before .before .before .before .before .before .before .before .before .before .before .before .before .before .pre) .0)) ((c .before .before .before .before .before .before .before .before .before .before .before .before .before .before .before .before .before .before .before .before .before .five-at) .ensures ((c .before .before .before .before .before .before .before .before .before .before .before .before .before .before .before .before .before .before .before .before .if1) .taken)) ((c .before .before .before .before .before .before .before .before .before .before .before .before .before .before .before .before .before .before .past) .ensures) ((c .before .before .before .before .before .before .before .before .before .before .before .before .before .before .past2) .ensures) ((c .before .before .before .before .before .before .before .before .before .before .past3) .ensures) ((c .before .before .before .before .before .before .past4) .ensures)) (zero-4 (ready-at ((c .before .before .before .before .before .before .before .before .before .before .before .before .before .before .before .before .before .before .before .before .before .before .before .r) .given .1) ((c .before .before .before .before .before .before .before .before .before .before .before .before .before .before .before .before .before .before .before .before .before .before .before .before .before .before .before .pre) .0)) ((c .before .before .before .before .before .before .before .before .before .before .before .before .before .before .before .before .before .before .before .before .before .five-at) .ensures ((c .before .before .before .before .before .before .before .before .before .before .before .before .before .before .before .before .before .before .before .before .if1) .taken)) ((c .before .before .before .before .before .before .before .before .before .before .before .before .before .before .before .before .before .before .past) .ensures) ((c .before .before .before .before .before .before .before .before .before .before .before .before .before .before .past2) .ensures) ((c .before .before .before .before .before .before .before .before .before .before .past3) .ensures) ((c .before .before .before .before .before .before .past4) .ensures)) ((c .before .before .past5) .ensures) (runtimeType settings) refl))))))
+returns-2 c = comes-at ((c .before .before .before .before .before .before .before .r) .given .1) (comes-next (emptyFirst (ready-at ((c .before .before .before .before .before .before .before .r) .given .1) ((c .before .before .before .before .before .before .before .before .before .before .before .pre) .0)) ((c .before .before .before .before .before .five-at) .ensures ((c .before .before .before .before .if1) .taken)) ((c .before .before .past-five) .ensures) (struct settings) refl) (comes-next (emptySecond (ready-at ((c .before .before .before .before .before .before .before .r) .given .1) ((c .before .before .before .before .before .before .before .before .before .before .before .pre) .0)) ((c .before .before .before .before .before .five-at) .ensures ((c .before .before .before .before .if1) .taken)) ((c .before .before .past-five) .ensures) (interface settings) refl) (comes-next (emptyThird (ready-at ((c .before .before .before .before .before .before .before .r) .given .1) ((c .before .before .before .before .before .before .before .before .before .before .before .pre) .0)) ((c .before .before .before .before .before .five-at) .ensures ((c .before .before .before .before .if1) .taken)) ((c .before .before .past-five) .ensures) (namedType settings) refl) (comes-next (emptyFourth (ready-at ((c .before .before .before .before .before .before .before .r) .given .1) ((c .before .before .before .before .before .before .before .before .before .before .before .pre) .0)) ((c .before .before .before .before .before .five-at) .ensures ((c .before .before .before .before .if1) .taken)) ((c .before .before .past-five) .ensures) (itab settings) refl) (comes-last (emptyFifth (ready-at ((c .before .before .before .before .before .before .before .r) .given .1) ((c .before .before .before .before .before .before .before .before .before .before .before .pre) .0)) ((c .before .before .before .before .before .five-at) .ensures ((c .before .before .before .before .if1) .taken)) ((c .before .before .past-five) .ensures) {S = Unit {0}} (λ _. runtimeType settings) (λ _ _. tt) tt refl))))))
 
 structs-requires : tie.Need-structs-requires
 unfolding section
-structs-requires c κs = (ready-at ((c .before .before .before .before .r) .given .1) (c .before .before .before .before .before .before .before .before .pre .0), granted-first (granted-at ((c .before .before .before .before .r) .given .1) (c .before .before .before .before .before .before .before .before .pre .1)))
+structs-requires c κs = ((ready-at ((c .before .before .before .before .r) .given .1) ((c .before .before .before .before .before .before .before .before .pre) .0)), granted-first (granted-at ((c .before .before .before .before .r) .given .1) ((c .before .before .before .before .before .before .before .before .pre) .1)))
 
 interfaces-requires : tie.Need-interfaces-requires
 unfolding section
-interfaces-requires c κs = (search needs, granted-first (granted-next ((c .before .before .before .structs) .ensures) (granted-at ((c .before .before .before .before .before .before .before .before .r) .given .1) (c .before .before .before .before .before .before .before .before .before .before .before .before .pre .1))))
+interfaces-requires c κs = (search needs, granted-first (granted-next ((c .before .before .before .structs) .ensures) (granted-at ((c .before .before .before .before .before .before .before .before .r) .given .1) ((c .before .before .before .before .before .before .before .before .before .before .before .before .pre) .1))))
 
 named-types-requires : tie.Need-named-types-requires
 unfolding section
-named-types-requires c κs = (search needs, granted-first (granted-next ((c .before .before .before .interfaces) .ensures) (granted-next ((c .before .before .before .before .before .before .before .structs) .ensures) (granted-at ((c .before .before .before .before .before .before .before .before .before .before .before .before .r) .given .1) (c .before .before .before .before .before .before .before .before .before .before .before .before .before .before .before .before .pre .1)))))
+named-types-requires c κs = (search needs, granted-first (granted-next ((c .before .before .before .interfaces) .ensures) (granted-next ((c .before .before .before .before .before .before .before .structs) .ensures) (granted-at ((c .before .before .before .before .before .before .before .before .before .before .before .before .r) .given .1) ((c .before .before .before .before .before .before .before .before .before .before .before .before .before .before .before .before .pre) .1)))))
 
 itabs-requires : tie.Need-itabs-requires
 itabs-requires c κs = search needs
 
 runtime-types-requires : tie.Need-runtime-types-requires
 unfolding section
-runtime-types-requires c κs = (search needs, granted-first (granted-next ((c .before .before .before .itabs) .ensures) (granted-next ((c .before .before .before .before .before .before .before .named-types) .ensures) (granted-next ((c .before .before .before .before .before .before .before .before .before .before .before .interfaces) .ensures) (granted-next ((c .before .before .before .before .before .before .before .before .before .before .before .before .before .before .before .structs) .ensures) (granted-at ((c .before .before .before .before .before .before .before .before .before .before .before .before .before .before .before .before .before .before .before .before .r) .given .1) (c .before .before .before .before .before .before .before .before .before .before .before .before .before .before .before .before .before .before .before .before .before .before .before .before .pre .1)))))))
+runtime-types-requires c κs = (search needs, granted-first (granted-next ((c .before .before .before .itabs) .ensures) (granted-next ((c .before .before .before .before .before .before .before .named-types) .ensures) (granted-next ((c .before .before .before .before .before .before .before .before .before .before .before .interfaces) .ensures) (granted-next ((c .before .before .before .before .before .before .before .before .before .before .before .before .before .before .before .structs) .ensures) (granted-at ((c .before .before .before .before .before .before .before .before .before .before .before .before .before .before .before .before .before .before .before .before .r) .given .1) ((c .before .before .before .before .before .before .before .before .before .before .before .before .before .before .before .before .before .before .before .before .before .before .before .before .pre) .1)))))))
 
 same-length-2 : tie.Need-same-length-2
 same-length-2 c = search needs
@@ -77,11 +65,7 @@ types-spec =
     enum-told
     returns
     five-at-requires
-    past-requires
-    past-requires-2
-    past-requires-3
-    past-requires-4
-    past-requires-5
+    past-five-requires
     same-length
     returns-2
     structs-requires
