@@ -47,10 +47,15 @@ fn timed<T>(work: impl FnOnce() -> T) -> (Duration, T) {
 }
 
 /// The best times of both, each in rounds of its own. Of a small pack many readings are timed together, so that the clock's own time does
-/// not count.
+/// not count. Where the pages of the tape happen to lie changes the time of a long record by a third: so there are as many rounds in each
+/// of its quarters. The Rust takes its memory anew in each round.
 fn best(pack: &[u8], tape: &mut [u32], seconds: f64) -> (Duration, Duration) {
     let readings = (100_000 / pack.len()).max(1);
-    let fastest = fastest_of(seconds / 2.0, || timed(|| (0..readings).map(|_| ours(black_box(pack), tape)).sum::<u64>()).0);
+    let quarter = tape.len() / 4;
+    let in_quarter = |tape: &mut [u32]| {
+        fastest_of(seconds / 8.0, || timed(|| (0..readings).map(|_| ours(black_box(pack), tape)).sum::<u64>()).0)
+    };
+    let fastest = tape.chunks_exact_mut(quarter).map(in_quarter).min().expect("a tape has quarters");
     let mut modules = Vec::with_capacity(readings);
     let fastest_rust = fastest_of(seconds / 2.0, || {
         modules.clear();
