@@ -22,6 +22,7 @@ use Rattle.vob24.specs.Calls as vob
 use Rattle.vob24.specs.Theorems.{whole-settled, section-alone}
 use Rattle.reader.specs.Contract.{refusal, wrongOf, ReadyAt, Takes, Reads, takes, refuses, skips, Reader}
 use Rattle.second_pass.specs.Granted.{Granted}
+use Rattle.second_pass.proofs.Laws.{taken-granted}
 use Rattle.reader.specs.declared.Cursor.{Cursor}
 use Rattle.reader.specs.declared.Refusal.{Refusal}
 use Rattle.reader.specs.declared.Step.{Step}
@@ -148,7 +149,7 @@ module _ {f : Format} {t : Trace Value} {s : List ℕ} {p b : ℕ} {r₀ : Step}
 
   -- what a first pass has taken is not refused in a second
   passed-granted : {g : Bool} {r : Step} {c : Cursor} → Passed f t s p b r₀ r → r ≡ Taken c → Granted g f s r₀
-  passed-granted (passed o _ i _) e = record { is = λ _. record { cursor = from p b; is = o; never = λ x k. let no : _≡_ {A = ℕ} 0 1 = cc (i, k .settles) in absurd (omega arith) } }
+  passed-granted (passed o _ i _) e = taken-granted o i
   passed-granted (denied i) e = let no : _≡_ {A = ℕ} 0 1 = cc in absurd (omega arith)
 
 -- the question of room, answered either way
@@ -199,15 +200,6 @@ closed-taken p b room (Taken c) {w = w} e j = go (closed-as p b room c) (sym e �
     go : {a : Answer} {i n l : ℕ} → Closed p b room c a → a ≡ Answer.Taken w i n l → (d : Cursor) × (Taken c ≡ Taken d) × (w ≡ d .at) × (d .at ≤ room)
     go (fits h) j = (c, refl, cc, h)
     go (short h) j = let no : _≡_ {A = ℕ} 0 1 = cc in absurd (omega arith)
-
-ended-taken : (n : ℕ) (r : Step) {c : Cursor} → ended n r ≡ Taken c → r ≡ Taken c
-unfolding pick
-ended-taken n (Refused x) e = e
-ended-taken n (Taken d) {c} e = go _ (eqb (d .place) n) e
-  where
-    go : (x : Refusal) (b : Bool) → pick b (Taken d) (Refused x) ≡ Taken c → Taken d ≡ Taken c
-    go x true e = e
-    go x false e = let no : _≡_ {A = ℕ} 0 1 = cc in absurd (omega arith)
 
 module _ (f : Format) (t : Trace Value) (p b : ℕ) (tape : List ℕ) where
   closing-denied : {x : Refusal} → settle b t ≡ refused (wrongOf x) (x .place) (x .left) → vob.closing f p b tape (settle b t) ≡ record { answer = answerOf (Answer.Refused x); tape = tape }

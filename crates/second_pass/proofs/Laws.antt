@@ -23,6 +23,10 @@ use Rattle.second_pass.specs.Granted.{Goes, Granted}
 pub unknown : {f : Format} {s : List ℕ} {r : Step} → Granted false f s r
 unknown = record { is = λ e. let no : _≡_ {A = ℕ} 0 1 = cc in absurd (omega arith) }
 
+-- what was taken is not refused when it is read again
+pub taken-granted : {b : Bool} {f : Format} {s : List ℕ} {r : Step} {c : Cursor} {v : Value} {p l : ℕ} → r ≡ Taken c → settle (c .left) (trace f s (c .place)) ≡ taken v p l → Granted b f s r
+taken-granted {c = c} o i = record { is = λ _. record { cursor = c; is = o; never = λ x k. let no : _≡_ {A = ℕ} 0 1 = cc (i, k .settles) in absurd (omega arith) } }
+
 module _ {b : Bool} {f : Format} {s : List ℕ} {r : Step} where
   pub denied : {x : Refusal} {t t′ : List ℕ} → Granted b f s r → b ≡ true → Reads f s r t (Refused x) t′ → ⊥
   denied {x} {t} {t′} g e h = let k = g .is e in go k (rw (k .is) at h)

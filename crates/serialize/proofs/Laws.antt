@@ -17,6 +17,7 @@ use Rattle.calls.proofs.Laws.{Passed, passed, denied, read-passed}
 use Rattle.lookup.specs.Look.{Counted, LooksFrom}
 use Rattle.lookup.specs.declared.Found.{Found}
 use Rattle.second_pass.specs.Granted.{Granted}
+use Rattle.second_pass.proofs.Laws.{taken-granted}
 use Rattle.items.specs.Contract.{Items}
 use Rattle.items.specs.Walk.{itemsAt}
 use Rattle.reader.specs.Contract.{wrongOf, Ready, Reader}
@@ -27,9 +28,9 @@ use Rattle.reader.specs.declared.Step.the-variants.{Taken, Refused}
 use Rattle.deserialize.specs.Reach.{On, Reaches}
 use Rattle.serialize.specs.Find.{Whole, Located, LocateCall, FindCall}
 
--- what was taken is not refused when it is read again
+-- what a whole reading has taken is not refused when it is read again
 pub whole-granted : {b : Bool} {s : List ℕ} {r : Step} {c : Cursor} → Whole s r c → Granted b (pack settings) s r
-whole-granted w = record { is = λ _. record { cursor = w .on .cursor; is = w .on .is; never = λ x k. let no : _≡_ {A = ℕ} 0 1 = cc (w .on .settles, k .settles) in absurd (omega arith) } }
+whole-granted w = taken-granted (w .on .is) (w .on .settles)
 
 module _ {s : List ℕ} {r r′ : Step} {c : Cursor} (w : Whole s r c) (h : Reaches s r r′) where
   -- a pack that was taken is not refused on the way
