@@ -1,5 +1,6 @@
 -- The laws of texts: a text is a payload whose bytes are well-formed.
 use Prim.Native.Nat.{ℕ, _+_, _-_, _≤_}
+use lib.Seq.{take-add, take-take, drop-at, length-take-le}
 use mathlib.Core.Path.{_≡_, refl, ap, sym, _∙_}
 use mathlib.Core.List.{List}
 use mathlib.Core.Bool.{Bool, true, false}
@@ -10,9 +11,9 @@ use Rattle.format.specs.Trace.{wrong, unexpectedEof, invalidUtf8, Trace, end, c
 use Rattle.format.specs.Format.{Value, text, content, Rule, string, payload}
 use Rattle.format.specs.Reading.{little, part, room, field, traceLeaf}
 use Rattle.format.specs.Settling.{thenS, settle-bind}
-use Rattle.format.specs.Ending.{part-length}
-use Rattle.vob24.specs.Utf8.{Scan, illFormed, characters, scan, wellFormed, isText}
-use Rattle.utf8.specs.Answers.{scanOf, AsciiText, allAscii}
+use Rattle.vob24.specs.Utf8.{illFormed, characters, scan, wellFormed, isText}
+use Rattle.utf8.specs.Answers.{scanOf, Tries, known}
+use Rattle.utf8.specs.declared.Tried.{Tried}
 use Rattle.utf8.specs.declared.Scanned.{Scanned}
 use Rattle.utf8.specs.declared.Scanned.the-variants.{IllFormed, Characters}
 use Rattle.reader.specs.Contract.{refusal, payloadStep, textStep}
@@ -81,28 +82,37 @@ spans-room {ρ} {k} {s} {c} {q} {p} {n} {d} e h = go (rw e at h)
     go : Spans (payload ρ k) s c (Payload.Got p n d) → p + n ≤ length s
     go (spanned h) = h .room
 
+-- a payload's bytes, of those up to its end: the code hands on no more of the pack
+abbrev upTo : List ℕ → ℕ → ℕ → List ℕ
+upTo s p n = take n (drop p (take (p + n - 0) (drop 0 s)))
+
+up-to : (s : List ℕ) (p n : ℕ) → p + n ≤ length s → upTo s p n ≡ take n (drop p s)
+up-to s p n h =
+    let z : p + n - 0 ≡ p + n = omega arith in
+    ap (λ k. take n (drop p (take k s))) z
+    ∙ ap (λ l. take n (drop p l)) (take-add p n s)
+    ∙ ap (take n) (drop-at (take p s) (take n (drop p s)) p (length-take-le p s (omega arith)))
+    ∙ take-take n n (drop p s) (omega arith)
+
 -- a payload as a text
-scanned : (s : List ℕ) (p n : ℕ) {o : Scan} → o ≡ scan (take (p + n - p) (drop p s)) → scan (part s p n) ≡ o
-scanned s p n h = let j : p + n - p ≡ n = omega arith in sym (rw j at h)
-
 module _ {s : List ℕ} {p n : ℕ} {d : Cursor} where
-  pub checked-got : {w : Scanned} {m : ℕ} → w ≡ Characters m → scanOf w ≡ scan (take (p + n - p) (drop p s)) → Checked s (Payload.Got p n d) (Text.Got p n m d)
-  checked-got i h = formed (scanned s p n (rw i at h))
+  pub checked-got : {w : Scanned} {m : ℕ} → p + n ≤ length s → w ≡ Characters m → scanOf w ≡ scan (upTo s p n) → Checked s (Payload.Got p n d) (Text.Got p n m d)
+  checked-got j i h = formed (ap scan (sym (up-to s p n j)) ∙ sym h ∙ ap scanOf i)
 
-  pub checked-not : {w : Scanned} {x : Refusal} → w ≡ IllFormed → scanOf w ≡ scan (take (p + n - p) (drop p s)) → x ≡ refusal (wrong invalidUtf8 0) (d .place) (d .left) → Checked s (Payload.Got p n d) (Text.Not x)
-  checked-not i h y = malformed (scanned s p n (rw i at h)) y
+  pub checked-not : {w : Scanned} {x : Refusal} → p + n ≤ length s → w ≡ IllFormed → scanOf w ≡ scan (upTo s p n) → x ≡ refusal (wrong invalidUtf8 0) (d .place) (d .left) → Checked s (Payload.Got p n d) (Text.Not x)
+  checked-not j i h y = malformed (ap scan (sym (up-to s p n j)) ∙ sym h ∙ ap scanOf i) y
 
   module _ {q : Payload} (e : q ≡ Payload.Got p n d) where
     pub checked-of : {t u : Text} → Checked s (Payload.Got p n d) t → t ≡ u → Checked s q u
     checked-of h i = rw (e, ← i) h
 
-    pub checked-ascii : {b : Bool} → b ≡ true → AsciiText (take (p + n - p) (drop p s)) b → p + n ≤ length s → Checked s q (Text.Got p n n d)
-    checked-ascii i h j = rw e (formed (go (rw i at h)))
+    pub checked-tried : {w : Tried} {m : ℕ} → p + n ≤ length s → w ≡ Tried.Characters m → Tries (upTo s p n) w → Checked s q (Text.Got p n m d)
+    checked-tried {w} {m} j i h = rw e (formed (ap scan (sym (up-to s p n j)) ∙ go (rw i at h)))
       where
-        go : AsciiText (take (p + n - p) (drop p s)) true → scan (part s p n) ≡ characters n
-        go (allAscii l) = scanned s p n (sym l) ∙ ap characters (let m : p + n - p ≡ n = omega arith in rw m (part-length s p n j))
+        go : Tries (upTo s p n) (Tried.Characters m) → scan (upTo s p n) ≡ characters m
+        go (known l) = l
 
 pub checked-passed : {s : List ℕ} {q : Payload} {t : Text} {x : Refusal} → q ≡ Payload.Not x → textStep t ≡ payloadStep q → Checked s q t
 checked-passed {t = t} e i = rw (text-refusal t (i ∙ ap payloadStep e), e) passed
 
-pub ruleset texts = (text-then, checked-got, checked-of, checked-ascii, checked-not, checked-passed, spans-room)
+pub ruleset texts = (text-then, checked-got, checked-tried, checked-of, checked-not, checked-passed, spans-room)

@@ -22,6 +22,7 @@ use reader::limits;
 use reader::numbers;
 use reader::sizes;
 use utf8::Scanned;
+use utf8::Tried;
 
 fn not_payload(q: Number) -> Payload
     ensures { λ r. ⌜ payloadStep r ≡ stepOf q ⌝ }
@@ -120,7 +121,7 @@ fn text(s: &[u8], start: usize, length: usize, d: Cursor) -> Text
     ensures { λ q. ⌜ Checked (now (s .entry)) (PayloadAnswer.Got start length d) q ⌝ }
 {
     let end = start + length;
-    let found = utf8::scan(&s[start..end]);
+    let found = utf8::scan_at(&s[0..end], start, length);
     let Scanned::Characters(n) = found else {
         return Text::Not(reader::refuse(d, numbers::INVALID_UTF8, 0));
     };
@@ -137,8 +138,8 @@ pub fn read_string(s: &[u8], place: usize, left: u64, at: usize) -> Text
         return not_text(q);
     };
     let end = start + length;
-    if utf8::is_ascii(&s[start..end]) {
-        return Text::Got(start, length, length, d);
+    if let Tried::Characters(n) = utf8::try_short(&s[0..end], start, length) {
+        return Text::Got(start, length, n, d);
     }
     // A copy goes in and a copy comes out, so that the short way above keeps all in registers.
     let copy = Cursor {

@@ -5,7 +5,7 @@ use mathlib.Core.Bool.{Bool, true, false}
 use mathlib.Core.List.{List, [], _∷_}
 use native.Mathlib.Omega.{arith}
 use native.Mathlib.Numerals.{add-one}
-use borrow.Author.Tests.{ltb-true, ltb-false, eqb-true, ne-eqb}
+use borrow.Author.Tests.{ltb-true, ltb-false, ne-eqb}
 use lib.Bits.{bitOr, or-add-and, and-le-l, and-le-r}
 use lib.Dec.{ltb, eqb}
 use lib.ListN.{length, getD, take, drop}
@@ -13,15 +13,15 @@ use lib.Seq.{drop-cons, take-length}
 use Rattle.format.specs.Trace.{pick}
 use Rattle.vob24.specs.Utf8.{lead, illFormed, characters, scanFrom, scan}
 use Rattle.vob24.specs.Ranges.{inside, below, above}
-use Rattle.vob24.specs.Rows.{lead00, leade1}
-use Rattle.utf8.specs.Answers.{nextOf, scanAt, Ascii, Both, Run, Three, isThree, AsciiText, allAscii, notAscii, Scans, fails, reaches}
+use Rattle.vob24.specs.Rows.{lead00}
+use Rattle.utf8.specs.Answers.{nextOf, scanAt, Ascii, Both, Scans, fails, reaches}
 use Rattle.utf8.specs.declared.Next.{Next}
 use Rattle.utf8.specs.declared.Next.the-variants.{Bad, Want}
 use Rattle.utf8.specs.declared.Upto.{Upto}
 use Rattle.utf8.specs.declared.Upto.the-variants.{At, IllFormed as Fails}
 
 -- a part by its first byte
-part-cons : (s : List ℕ) (i to : ℕ) → i < to → to ≤ length s → take (to - i) (drop i s) ≡ getD s i 0 ∷ take (to - (i + 1)) (drop (i + 1) s)
+pub part-cons : (s : List ℕ) (i to : ℕ) → i < to → to ≤ length s → take (to - i) (drop i s) ≡ getD s i 0 ∷ take (to - (i + 1)) (drop (i + 1) s)
 part-cons s i to h k =
     let e : to - i ≡ suc (to - (i + 1)) = omega arith in
     rw (e, add-one i, drop-cons s i 0 (omega arith))
@@ -43,7 +43,7 @@ pub record Charing (s : List ℕ) (to n from more lo hi i : ℕ) : Type 0 where
   pub leads : scanAt s to n from ≡ scanFrom (upTo n more) more lo hi (take (to - i) (drop i s))
 
 -- the range is that of a byte to come
-any-range : (n lo hi : ℕ) (bs : List ℕ) → scanFrom n 0 lo hi bs ≡ scanFrom n 0 0x80 0xbf bs
+pub any-range : (n lo hi : ℕ) (bs : List ℕ) → scanFrom n 0 lo hi bs ≡ scanFrom n 0 0x80 0xbf bs
 any-range n lo hi [] = refl
 any-range n lo hi (b ∷ bs) = refl
 
@@ -90,13 +90,13 @@ module _ {s : List ℕ} {to n from more lo hi i : ℕ} where
 pub ruleset charing = (char-start, char-bad, char-short, char-low, char-high, char-done)
 
 -- ---- bytes of ASCII
-low-before : {s : List ℕ} {from to : ℕ} → to ≤ from → Ascii s from to
+pub low-before : {s : List ℕ} {from to : ℕ} → to ≤ from → Ascii s from to
 low-before h = record { low = λ k x y. absurd (omega arith) }
 
-low-byte : {s : List ℕ} {i j : ℕ} → getD s i 0 < 128 → j ≤ i + 1 → Ascii s i j
+pub low-byte : {s : List ℕ} {i j : ℕ} → getD s i 0 < 128 → j ≤ i + 1 → Ascii s i j
 low-byte {s} {i} h l = record { low = λ k x y. let e : k ≡ i = omega arith in rw e h }
 
-low-join : {s : List ℕ} {a b c d : ℕ} → Ascii s a b → Ascii s c d → c ≤ b → Ascii s a d
+pub low-join : {s : List ℕ} {a b c d : ℕ} → Ascii s a b → Ascii s c d → c ≤ b → Ascii s a d
 low-join {s} {a} {b} {c} {d} l m h = record { low = λ k x y. go k x y (ltb k b) refl }
   where
     go : (k : ℕ) → a ≤ k → k < d → (t : Bool) → ltb k b ≡ t → getD s k 0 < 128
@@ -138,25 +138,8 @@ module _ {s : List ℕ} {a b width : ℕ} where
 
 pub ruleset oring = (oring-start, oring-more, oring-done)
 
--- ---- runs
-module _ {s : List ℕ} {from to : ℕ} where
-  pub run-start : from ≤ to → Run s from to from
-  run-start h = record { past = omega arith; within = h; low = low-before (omega arith) }
-
-  module _ {i : ℕ} where
-    pub run-byte : i < to → getD s i 0 ≤ 127 → Run s from to i → Run s from to (i + 1)
-    run-byte h e l = record { past = omega (arith, l .past); within = omega arith; low = low-join (l .low) (low-byte {i = i} (omega arith) (omega arith)) (omega arith) }
-
-    pub run-block : 8 ≤ to - i → Both s i i 8 → Run s from to i → Run s from to (i + 8)
-    run-block h e l = record { past = omega (arith, l .past); within = omega arith; low = low-join (l .low) (e .first) (omega arith) }
-
-    pub run-join : {j : ℕ} → Run s from to i → Run s i to j → Run s from to j
-    run-join l m = record { past = omega (arith, l .past, m .past); within = m .within; low = low-join (l .low) (m .low) (omega arith) }
-
-pub ruleset running = (run-start, run-byte, run-join)
-
 -- each byte of ASCII is a character
-ascii-scan : (s : List ℕ) (to k n from : ℕ) → from + k ≤ to → to ≤ length s → Ascii s from (from + k) → scanAt s to n from ≡ scanAt s to (n + k) (from + k)
+pub ascii-scan : (s : List ℕ) (to k n from : ℕ) → from + k ≤ to → to ≤ length s → Ascii s from (from + k) → scanAt s to n from ≡ scanAt s to (n + k) (from + k)
 unfolding pick
 ascii-scan s to zero n from h i a = let e : from + 0 ≡ from = omega arith in let f : n + 0 ≡ n = omega arith in rw (e, f)
 ascii-scan s to (suc k) n from h i a =
@@ -164,52 +147,6 @@ ascii-scan s to (suc k) n from h i a =
     let f : n + suc k ≡ suc n + k = omega arith in
     ap (scanFrom n 0 0x80 0xbf) (part-cons s from to (omega arith) i) ∙ rw (lead00 (getD s from 0) (omega arith) (omega (arith, a .low from (omega arith) (omega arith))), e, f)
     (ascii-scan s to k (suc n) (from + 1) (omega arith) i (record { low = λ j x y. a .low j (omega arith) (omega arith) }))
-
-pub run-scan : {s : List ℕ} {to n from end : ℕ} → from < to → to ≤ length s → n ≤ from → getD s from 0 < 128 → Run s (from + 1) to end → Scans s to n from (from + 1) (At end (n + (end - from)))
-run-scan {s} {to} {n} {from} {end} h i l b r =
-    let e : from + (end - from) ≡ end = omega (arith, r .past) in
-    reaches {j = end} {m = n + (end - from)} (r .past) (r .within) (omega (arith, r .past))
-    (rw e at (ascii-scan s to (end - from) n from (omega (arith, r .past, r .within)) i (rw e (low-join {b = from + 1} (low-byte b (omega arith)) (r .low) (omega arith)))))
-
--- ---- a text of ASCII
-text-scan : (s : List ℕ) → Ascii s 0 (length s) → scan s ≡ characters (length s)
-unfolding pick
-text-scan s l =
-    let p : 0 + length s ≡ length s = omega arith in
-    let z : length s - length s ≡ 0 = omega arith in
-    sym (whole s) ∙ ascii-scan s (length s) (length s) 0 0 (omega arith) (omega arith) (rw p l) ∙ rw (p, z)
-
-pub text-if : {s : List ℕ} {q : Bool} → (q ≡ true → Ascii s 0 (length s)) → AsciiText s q
-text-if {s} {q} f = go q f
-  where
-    go : (q : Bool) → (q ≡ true → Ascii s 0 (length s)) → AsciiText s q
-    go true f = allAscii (text-scan s (f refl))
-    go false f = notAscii
-
-pub text-run : {s : List ℕ} {to i : ℕ} → Run s 0 to i → eqb i (length s) ≡ true → Ascii s 0 (length s)
-text-run {s} {to} {i} l e = rw (eqb-true i (length s) e) at l .low
-
--- the first bytes and the last, which meet
-pub text-ends : {s : List ℕ} {b w : ℕ} → b ≤ w → length s ≤ b + w → Both s 0 b w → Ascii s 0 (length s)
-text-ends h i l = record { low = λ k x y. low-join (l .first) (l .second) (omega arith) .low k x (omega arith) }
-
--- a character of three bytes, at once
-three-scan : {s : List ℕ} {to n from : ℕ} → from + 3 ≤ to → to ≤ length s → n ≤ from → Three s from true → Scans s to n from (from + 1) (At (from + 3) (n + 1))
-unfolding pick
-three-scan {s} {to} {n} {from} h i l (isThree a b x y) =
-    let e : from + 1 + 1 ≡ from + 2 = omega arith in
-    let f : from + 2 + 1 ≡ from + 3 = omega arith in
-    let bytes : take (to - from) (drop from s) ≡ getD s from 0 ∷ getD s (from + 1) 0 ∷ getD s (from + 2) 0 ∷ take (to - (from + 3)) (drop (from + 3) s) =
-    part-cons s from to (omega arith) i
-    ∙ ap (λ r. getD s from 0 ∷ r) (part-cons s (from + 1) to (omega arith) i)
-    ∙ rw e (ap (λ r. getD s from 0 ∷ getD s (from + 1) 0 ∷ r) (part-cons s (from + 2) to (omega arith) i ∙ rw f))
-    in
-    reaches {j = from + 3} {m = n + 1} (omega arith) h (omega arith)
-    (ap (scanFrom n 0 0x80 0xbf) bytes
-    ∙ rw (leade1 (getD s from 0) a b, inside 0x80 0xbf (getD s (from + 1) 0) (omega arith) (omega arith), inside 0x80 0xbf (getD s (from + 2) 0) (omega arith) (omega arith), add-one n))
-
-pub three-step : {s : List ℕ} {to n from : ℕ} {q : Bool} → from + 3 ≤ to → to ≤ length s → n ≤ from → Three s from q → q ≡ true → Scans s to n from (from + 1) (At (from + 3) (n + 1))
-three-step h i l t e = three-scan h i l (rw e at t)
 
 -- ---- characters: the invariant of a loop that has come to i with m of them
 pub record Going (s : List ℕ) (i m : ℕ) : Type 0 where
@@ -226,9 +163,6 @@ going-past {s} {to} {n} {i} {stop} {j} {m} h e = go (rw e at h)
 module _ {s : List ℕ} where
   pub going-start : Going s 0 0
   going-start = record { within = omega arith; count = omega arith; leads = sym (whole s) }
-
-  pub going-ascii : {q : Bool} → (q ≡ true → Both s 0 0 (length s)) → q ≡ true → characters (length s) ≡ scan s
-  going-ascii f e = sym (text-scan s (text-ends (omega arith) (omega arith) (f e)))
 
   module _ {i m : ℕ} where
     pub going-reached : {j k : ℕ} {q : Upto} → Scans s (length s) m i (i + 1) q → q ≡ At j k → Going s i m → Going s j k
@@ -247,4 +181,4 @@ module _ {s : List ℕ} where
     unfolding pick
     going-done h l = let e : length s - i ≡ 0 = omega arith in sym (l .leads ∙ rw e)
 
-pub ruleset going = (going-start, going-ascii, going-reached, going-lost, going-done)
+pub ruleset going = (going-start, going-reached, going-lost, going-done)

@@ -1,9 +1,8 @@
 -- What the answers stand for in the definition of UTF-8.
-use Prim.Native.Nat.{ℕ, _+_, _-_, _/_, _≤_, _<_}
+use Prim.Native.Nat.{ℕ, _+_, _-_, _≤_, _<_}
 use mathlib.Core.Path.{_≡_}
 use mathlib.Core.List.{List}
-use mathlib.Core.Bool.{Bool, true, false}
-use lib.ListN.{length, getD, take, drop}
+use lib.ListN.{getD, take, drop}
 use Rattle.vob24.specs.Utf8 as def
 use Rattle.utf8.specs.declared.Next.{Next}
 use Rattle.utf8.specs.declared.Next.the-variants.{Bad, Want}
@@ -11,6 +10,8 @@ use Rattle.utf8.specs.declared.Scanned.{Scanned}
 use Rattle.utf8.specs.declared.Scanned.the-variants.{IllFormed, Characters}
 use Rattle.utf8.specs.declared.Upto.{Upto}
 use Rattle.utf8.specs.declared.Upto.the-variants.{At, IllFormed as Fails}
+use Rattle.utf8.specs.declared.Tried.{Tried}
+use Rattle.utf8.specs.declared.Tried.the-variants.{Unknown, Characters as Counted}
 
 abbrev pub nextOf : Next → def.Next
 nextOf Bad = def.bad
@@ -32,23 +33,17 @@ pub record Both (s : List ℕ) (a b width : ℕ) : Type 0 where
   pub first : Ascii s a (a + width)
   pub second : Ascii s b (b + width)
 
--- bytes of ASCII from `from` up to i
-pub record Run (s : List ℕ) (from to i : ℕ) : Type 0 where
-  pub past : from ≤ i
-  pub within : i ≤ to
-  pub low : Ascii s from i
-
--- are the bytes at i a character of the row E1..EC?
-pub data Three (s : List ℕ) (i : ℕ) : Bool → Type 0 where
-  isThree : 0xe1 ≤ getD s i 0 → getD s i 0 ≤ 0xec → getD s (i + 1) 0 / 64 ≡ 2 → getD s (i + 2) 0 / 64 ≡ 2 → Three s i true
-  notThree : Three s i false
-
--- is each byte of the text a character?
-pub data AsciiText (t : List ℕ) : Bool → Type 0 where
-  allAscii : def.scan t ≡ def.characters (length t) → AsciiText t true
-  notAscii : AsciiText t false
-
 -- The scan from i, after n characters, fails or comes down to that from a place at or past stop.
 pub data Scans (s : List ℕ) (to n i stop : ℕ) : Upto → Type 0 where
   fails : scanAt s to n i ≡ def.illFormed → Scans s to n i stop Fails
   reaches : {j m : ℕ} → stop ≤ j → j ≤ to → m ≤ j → scanAt s to n i ≡ scanAt s to m j → Scans s to n i stop (At j m)
+
+-- What the faster test says of a text holds of the scan.
+pub data Tries (t : List ℕ) : Tried → Type 0 where
+  known : {n : ℕ} → def.scan t ≡ def.characters n → Tries t (Counted n)
+  unknown : Tries t Unknown
+
+-- the same of the bytes of s from i up to `to`, after n characters
+pub data TriesAt (s : List ℕ) (to n i : ℕ) : Tried → Type 0 where
+  told : {m : ℕ} → scanAt s to n i ≡ def.characters m → TriesAt s to n i (Counted m)
+  untold : TriesAt s to n i Unknown

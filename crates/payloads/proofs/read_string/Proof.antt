@@ -22,20 +22,26 @@ returns c = search (needs, texts)
 add-end : tie.Need-add-end
 add-end c = omega (arith, spans-room (c .before .q .given .1) (c .before .before .before .read-bytes .ensures))
 
-sub-is-ascii : tie.Need-sub-is-ascii
-sub-is-ascii c = search needs
+sub-try-short : tie.Need-sub-try-short
+sub-try-short c = search needs
 
-part-is-ascii-start : tie.Need-part-is-ascii-start
-part-is-ascii-start c = search needs
+part-try-short-start : tie.Need-part-try-short-start
+part-try-short-start c = search needs
 
-part-is-ascii-end : tie.Need-part-is-ascii-end
-part-is-ascii-end c = search (needs, texts)
+part-try-short-end : tie.Need-part-try-short-end
+part-try-short-end c = search (needs, texts)
 
-is-ascii-requires : tie.Need-is-ascii-requires
-is-ascii-requires c κs = search needs
+try-short-requires : tie.Need-try-short-requires
+try-short-requires c κs = search needs
+
+enum-known-n : tie.Need-enum-known-n
+enum-known-n c = search needs
 
 returns-2 : tie.Need-returns-2
 returns-2 c = search (needs, texts)
+
+enum-told-2 : tie.Need-enum-told-2
+enum-told-2 c = search needs
 
 text-requires : tie.Need-text-requires
 text-requires c κs = search (needs, texts)
@@ -43,8 +49,8 @@ text-requires c κs = search (needs, texts)
 enum-known-found : tie.Need-enum-known-found
 enum-known-found c = search needs
 
-enum-told-2 : tie.Need-enum-told-2
-enum-told-2 c = search needs
+enum-told-3 : tie.Need-enum-told-3
+enum-told-3 c = search needs
 
 returns-3 : tie.Need-returns-3
 returns-3 c = search (needs, texts)
@@ -62,13 +68,15 @@ read-string-spec =
     not-text-requires
     returns
     add-end
-    sub-is-ascii
-    part-is-ascii-start
-    part-is-ascii-end
-    is-ascii-requires
+    sub-try-short
+    part-try-short-start
+    part-try-short-end
+    try-short-requires
+    enum-known-n
     returns-2
+    enum-told-2
     text-requires
     enum-known-found
-    enum-told-2
+    enum-told-3
     returns-3
     returns-4)

@@ -6,17 +6,17 @@ use Rattle.payloads.proofs.text.Tie as tie
 add-end : tie.Need-add-end
 add-end c = search needs
 
-sub-scan : tie.Need-sub-scan
-sub-scan c = search needs
+sub-scan-at : tie.Need-sub-scan-at
+sub-scan-at c = search needs
 
-part-scan-start : tie.Need-part-scan-start
-part-scan-start c = search needs
+part-scan-at-start : tie.Need-part-scan-at-start
+part-scan-at-start c = search needs
 
-part-scan-end : tie.Need-part-scan-end
-part-scan-end c = search needs
+part-scan-at-end : tie.Need-part-scan-at-end
+part-scan-at-end c = search needs
 
-scan-requires : tie.Need-scan-requires
-scan-requires c κs = search needs
+scan-at-requires : tie.Need-scan-at-requires
+scan-at-requires c κs = search needs
 
 enum-known-found : tie.Need-enum-known-found
 enum-known-found c = search needs
@@ -38,10 +38,10 @@ text-spec =
     tie.close
     (tie.spec
     add-end
-    sub-scan
-    part-scan-start
-    part-scan-end
-    scan-requires
+    sub-scan-at
+    part-scan-at-start
+    part-scan-at-end
+    scan-at-requires
     enum-known-found
     enum-told
     refuse-requires

@@ -11,17 +11,14 @@ Inv-loop t to i₀ n₀ i n = Going t i n
 abbrev μ-loop : tie.MeasureT-loop
 μ-loop t to i₀ n₀ i n = to - i
 
-ascii-requires : tie.Need-ascii-requires Inv-loop μ-loop
-ascii-requires c κs = search (needs, going)
-
 returns : tie.Need-returns Inv-loop μ-loop
 returns c = search (needs, going)
 
 loop-holds : tie.Need-loop-holds Inv-loop μ-loop
 loop-holds c = search (needs, going)
 
-chars-requires : tie.Need-chars-requires Inv-loop μ-loop
-chars-requires c κs = search (needs, going)
+char-requires : tie.Need-char-requires Inv-loop μ-loop
+char-requires c = search (needs, going)
 
 enum-known-j : tie.Need-enum-known-j Inv-loop μ-loop
 enum-known-j c = search (needs, going)
@@ -33,13 +30,10 @@ returns-2 : tie.Need-returns-2 Inv-loop μ-loop
 returns-2 c = search (needs, going)
 
 loop-less : tie.Need-loop-less Inv-loop μ-loop
-loop-less c = omega (arith, going-past (c .before .before .before .chars .ensures) (c .before .j .given .1))
+loop-less c = omega (arith, going-past (c .before .before .before .char .ensures) (c .before .j .given .1))
 
 loop-again : tie.Need-loop-again Inv-loop μ-loop
 loop-again c = search (needs, going)
-
-returns-3 : tie.Need-returns-3 Inv-loop μ-loop
-returns-3 c = search (needs, going)
 
 pub scan-spec : {M : Type 1} → statement M
 scan-spec =
@@ -47,13 +41,11 @@ scan-spec =
     (tie.spec
     Inv-loop
     μ-loop
-    ascii-requires
-    returns
     loop-holds
-    chars-requires
+    char-requires
     enum-known-j
     enum-told
-    returns-2
+    returns
     loop-less
     loop-again
-    returns-3)
+    returns-2)
