@@ -6,10 +6,10 @@ use Rattle.debug_info.proofs.inline_functions.Statement.{statement}
 use Rattle.debug_info.proofs.inline_functions.Tie as tie
 
 abbrev Inv-loop : tie.InvT-loop
-Inv-loop s functions tape₀ most n k₀ here₀ left₀ tape k here left = Sharing s tape₀ here₀ left₀ k₀ tape here left k
+Inv-loop s set functions tape₀ most n k₀ here₀ left₀ tape k here left = Sharing (settingsOf set) s tape₀ here₀ left₀ k₀ tape here left k
 
 abbrev μ-loop : tie.MeasureT-loop
-μ-loop s functions tape₀ most n k₀ here₀ left₀ tape k here left = k
+μ-loop s set functions tape₀ most n k₀ here₀ left₀ tape k here left = k
 
 enum-known-r : tie.Need-enum-known-r Inv-loop μ-loop
 enum-known-r c = search (needs, reading, sharing)

@@ -31,7 +31,7 @@ same-length c = search needs
 
 returns-2 : tie.Need-returns-2
 unfolding section inlineFrames inlineFunctions
-returns-2 c = at-step ((c .before .before .before .before .before .before .before .r) .given .1) (fieldThen (emptyFirst (ready-at ((c .before .before .before .before .before .before .before .r) .given .1) (c .before .before .before .before .before .before .before .before .before .before .before .pre)) ((c .before .before .before .before .before .five-at) .ensures ((c .before .before .before .before .if1) .taken)) ((c .before .before .past-five) .ensures) (artifact settings) refl) (λ _. fieldThen (emptySecond (ready-at ((c .before .before .before .before .before .before .before .r) .given .1) (c .before .before .before .before .before .before .before .before .before .before .before .pre)) ((c .before .before .before .before .before .five-at) .ensures ((c .before .before .before .before .if1) .taken)) ((c .before .before .past-five) .ensures) str refl) (λ _. fieldThen (emptyThird (ready-at ((c .before .before .before .before .before .before .before .r) .given .1) (c .before .before .before .before .before .before .before .before .before .before .before .pre)) ((c .before .before .before .before .before .five-at) .ensures ((c .before .before .before .before .if1) .taken)) ((c .before .before .past-five) .ensures) (list settings of.DebugLoc (location settings)) refl) (λ _. fieldThen (emptyFourth (ready-at ((c .before .before .before .before .before .before .before .r) .given .1) (c .before .before .before .before .before .before .before .before .before .before .before .pre)) ((c .before .before .before .before .before .five-at) .ensures ((c .before .before .before .before .if1) .taken)) ((c .before .before .past-five) .ensures) (frame settings) refl) (λ _. emptyFifth (ready-at ((c .before .before .before .before .before .before .before .r) .given .1) (c .before .before .before .before .before .before .before .before .before .before .before .pre)) ((c .before .before .before .before .before .five-at) .ensures ((c .before .before .before .before .if1) .taken)) ((c .before .before .past-five) .ensures) (inlineFunction settings) (stillLeft settings) (settings .inlineRecords) (within-any (min ((c .before .before .before .before .before .before .before .before .before .before .before .args) .functions) (settings .inlineRecords))))))))
+returns-2 c = at-step ((c .before .before .before .before .before .before .before .r) .given .1) (fieldThen (emptyFirst (ready-at ((c .before .before .before .before .before .before .before .r) .given .1) (c .before .before .before .before .before .before .before .before .before .before .before .pre)) ((c .before .before .before .before .before .five-at) .ensures ((c .before .before .before .before .if1) .taken)) ((c .before .before .past-five) .ensures) (artifact settings) refl) (λ _. fieldThen (emptySecond (ready-at ((c .before .before .before .before .before .before .before .r) .given .1) (c .before .before .before .before .before .before .before .before .before .before .before .pre)) ((c .before .before .before .before .before .five-at) .ensures ((c .before .before .before .before .if1) .taken)) ((c .before .before .past-five) .ensures) str refl) (λ _. fieldThen (emptyThird (ready-at ((c .before .before .before .before .before .before .before .r) .given .1) (c .before .before .before .before .before .before .before .before .before .before .before .pre)) ((c .before .before .before .before .before .five-at) .ensures ((c .before .before .before .before .if1) .taken)) ((c .before .before .past-five) .ensures) (list settings of.DebugLoc location) refl) (λ _. fieldThen (emptyFourth (ready-at ((c .before .before .before .before .before .before .before .r) .given .1) (c .before .before .before .before .before .before .before .before .before .before .before .pre)) ((c .before .before .before .before .before .five-at) .ensures ((c .before .before .before .before .if1) .taken)) ((c .before .before .past-five) .ensures) frame refl) (λ _. emptyFifth (ready-at ((c .before .before .before .before .before .before .before .r) .given .1) (c .before .before .before .before .before .before .before .before .before .before .before .pre)) ((c .before .before .before .before .before .five-at) .ensures ((c .before .before .before .before .if1) .taken)) ((c .before .before .past-five) .ensures) (inlineFunction settings) stillLeft (settings .inlineRecords) (within-any (min ((c .before .before .before .before .before .before .before .before .before .before .before .args) .functions) (settings .inlineRecords))))))))
 
 artifacts-requires : tie.Need-artifacts-requires
 artifacts-requires c κs = ready-at ((c .before .before .before .before .r) .given .1) (c .before .before .before .before .before .before .before .before .pre)
