@@ -19,7 +19,7 @@ inline-sources-requires c κs = search needs
 
 closed-requires : tie.Need-closed-requires
 unfolding section settingsOf
-closed-requires c κs = section-since settings (c .before .before .before .before .before .before .before .args .functions) inlineSources ((c .before .before .before .before .opening) .ensures) ((c .before .before .inline-sources) .ensures)
+closed-requires c κs = section-since settings (c .before .before .before .before .before .before .before .before .args .functions) inlineSources ((c .before .before .before .before .opening) .ensures) ((c .before .before .inline-sources) .ensures)
 
 enum-told : tie.Need-enum-told
 enum-told c = search needs
@@ -32,7 +32,7 @@ same-length c = search needs
 
 returns : tie.Need-returns
 unfolding section settingsOf
-returns c = section-refused settings (c .before .before .before .before .before .before .before .before .before .before .args .functions) inlineSources ((c .before .before .before .before .before .before .before .opening) .ensures) ((c .before .before .before .before .before .inline-sources) .ensures) (search needs) ((c .before .before .closed) .ensures) ((c .enum-told2) .given .1)
+returns c = section-refused settings (c .before .before .before .before .before .before .before .before .before .before .before .args .functions) inlineSources ((c .before .before .before .before .before .before .before .opening) .ensures) ((c .before .before .before .before .before .inline-sources) .ensures) (search needs) ((c .before .before .closed) .ensures) ((c .enum-told2) .given .1)
 
 inline-sources-requires-2 : tie.Need-inline-sources-requires-2
 inline-sources-requires-2 c κs = search needs
@@ -42,7 +42,7 @@ same-length-2 c = search needs
 
 returns-2 : tie.Need-returns-2
 unfolding section settingsOf
-returns-2 c = section-taken settings (c .before .before .before .before .before .before .before .before .before .before .before .before .before .before .args .functions) inlineSources ((c .before .before .before .before .before .before .before .before .before .before .before .opening) .ensures) ((c .before .before .before .before .before .before .before .before .before .inline-sources) .ensures) (search needs) ((c .before .before .before .before .before .before .closed) .ensures) ((c .before .before .before .before .enum-told) .given .1) ((c .before .before .inline-sources2) .ensures)
+returns-2 c = section-taken settings (c .before .before .before .before .before .before .before .before .before .before .before .before .before .before .before .args .functions) inlineSources ((c .before .before .before .before .before .before .before .before .before .before .before .opening) .ensures) ((c .before .before .before .before .before .before .before .before .before .inline-sources) .ensures) (search needs) ((c .before .before .before .before .before .before .closed) .ensures) ((c .before .before .before .before .enum-told) .given .1) ((c .before .before .inline-sources2) .ensures)
 
 pub read-inline-sources-spec : {M : Type 1} → statement M
 read-inline-sources-spec =
