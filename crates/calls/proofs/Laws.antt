@@ -16,7 +16,7 @@ use Rattle.format.specs.Record.{words}
 use Rattle.format.specs.Settling.{settle-taken, thenS}
 use Rattle.format.specs.Ending.{trace-place}
 use Rattle.vob24.specs.Refusals
-use Rattle.vob24.specs.Settings.{settings, maxPackBytes}
+use Rattle.vob24.specs.Settings.{Settings, maxPackBytes}
 use Rattle.vob24.specs.Grammar.{Section, section, pack}
 use Rattle.vob24.specs.Calls as vob
 use Rattle.vob24.specs.Theorems.{whole-settled, section-alone}
@@ -101,41 +101,41 @@ opened-as s p b = go (leb (length s) maxPackBytes) (leb→le _ _) (nleb→lt _ _
     go true x y false z w = past (x tt) (w tt)
     go false x y e z w = long (y tt)
 
-module _ (n : ℕ) (x : Section) (s : List ℕ) (p b : ℕ) where
-  section-long : maxPackBytes < length s → settle b (vob.sectionTrace settings n x s p) ≡ refused (vob.tooLarge (length s)) p b
+module _ (set : Settings) (n : ℕ) (x : Section) (s : List ℕ) (p b : ℕ) where
+  section-long : maxPackBytes < length s → settle b (vob.sectionTrace set n x s p) ≡ refused (vob.tooLarge (length s)) p b
   unfolding vob.sectionTrace guard settle
   section-long h = rw (lt-leb _ _ h)
 
-  section-past : length s ≤ maxPackBytes → length s < p → settle b (vob.sectionTrace settings n x s p) ≡ refused (wrong Refusals.unexpectedEof 0) p b
+  section-past : length s ≤ maxPackBytes → length s < p → settle b (vob.sectionTrace set n x s p) ≡ refused (wrong Refusals.unexpectedEof 0) p b
   unfolding vob.sectionTrace guard settle
   section-past h i = rw (le-leb _ _ h, lt-leb _ _ i)
 
-  section-at : length s ≤ maxPackBytes → p ≤ length s → settle b (vob.sectionTrace settings n x s p) ≡ settle b (trace (section settings n x) s p)
-  section-at h i = ap (settle b) (section-alone settings n x s p h i)
+  section-at : length s ≤ maxPackBytes → p ≤ length s → settle b (vob.sectionTrace set n x s p) ≡ settle b (trace (section set n x) s p)
+  section-at h i = ap (settle b) (section-alone set n x s p h i)
 
-  section-cases : {r₀ r : Step} {t e : List ℕ} → Opened s p b r₀ → Reads (section settings n x) s r₀ t r e → Passed (section settings n x) (vob.sectionTrace settings n x s p) s p b r₀ r
+  section-cases : {r₀ r : Step} {t e : List ℕ} → Opened s p b r₀ → Reads (section set n x) s r₀ t r e → Passed (section set n x) (vob.sectionTrace set n x s p) s p b r₀ r
   section-cases (long h) skips = denied (section-long h)
   section-cases (past h i) skips = denied (section-past h i)
   section-cases (at h i) (takes k) = passed refl (section-at h i ∙ k .settles) (k .settles) (k .moves ∙ zero-add _)
   section-cases (at h i) (refuses k) = denied (section-at h i ∙ k .settles)
 
-module _ (s : List ℕ) (b : ℕ) where
-  whole-long : maxPackBytes < length s → settle b (vob.wholeTrace settings s) ≡ refused (vob.tooLarge (length s)) 0 b
+module _ (set : Settings) (s : List ℕ) (b : ℕ) where
+  whole-long : maxPackBytes < length s → settle b (vob.wholeTrace set s) ≡ refused (vob.tooLarge (length s)) 0 b
   unfolding vob.wholeTrace guard settle
   whole-long h = rw (lt-leb _ _ h)
 
   -- the whole pack, with the question after it
-  judged : {t : List ℕ} {v : Value} {c : Cursor} {e : List ℕ} → length s ≤ maxPackBytes → Takes (pack settings) s (from 0 b) t v c e → (d : Bool) → eqb (c .place) (length s) ≡ d
-      → Passed (pack settings) (vob.wholeTrace settings s) s 0 b (Taken (from 0 b)) (pick d (Taken c) (Refused (refusal (wrong Refusals.trailingBytes (length s - c .place)) (c .place) (c .left))))
+  judged : {t : List ℕ} {v : Value} {c : Cursor} {e : List ℕ} → length s ≤ maxPackBytes → Takes (pack set) s (from 0 b) t v c e → (d : Bool) → eqb (c .place) (length s) ≡ d
+      → Passed (pack set) (vob.wholeTrace set s) s 0 b (Taken (from 0 b)) (pick d (Taken c) (Refused (refusal (wrong Refusals.trailingBytes (length s - c .place)) (c .place) (c .left))))
   unfolding pick thenS guard settle
-  judged {v = v} {c = c} h k true i = passed {v = v} {c = c} refl (whole-settled settings s b h ∙ rw (k .settles, i)) (k .settles) (k .moves ∙ zero-add _)
-  judged {c = c} h k false i = denied {x = refusal (wrong Refusals.trailingBytes (length s - c .place)) (c .place) (c .left)} (whole-settled settings s b h ∙ rw (k .settles, i))
+  judged {v = v} {c = c} h k true i = passed {v = v} {c = c} refl (whole-settled set s b h ∙ rw (k .settles, i)) (k .settles) (k .moves ∙ zero-add _)
+  judged {c = c} h k false i = denied {x = refusal (wrong Refusals.trailingBytes (length s - c .place)) (c .place) (c .left)} (whole-settled set s b h ∙ rw (k .settles, i))
 
-  whole-cases : {r₀ r : Step} {t e : List ℕ} → Opened s 0 b r₀ → Reads (pack settings) s r₀ t r e → Passed (pack settings) (vob.wholeTrace settings s) s 0 b r₀ (ended (length s) r)
+  whole-cases : {r₀ r : Step} {t e : List ℕ} → Opened s 0 b r₀ → Reads (pack set) s r₀ t r e → Passed (pack set) (vob.wholeTrace set s) s 0 b r₀ (ended (length s) r)
   unfolding thenS
   whole-cases (long h) skips = denied (whole-long h)
   whole-cases (past h i) skips = absurd (omega arith)
-  whole-cases (at h i) (refuses {x = x} k) = denied {x = x} (whole-settled settings s b h ∙ rw (k .settles))
+  whole-cases (at h i) (refuses {x = x} k) = denied {x = x} (whole-settled set s b h ∙ rw (k .settles))
   whole-cases (at h i) (takes {c′ = c} k) = judged h k (eqb (c .place) (length s)) refl
 
 -- ---- what a call makes of them
@@ -239,46 +239,46 @@ nil (x ∷ e) h = absurd (omega arith)
 
 -- ---- a section call
 
-module _ (n : ℕ) (x : Section) {s : List ℕ} {p b : ℕ} {r₀ r : Step} {t₀ e : List ℕ} (o : Opens s p b r₀) (k : Reader (section settings n x) s r₀ t₀ r e) where
-  section-passed : Passed (section settings n x) (vob.sectionTrace settings n x s p) s p b r₀ r
-  section-passed = section-cases n x s p b (rw (o .is) (opened-as s p b)) (k .reads)
+module _ (set : Settings) (n : ℕ) (x : Section) {s : List ℕ} {p b : ℕ} {r₀ r : Step} {t₀ e : List ℕ} (o : Opens s p b r₀) (k : Reader (section set n x) s r₀ t₀ r e) where
+  section-passed : Passed (section set n x) (vob.sectionTrace set n x s p) s p b r₀ r
+  section-passed = section-cases set n x s p b (rw (o .is) (opened-as s p b)) (k .reads)
 
   pub section-since : Since p b r
   section-since = passed-since section-passed
 
-  pub section-granted : {g : Bool} {room : ℕ} {q : Answer} {w i c l : ℕ} → Closes p b room r q → q ≡ Answer.Taken w i c l → Granted g (section settings n x) s r₀
+  pub section-granted : {g : Bool} {room : ℕ} {q : Answer} {w i c l : ℕ} → Closes p b room r q → q ≡ Answer.Taken w i c l → Granted g (section set n x) s r₀
   section-granted {room = room} m j = passed-granted section-passed (closed-taken p b room r (m .is) j .1)
 
   module _ {t : List ℕ} {q : Answer} (z : length e ≡ 0) (m : Closes p b (length (e ++ t)) r q) where
-    pub section-refused : {y : Refusal} → q ≡ Answer.Refused y → SectionCall n x s p b t q (e ++ t)
+    pub section-refused : {y : Refusal} → q ≡ Answer.Refused y → SectionCall set n x s p b t q (e ++ t)
     unfolding vob.sectionOutcome
     section-refused j = let i = nil e z in record { is = rw i (refused-so _ _ p b t section-passed (m .is ∙ rw i) j) }
 
-    pub section-taken : {w i c l : ℕ} {r₂ : Step} {t₂ : List ℕ} → q ≡ Answer.Taken w i c l → Reader (section settings n x) s r₀ (e ++ t) r₂ t₂ → SectionCall n x s p b t q t₂
+    pub section-taken : {w i c l : ℕ} {r₂ : Step} {t₂ : List ℕ} → q ≡ Answer.Taken w i c l → Reader (section set n x) s r₀ (e ++ t) r₂ t₂ → SectionCall set n x s p b t q t₂
     unfolding vob.sectionOutcome
     section-taken j k₂ = let i = nil e z in record { is = taken-so _ _ p b t section-passed (m .is ∙ rw i) j (twice (rw i at (k₂ .reads))) }
 
 -- ---- the call on a whole pack
 
-module _ {s : List ℕ} {b : ℕ} {r₀ r : Step} {t₀ e : List ℕ} (o : Opens s 0 b r₀) (k : Reader (pack settings) s r₀ t₀ r e) where
+module _ (set : Settings) {s : List ℕ} {b : ℕ} {r₀ r : Step} {t₀ e : List ℕ} (o : Opens s 0 b r₀) (k : Reader (pack set) s r₀ t₀ r e) where
   pub read-within : Within (length s) r
   read-within = record { place = λ c i. let y : ReadyAt s c = rw i at (k .ready) in y .within }
 
-  pub read-passed : {r′ : Step} → Ends (length s) r r′ → Passed (pack settings) (vob.wholeTrace settings s) s 0 b r₀ r′
-  read-passed g = rw (g .is) (whole-cases s b (rw (o .is) (opened-as s 0 b)) (k .reads))
+  pub read-passed : {r′ : Step} → Ends (length s) r r′ → Passed (pack set) (vob.wholeTrace set s) s 0 b r₀ r′
+  read-passed g = rw (g .is) (whole-cases set s b (rw (o .is) (opened-as s 0 b)) (k .reads))
 
-  whole-passed : Passed (pack settings) (vob.wholeTrace settings s) s 0 b r₀ (ended (length s) r)
+  whole-passed : Passed (pack set) (vob.wholeTrace set s) s 0 b r₀ (ended (length s) r)
   whole-passed = read-passed record { is = refl }
 
   pub read-since : Since 0 b (ended (length s) r)
   read-since = passed-since whole-passed
 
   module _ {t : List ℕ} {q : Answer} (z : length e ≡ 0) (m : Closes 0 b (length (e ++ t)) (ended (length s) r) q) where
-    pub read-refused : {y : Refusal} → q ≡ Answer.Refused y → ReadCall s b t q (e ++ t)
+    pub read-refused : {y : Refusal} → q ≡ Answer.Refused y → ReadCall set s b t q (e ++ t)
     unfolding vob.readOutcome
     read-refused j = let i = nil e z in record { is = rw i (refused-so _ _ 0 b t whole-passed (m .is ∙ rw i) j) }
 
-    pub read-taken : {w i c l : ℕ} {r₂ : Step} {t₂ : List ℕ} → q ≡ Answer.Taken w i c l → Reader (pack settings) s r₀ (e ++ t) r₂ t₂ → ReadCall s b t q t₂
+    pub read-taken : {w i c l : ℕ} {r₂ : Step} {t₂ : List ℕ} → q ≡ Answer.Taken w i c l → Reader (pack set) s r₀ (e ++ t) r₂ t₂ → ReadCall set s b t q t₂
     unfolding vob.readOutcome
     read-taken j k₂ = let i = nil e z in record { is = taken-so _ _ 0 b t whole-passed (m .is ∙ rw i) j (twice (rw i at (k₂ .reads))) }
 
@@ -287,20 +287,20 @@ module _ {s : List ℕ} {b : ℕ} {r₀ r : Step} {t₀ e : List ℕ} (o : Opens
     pub read-room : w ≤ room
     read-room = let d = closed-taken 0 b room (ended (length s) r) (m .is) j in omega (arith, d .2, d .3)
 
-    pub read-granted : {g : Bool} → Granted g (pack settings) s r₀
+    pub read-granted : {g : Bool} → Granted g (pack set) s r₀
     read-granted = passed-granted whole-passed (closed-taken 0 b room (ended (length s) r) (m .is) j .1)
 
   -- a small pack: read over a tape of its own
   module _ {t : List ℕ} {q : Answer} (m : Closes 0 b (length t) (ended (length s) r) q) where
-    pub small-refused : {y : Refusal} → q ≡ Answer.Refused y → ReadCall s b t q t
+    pub small-refused : {y : Refusal} → q ≡ Answer.Refused y → ReadCall set s b t q t
     unfolding vob.readOutcome
     small-refused j = record { is = refused-so _ _ 0 b t whole-passed (m .is) j }
 
-    pub small-taken : {w i c l : ℕ} {t₂ : List ℕ} → w ≤ length t₀ → q ≡ Answer.Taken w i c l → t₂ ≡ paste t 0 e w → ReadCall s b t (Answer.Taken w i c l) t₂
+    pub small-taken : {w i c l : ℕ} {t₂ : List ℕ} → w ≤ length t₀ → q ≡ Answer.Taken w i c l → t₂ ≡ paste t 0 e w → ReadCall set s b t (Answer.Taken w i c l) t₂
     unfolding vob.readOutcome
-    small-taken {t₂ = t₂} h j y = let a : ReadCall s b t q t₂ = record { is = taken-so _ _ 0 b t whole-passed (m .is) j (once h (k .reads) y) } in rw j at a
+    small-taken {t₂ = t₂} h j y = let a : ReadCall set s b t q t₂ = record { is = taken-so _ _ 0 b t whole-passed (m .is) j (once h (k .reads) y) } in rw j at a
 
     -- and a second time, where its record is longer than that
-    pub small-again : {w i c l : ℕ} {r₂ : Step} {t₂ : List ℕ} → q ≡ Answer.Taken w i c l → Reader (pack settings) s r₀ t r₂ t₂ → ReadCall s b t (Answer.Taken w i c l) t₂
+    pub small-again : {w i c l : ℕ} {r₂ : Step} {t₂ : List ℕ} → q ≡ Answer.Taken w i c l → Reader (pack set) s r₀ t r₂ t₂ → ReadCall set s b t (Answer.Taken w i c l) t₂
     unfolding vob.readOutcome
-    small-again {t₂ = t₂} j k₂ = let a : ReadCall s b t q t₂ = record { is = taken-so _ _ 0 b t whole-passed (m .is) j (twice (k₂ .reads)) } in rw j at a
+    small-again {t₂ = t₂} j k₂ = let a : ReadCall set s b t q t₂ = record { is = taken-so _ _ 0 b t whole-passed (m .is) j (twice (k₂ .reads)) } in rw j at a

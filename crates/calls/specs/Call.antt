@@ -6,7 +6,7 @@ use lib.ListN.{length}
 use lib.Dec.{leb, eqb}
 use Rattle.format.specs.Trace.{wrong, pick}
 use Rattle.vob24.specs.Refusals
-use Rattle.vob24.specs.Settings.{settings, maxPackBytes}
+use Rattle.vob24.specs.Settings.{Settings, maxPackBytes}
 use Rattle.vob24.specs.Grammar.{Section}
 use Rattle.vob24.specs.Calls as vob
 use Rattle.reader.specs.Contract.{refusal, wrongOf, Ready}
@@ -21,12 +21,12 @@ answerOf (Answer.Taken w n c l) = vob.Taken w n c l
 answerOf (Answer.Refused x) = vob.Refused (wrongOf x) (x .place) (x .left)
 
 -- THE contract of the call on a whole pack.
-pub record ReadCall (s : List ℕ) (b : ℕ) (t : List ℕ) (q : Answer) (t′ : List ℕ) : Type 0 where
-  pub is : vob.readOutcome settings s b t ≡ record { answer = answerOf q; tape = t′ }
+pub record ReadCall (set : Settings) (s : List ℕ) (b : ℕ) (t : List ℕ) (q : Answer) (t′ : List ℕ) : Type 0 where
+  pub is : vob.readOutcome set s b t ≡ record { answer = answerOf q; tape = t′ }
 
 -- THE contract of a section call; n is the number of functions that bounds the inline sources.
-pub record SectionCall (n : ℕ) (x : Section) (s : List ℕ) (p b : ℕ) (t : List ℕ) (q : Answer) (t′ : List ℕ) : Type 0 where
-  pub is : vob.sectionOutcome settings n x s p b t ≡ record { answer = answerOf q; tape = t′ }
+pub record SectionCall (set : Settings) (n : ℕ) (x : Section) (s : List ℕ) (p b : ℕ) (t : List ℕ) (q : Answer) (t′ : List ℕ) : Type 0 where
+  pub is : vob.sectionOutcome set n x s p b t ≡ record { answer = answerOf q; tape = t′ }
 
 -- where a call starts
 abbrev pub from : ℕ → ℕ → Cursor

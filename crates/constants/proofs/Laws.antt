@@ -11,7 +11,6 @@ use mir.Syntax.{w64}
 use mir.Val.{toZ}
 use Rattle.format.specs.Format.{Value, number, Format, empty}
 use Rattle.format.specs.Ending.{part-length}
-use Rattle.vob24.specs.Settings.{settings}
 use Rattle.vob24.specs.Leaves.{u64, bool, str}
 use Rattle.vob24.specs.Grammar as vob
 use Rattle.fields.specs.Fields.{constantTag}
@@ -104,9 +103,9 @@ module _ {s : List ℕ} {c : Cursor} {q : Number} {t t₁ : List ℕ} (h : Numbe
   constant-unread e i j = recordedNot (lostHere e (j ∙ i) h)
 
   module _ (k : ℕ) {n : ℕ} {d : Cursor} (e : q ≡ Got n d) (i : n ≡ k) where
-    constant-by : {r : Step} {y : Constant} {t₂ : List ℕ} → Recorded (getD (vob.constantVariants settings) k empty) (λ _ v. constantBy k v) s d t₁ r y t₂ → Recorded constantFormat constantOf s c t r y t₂
+    constant-by : {r : Step} {y : Constant} {t₂ : List ℕ} → Recorded (getD vob.constantVariants k empty) (λ _ v. constantBy k v) s d t₁ r y t₂ → Recorded constantFormat constantOf s c t r y t₂
     unfolding vob.constant
-    constant-by m = recordedThen e h (λ n. getD (vob.constantVariants settings) n empty) (λ n _ v. constantBy n v) (rw i m)
+    constant-by m = recordedThen e h (λ n. getD vob.constantVariants n empty) (λ n _ v. constantBy n v) (rw i m)
 
   module _ {n : ℕ} {d : Cursor} (e : q ≡ Got n d) where
     pub constant-nil : n ≡ 0 → Recorded constantFormat constantOf s c t (Taken d) Constant.Nil t₁

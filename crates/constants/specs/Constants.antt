@@ -7,7 +7,7 @@ use mir.Syntax.{w64}
 use mir.Val.{toZ}
 use Rattle.format.specs.Format.{Value, number, start, content, first, second, Format}
 use Rattle.vob24.specs.Settings as of
-use Rattle.vob24.specs.Settings.{settings}
+use Rattle.vob24.specs.Settings.{Settings}
 use Rattle.vob24.specs.Grammar as vob
 use Rattle.reader.specs.declared.Step.{Step}
 use Rattle.reader.specs.declared.Step.the-variants.{Taken, Refused}
@@ -15,10 +15,10 @@ use Rattle.constants.specs.declared.answers.Constant.{Constant}
 use Rattle.constants.specs.declared.answers.ConstantRead.{ConstantRead}
 
 abbrev pub constantFormat : Format
-constantFormat = vob.constant settings
+constantFormat = vob.constant
 
-abbrev pub constantList : Format
-constantList = vob.list settings of.Constant (vob.constant settings)
+abbrev pub constantList : Settings → Format
+constantList set = vob.list set of.Constant vob.constant
 
 abbrev pub stepOfConstant : ConstantRead → Step
 stepOfConstant (ConstantRead.Got x c) = Taken c

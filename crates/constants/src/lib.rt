@@ -1,5 +1,6 @@
 // The constants of a module. A constant is answered as an enum, a text as its start and length in the pack.
 // Ports Constant of bytecode.rs and its reading by Module::deserialize of serialize.rs.
+ghost use Rattle.vob24.specs.Settings.{settingsOf};
 ghost use mathlib.Core.Path.{_≡_};
 ghost use Rattle.vob24.specs.Leaves.{u64, bool, str};
 ghost use Rattle.reader.specs.Contract.{Ready, ReadyAt, Reader};
@@ -14,6 +15,7 @@ use reader::Payload;
 use reader::Signed;
 use reader::Step;
 use reader::sizes;
+use vob24::Settings;
 
 pub mod answers;
 
@@ -116,14 +118,14 @@ fn constant_field(s: &[u8], r: Step, tape: &mut [u32]) -> Step
     constant_step(constant(s, c, tape))
 }
 
-pub fn constants(s: &[u8], r: Step, tape: &mut [u32]) -> Step
+pub fn constants(s: &[u8], set: &Settings, r: Step, tape: &mut [u32]) -> Step
     requires { ⌜ Ready (now s) r ⌝ }
-    ensures { λ q. ⌜ Reader constantList (now (s .entry)) r (now (tape .entry)) q (now (tape .exit)) ⌝ }
+    ensures { λ q. ⌜ Reader (constantList (settingsOf (now (set .entry)))) (now (s .entry)) r (now (tape .entry)) q (now (tape .exit)) ⌝ }
 {
     let Step::Taken(c) = r else {
         return r;
     };
-    let q = fields::number_count(s, c, sizes::CONSTANT, tape);
+    let q = fields::number_count(s, set, c, sizes::CONSTANT, tape);
     let Number::Got(n, d) = q else {
         return reader::refused(q);
     };

@@ -3,6 +3,7 @@
 ghost use mathlib.Core.Path.{_≡_};
 ghost use Prim.Native.Nat.{_≤_, _<_, min};
 ghost use Rattle.format.specs.Format.{times};
+ghost use Rattle.vob24.specs.Settings.{settingsOf};
 ghost use Rattle.vob24.specs.Leaves.{optional, sourceU32};
 ghost use Rattle.reader.specs.Contract.{Ready, ReadyAt, Reader, NumberOf};
 ghost use Rattle.lists.specs.Runs.{Runs};
@@ -14,18 +15,16 @@ use reader::Number;
 use reader::Step;
 use reader::numbers;
 use reader::sizes;
+use vob24::Settings;
 
-// "Inline: frames at most 131,072"; so are the functions, and all their entries together.
-const MAX_INLINE_SOURCE_RECORDS: u64 = 131_072;
-
-pub fn files(s: &[u8], r: Step, tape: &mut [u32]) -> Step
+pub fn files(s: &[u8], set: &Settings, r: Step, tape: &mut [u32]) -> Step
     requires { ⌜ Ready (now s) r ⌝ }
-    ensures { λ q. ⌜ Reader fileList (now (s .entry)) r (now (tape .entry)) q (now (tape .exit)) ⌝ }
+    ensures { λ q. ⌜ Reader (fileList (settingsOf (now (set .entry)))) (now (s .entry)) r (now (tape .entry)) q (now (tape .exit)) ⌝ }
 {
     let Step::Taken(c) = r else {
         return r;
     };
-    let q = fields::number_count(s, c, sizes::STRING, tape);
+    let q = fields::number_count(s, set, c, sizes::STRING, tape);
     let Number::Got(n, d) = q else {
         return reader::refused(q);
     };
@@ -184,35 +183,35 @@ fn source_numbers(s: &[u8], r: Step, n: u64, tape: &mut [u32]) -> Step
 }
 
 // One function's: pc, file_id, line, col and len of each, all packed. They are read as one run of numbers, which keeps the loop tight.
-pub fn locations(s: &[u8], r: Step, tape: &mut [u32]) -> Step
+pub fn locations(s: &[u8], set: &Settings, r: Step, tape: &mut [u32]) -> Step
     requires { ⌜ Ready (now s) r ⌝ }
-    ensures { λ q. ⌜ Reader locationList (now (s .entry)) r (now (tape .entry)) q (now (tape .exit)) ⌝ }
+    ensures { λ q. ⌜ Reader (locationList (settingsOf (now (set .entry)))) (now (s .entry)) r (now (tape .entry)) q (now (tape .exit)) ⌝ }
 {
     let Step::Taken(c) = r else {
         return r;
     };
-    let q = fields::number_count(s, c, sizes::DEBUG_LOC, tape);
+    let q = fields::number_count(s, set, c, sizes::DEBUG_LOC, tape);
     let Number::Got(n, d) = q else {
         return reader::refused(q);
     };
     source_numbers(s, Step::Taken(d), n * 5, tape)
 }
 
-pub fn function_locations(s: &[u8], r: Step, tape: &mut [u32]) -> Step
+pub fn function_locations(s: &[u8], set: &Settings, r: Step, tape: &mut [u32]) -> Step
     requires { ⌜ Ready (now s) r ⌝ }
-    ensures { λ q. ⌜ Reader functionLocations (now (s .entry)) r (now (tape .entry)) q (now (tape .exit)) ⌝ }
+    ensures { λ q. ⌜ Reader (functionLocations (settingsOf (now (set .entry)))) (now (s .entry)) r (now (tape .entry)) q (now (tape .exit)) ⌝ }
 {
     let Step::Taken(c) = r else {
         return r;
     };
-    let q = fields::number_count(s, c, sizes::FUNC_DEBUG_INFO, tape);
+    let q = fields::number_count(s, set, c, sizes::FUNC_DEBUG_INFO, tape);
     let Number::Got(n, d) = q else {
         return reader::refused(q);
     };
     let mut k = n;
     let mut here = Step::Taken(d);
     while 0 < k {
-        here = locations(s, here, tape);
+        here = locations(s, set, here, tape);
         let Step::Taken(_) = here else {
             return here;
         };
@@ -260,18 +259,20 @@ pub fn inline_frame(s: &[u8], r: Step, tape: &mut [u32]) -> Step
     optional_span(s, function_id, tape)
 }
 
-pub fn inline_frames(s: &[u8], r: Step, tape: &mut [u32]) -> Step
+pub fn inline_frames(s: &[u8], set: &Settings, r: Step, tape: &mut [u32]) -> Step
     requires { ⌜ Ready (now s) r ⌝ }
-    ensures { λ q. ⌜ Reader frameList (now (s .entry)) r (now (tape .entry)) q (now (tape .exit)) ⌝ }
+    ensures { λ q. ⌜ Reader (frameList (settingsOf (now (set .entry)))) (now (s .entry)) r (now (tape .entry)) q (now (tape .exit)) ⌝ }
 {
     let Step::Taken(c) = r else {
         return r;
     };
+    let most = vob24::inline_records(set);
     let q = fields::number_debug_count(
         s,
+        set,
         c,
         numbers::INLINE_FRAMES,
-        MAX_INLINE_SOURCE_RECORDS,
+        most,
         sizes::INLINE_SOURCE_FRAME,
         tape,
     );
@@ -299,9 +300,9 @@ pub fn inline_entry(s: &[u8], r: Step, tape: &mut [u32]) -> Step
 }
 
 // A function with at most `left` entries; hands out how many they are.
-pub fn inline_function(s: &[u8], c: Cursor, left: u64, tape: &mut [u32]) -> Number
+pub fn inline_function(s: &[u8], set: &Settings, c: Cursor, left: u64, tape: &mut [u32]) -> Number
     requires { ⌜ ReadyAt (now s) c ⌝ }
-    ensures { λ q. ⌜ NumberOf (functionFormat left) entriesOf (now (s .entry)) c (now (tape .entry)) q (now (tape .exit)) ⌝ }
+    ensures { λ q. ⌜ NumberOf (functionFormat (settingsOf (now (set .entry))) left) entriesOf (now (s .entry)) c (now (tape .entry)) q (now (tape .exit)) ⌝ }
 {
     let p = fields::number_u32(s, c, tape);
     let Number::Got(_, d) = p else {
@@ -309,6 +310,7 @@ pub fn inline_function(s: &[u8], c: Cursor, left: u64, tape: &mut [u32]) -> Numb
     };
     let q = fields::number_debug_count(
         s,
+        set,
         d,
         numbers::INLINE_ENTRIES,
         left,
@@ -336,17 +338,19 @@ fn smaller(a: u64, b: u64) -> u64
     if a < b { a } else { b }
 }
 
-// Their entries share one limit.
-pub fn inline_functions(s: &[u8], r: Step, functions: u64, tape: &mut [u32]) -> Step
+// The limit of the frames is also that of the functions, and of all their entries together.
+pub fn inline_functions(s: &[u8], set: &Settings, r: Step, functions: u64, tape: &mut [u32]) -> Step
     requires { ⌜ Ready (now s) r ⌝ }
-    ensures { λ q. ⌜ Reader (functionList functions) (now (s .entry)) r (now (tape .entry)) q (now (tape .exit)) ⌝ }
+    ensures { λ q. ⌜ Reader (functionList (settingsOf (now (set .entry))) functions) (now (s .entry)) r (now (tape .entry)) q (now (tape .exit)) ⌝ }
 {
     let Step::Taken(c) = r else {
         return r;
     };
-    let most = smaller(functions, MAX_INLINE_SOURCE_RECORDS);
+    let all = vob24::inline_records(set);
+    let most = smaller(functions, all);
     let q = fields::number_debug_count(
         s,
+        set,
         c,
         numbers::INLINE_FUNCTIONS,
         most,
@@ -358,9 +362,9 @@ pub fn inline_functions(s: &[u8], r: Step, functions: u64, tape: &mut [u32]) -> 
     };
     let mut k = n;
     let mut here = d;
-    let mut left = MAX_INLINE_SOURCE_RECORDS;
+    let mut left = all;
     while 0 < k {
-        let p = inline_function(s, here, left, tape);
+        let p = inline_function(s, set, here, left, tape);
         let Number::Got(m, e) = p else {
             return reader::refused(p);
         };
@@ -371,10 +375,10 @@ pub fn inline_functions(s: &[u8], r: Step, functions: u64, tape: &mut [u32]) -> 
     Step::Taken(here)
 }
 
-pub fn inline_sources(s: &[u8], r: Step, functions: u64, tape: &mut [u32]) -> Step
+pub fn inline_sources(s: &[u8], set: &Settings, r: Step, functions: u64, tape: &mut [u32]) -> Step
     requires { ⌜ Ready (now s) r ⌝ }
-    ensures { λ q. ⌜ Reader (inlineFormat functions) (now (s .entry)) r (now (tape .entry)) q (now (tape .exit)) ⌝ }
+    ensures { λ q. ⌜ Reader (inlineFormat (settingsOf (now (set .entry))) functions) (now (s .entry)) r (now (tape .entry)) q (now (tape .exit)) ⌝ }
 {
-    let frames = inline_frames(s, r, tape);
-    inline_functions(s, frames, functions, tape)
+    let frames = inline_frames(s, set, r, tape);
+    inline_functions(s, set, frames, functions, tape)
 }

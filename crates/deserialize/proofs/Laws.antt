@@ -12,7 +12,7 @@ use Rattle.format.specs.Format.{Value, pair, first, second, Format, seq, entrie
 use Rattle.format.specs.Reading.{little, part, trace}
 use Rattle.format.specs.Settling.{thenS, settle-taken}
 use Rattle.format.specs.Ending.{settle-seq, seq-ends}
-use Rattle.vob24.specs.Settings.{settings}
+use Rattle.vob24.specs.Settings.{Settings}
 use Rattle.vob24.specs.Grammar.{name, structs, interfaces, namedTypes, itabs, runtimeTypes, wellKnown, constants, globals, functions, externs, entry, islandInit, artifacts, section, afterFunctions, sections, magic, version, pack, artifact}
 use Rattle.vob24.specs.Cost.{partOf}
 use Rattle.items.specs.Contract.{Items}
@@ -74,28 +74,28 @@ comes-next h c = record { rest = λ k. fieldReads (h .reads) (λ _. c .rest k); 
 -- ---- the lookup
 
 -- at the artifacts: their entries are what stands there
-there : (n : ℕ) {s : List ℕ} {g : Value → Format} {v : Value} {q l : ℕ} {r : Step} → On (seq (section settings n artifacts) g) s v q l r → Ready s r
-    → (c : Cursor) × (r ≡ Taken c) × Items (artifact settings) (little (part s (c .place) 4)) s (c .place + 4) × (entries (first v) ≡ itemsAt (artifact settings) (little (part s (c .place) 4)) s (c .place + 4)) × (c .place + 4 ≤ length s)
+there : (set : Settings) (n : ℕ) {s : List ℕ} {g : Value → Format} {v : Value} {q l : ℕ} {r : Step} → On (seq (section set n artifacts) g) s v q l r → Ready s r
+    → (c : Cursor) × (r ≡ Taken c) × Items (artifact set) (little (part s (c .place) 4)) s (c .place + 4) × (entries (first v) ≡ itemsAt (artifact set) (little (part s (c .place) 4)) s (c .place + 4)) × (c .place + 4 ≤ length s)
 unfolding section
-there n {s} {g} {v} {q} {l} {r} o y =
+there set n {s} {g} {v} {q} {l} {r} o y =
     let c = o .cursor in
-    let e = settle-taken (c .left) (trace (seq (section settings n artifacts) g) s (c .place)) v q l .0 (o .settles) .0 in
-    let b = seq-ends (section settings n artifacts) g s (c .place) e in
-    let k = list-off _ _ _ _ (artifact settings) s (c .place) (b .fore) in
+    let e = settle-taken (c .left) (trace (seq (section set n artifacts) g) s (c .place)) v q l .0 (o .settles) .0 in
+    let b = seq-ends (section set n artifacts) g s (c .place) e in
+    let k = list-off _ _ _ _ (artifact set) s (c .place) (b .fore) in
     let z : ReadyAt s c = rw (o .is) at y in
     (c, o .is, record { small = z .small; all = k .2 }, k .1, k .0)
 
 -- The sections between the opening and the artifacts, each read from where the last one ended.
-module _ {s : List ℕ} {t₀ t₁ t₂ t₃ t₄ t₅ t₆ t₇ t₈ t₉ t₁₀ t₁₁ t₁₂ t₁₃ t₁₄ t₁₅ : List ℕ} {r₀ r₁ r₂ r₃ r₄ r₅ r₆ r₇ r₈ r₉ r₁₀ r₁₁ r₁₂ r₁₃ r₁₄ r₁₅ : Step} where
+module _ {set : Settings} {s : List ℕ} {t₀ t₁ t₂ t₃ t₄ t₅ t₆ t₇ t₈ t₉ t₁₀ t₁₁ t₁₂ t₁₃ t₁₄ t₁₅ : List ℕ} {r₀ r₁ r₂ r₃ r₄ r₅ r₆ r₇ r₈ r₉ r₁₀ r₁₁ r₁₂ r₁₃ r₁₄ r₁₅ : Step} where
   pub reaches :
-      Reader magic s r₀ t₀ r₁ t₁ → Reader version s r₁ t₁ r₂ t₂ → Reader (section settings 0 name) s r₂ t₂ r₃ t₃ → Reader (section settings 0 structs) s r₃ t₃ r₄ t₄
-      → Reader (section settings 0 interfaces) s r₄ t₄ r₅ t₅ → Reader (section settings 0 namedTypes) s r₅ t₅ r₆ t₆ → Reader (section settings 0 itabs) s r₆ t₆ r₇ t₇ → Reader (section settings 0 runtimeTypes) s r₇ t₇ r₈ t₈
-      → Reader (section settings 0 wellKnown) s r₈ t₈ r₉ t₉ → Reader (section settings 0 constants) s r₉ t₉ r₁₀ t₁₀ → Reader (section settings 0 globals) s r₁₀ t₁₀ r₁₁ t₁₁ → Reader (section settings 0 functions) s r₁₁ t₁₁ r₁₂ t₁₂
-      → ((n : ℕ) → Reader (section settings n externs) s r₁₂ t₁₂ r₁₃ t₁₃) → ((n : ℕ) → Reader (section settings n entry) s r₁₃ t₁₃ r₁₄ t₁₄) → ((n : ℕ) → Reader (section settings n islandInit) s r₁₄ t₁₄ r₁₅ t₁₅) → Reaches s r₀ r₁₅
+      Reader magic s r₀ t₀ r₁ t₁ → Reader version s r₁ t₁ r₂ t₂ → Reader (section set 0 name) s r₂ t₂ r₃ t₃ → Reader (section set 0 structs) s r₃ t₃ r₄ t₄
+      → Reader (section set 0 interfaces) s r₄ t₄ r₅ t₅ → Reader (section set 0 namedTypes) s r₅ t₅ r₆ t₆ → Reader (section set 0 itabs) s r₆ t₆ r₇ t₇ → Reader (section set 0 runtimeTypes) s r₇ t₇ r₈ t₈
+      → Reader (section set 0 wellKnown) s r₈ t₈ r₉ t₉ → Reader (section set 0 constants) s r₉ t₉ r₁₀ t₁₀ → Reader (section set 0 globals) s r₁₀ t₁₀ r₁₁ t₁₁ → Reader (section set 0 functions) s r₁₁ t₁₁ r₁₂ t₁₂
+      → ((n : ℕ) → Reader (section set n externs) s r₁₂ t₁₂ r₁₃ t₁₃) → ((n : ℕ) → Reader (section set n entry) s r₁₃ t₁₃ r₁₄ t₁₄) → ((n : ℕ) → Reader (section set n islandInit) s r₁₄ t₁₄ r₁₅ t₁₅) → Reaches set s r₀ r₁₅
   unfolding pack sections afterFunctions partOf
   reaches a b c d e f g h i j k l m n o =
       record {
         reach = λ v q w on.
             let x = on-next (on-next (on-next (on-next (on-next (on-next (on-next (on-next (on-next (on-next (on-next (on-next on a) b) c) d) e) f) g) h) i) j) k) l in
-            there _ (on-next (on-next (on-next x (m _)) (n _)) (o _)) (o 0 .ready);
+            there set _ (on-next (on-next (on-next x (m _)) (n _)) (o _)) (o 0 .ready);
       }

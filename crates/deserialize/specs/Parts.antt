@@ -2,19 +2,19 @@
 use Prim.Native.Nat.{ℕ}
 use mathlib.Core.List.{List}
 use Rattle.format.specs.Format.{Format, seq, _▸_, counted}
-use Rattle.vob24.specs.Settings.{settings}
+use Rattle.vob24.specs.Settings.{Settings}
 use Rattle.vob24.specs.Grammar.{structs, interfaces, namedTypes, itabs, runtimeTypes, wellKnown, constants, globals, functions, artifacts, files, functionLocations, inlineSources, section, afterFunctions}
 use Rattle.reader.specs.Contract.{Ready, Reads}
 use Rattle.reader.specs.declared.Step.{Step}
 
-abbrev pub fromArtifacts : ℕ → Format
-fromArtifacts n = section settings n artifacts ▸ section settings n files ▸ section settings n functionLocations ▸ section settings n inlineSources
+abbrev pub fromArtifacts : Settings → ℕ → Format
+fromArtifacts set n = section set n artifacts ▸ section set n files ▸ section set n functionLocations ▸ section set n inlineSources
 
-abbrev pub fromWellKnown : Format
-fromWellKnown = section settings 0 wellKnown ▸ section settings 0 constants ▸ section settings 0 globals ▸ seq (section settings 0 functions) (λ v. afterFunctions settings (counted v))
+abbrev pub fromWellKnown : Settings → Format
+fromWellKnown set = section set 0 wellKnown ▸ section set 0 constants ▸ section set 0 globals ▸ seq (section set 0 functions) (λ v. afterFunctions set (counted v))
 
-abbrev pub fromStructs : Format
-fromStructs = section settings 0 structs ▸ section settings 0 interfaces ▸ section settings 0 namedTypes ▸ section settings 0 itabs ▸ section settings 0 runtimeTypes ▸ fromWellKnown
+abbrev pub fromStructs : Settings → Format
+fromStructs set = section set 0 structs ▸ section set 0 interfaces ▸ section set 0 namedTypes ▸ section set 0 itabs ▸ section set 0 runtimeTypes ▸ fromWellKnown set
 
 -- The reading of f at r comes down to that of g at r′.
 pub record ComesTo (f g : Format) (s : List ℕ) (r : Step) (t : List ℕ) (r′ : Step) (t′ : List ℕ) : Type 0 where

@@ -6,7 +6,7 @@ use lib.ListN.{length}
 use Rattle.format.specs.Trace.{taken, settle}
 use Rattle.format.specs.Format.{Value, Format, entries}
 use Rattle.format.specs.Reading.{little, part, trace}
-use Rattle.vob24.specs.Settings.{settings}
+use Rattle.vob24.specs.Settings.{Settings}
 use Rattle.vob24.specs.Grammar.{artifact, pack, artifacts}
 use Rattle.vob24.specs.Cost.{partOf}
 use Rattle.reader.specs.declared.Cursor.{Cursor}
@@ -22,5 +22,5 @@ pub record On (f : Format) (s : List ℕ) (v : Value) (q l : ℕ) (r : Step) : T
   pub settles : settle (cursor .left) (trace f s (cursor .place)) ≡ taken v q l
 
 -- In a pack that the reading from r takes, r′ stands at the artifacts, and these are their entries.
-pub record Reaches (s : List ℕ) (r r′ : Step) : Type 0 where
-  pub reach : (v : Value) (q l : ℕ) → On (pack settings) s v q l r → (c : Cursor) × (r′ ≡ Taken c) × Items (artifact settings) (little (part s (c .place) 4)) s (c .place + 4) × (entries (partOf artifacts v) ≡ itemsAt (artifact settings) (little (part s (c .place) 4)) s (c .place + 4)) × (c .place + 4 ≤ length s)
+pub record Reaches (set : Settings) (s : List ℕ) (r r′ : Step) : Type 0 where
+  pub reach : (v : Value) (q l : ℕ) → On (pack set) s v q l r → (c : Cursor) × (r′ ≡ Taken c) × Items (artifact set) (little (part s (c .place) 4)) s (c .place + 4) × (entries (partOf artifacts v) ≡ itemsAt (artifact set) (little (part s (c .place) 4)) s (c .place + 4)) × (c .place + 4 ≤ length s)

@@ -2,7 +2,7 @@
 // Ports Module::deserialize of serialize.rs.
 ghost use mathlib.Core.Bool.{true};
 ghost use Rattle.format.specs.Format.{Format, counted};
-ghost use Rattle.vob24.specs.Settings.{settings};
+ghost use Rattle.vob24.specs.Settings.{settingsOf};
 ghost use Rattle.vob24.specs.Grammar.{afterFunctions, section, functions as functionsSection, pack as packFormat};
 ghost use Rattle.reader.specs.Contract.{Ready, Reader};
 ghost use Rattle.second_pass.specs.Granted.{Granted};
@@ -10,11 +10,12 @@ ghost use Rattle.deserialize.specs.Parts.{fromArtifacts, fromWellKnown, 
 ghost use Rattle.deserialize.specs.Reach.{Reaches};
 use reader::Number;
 use reader::Step;
+use vob24::Settings;
 
 // The artifacts and the debug information: five lists, which are empty in a small pack.
-fn artifacts_on(s: &[u8], r: Step, functions: u64, tape: &mut [u32]) -> Step
+fn artifacts_on(s: &[u8], set: &Settings, r: Step, functions: u64, tape: &mut [u32]) -> Step
     requires { ⌜ Ready (now s) r ⌝ }
-    ensures { λ q. ⌜ Reader (fromArtifacts functions) (now (s .entry)) r (now (tape .entry)) q (now (tape .exit)) ⌝ }
+    ensures { λ q. ⌜ Reader (fromArtifacts (settingsOf (now (set .entry))) functions) (now (s .entry)) r (now (tape .entry)) q (now (tape .exit)) ⌝ }
 {
     let Step::Taken(c) = r else {
         return r;
@@ -22,42 +23,42 @@ fn artifacts_on(s: &[u8], r: Step, functions: u64, tape: &mut [u32]) -> Step
     if empty_lists::five_at(s, c) {
         return Step::Taken(empty_lists::past_five(s, c, tape));
     }
-    let r1 = tables::artifacts(s, r, tape);
-    let r2 = debug_info::files(s, r1, tape);
-    let r3 = debug_info::function_locations(s, r2, tape);
-    debug_info::inline_sources(s, r3, functions, tape)
+    let r1 = tables::artifacts(s, set, r, tape);
+    let r2 = debug_info::files(s, set, r1, tape);
+    let r3 = debug_info::function_locations(s, set, r2, tape);
+    debug_info::inline_sources(s, set, r3, functions, tape)
 }
 
 // The sections after the functions, by the number of functions.
-fn after_functions(s: &[u8], r: Step, functions: u64, tape: &mut [u32]) -> Step
+fn after_functions(s: &[u8], set: &Settings, r: Step, functions: u64, tape: &mut [u32]) -> Step
     requires { ⌜ Ready (now s) r ⌝ }
-    ensures { λ q. ⌜ Reader (afterFunctions settings functions) (now (s .entry)) r (now (tape .entry)) q (now (tape .exit)) ⌝ }
+    ensures { λ q. ⌜ Reader (afterFunctions (settingsOf (now (set .entry))) functions) (now (s .entry)) r (now (tape .entry)) q (now (tape .exit)) ⌝ }
 {
     let r1 = tables::externs(s, r, tape);
     let r2 = tables::entry(s, r1, tape);
     let r3 = tables::island_init(s, r2, tape);
-    artifacts_on(s, r3, functions, tape)
+    artifacts_on(s, set, r3, functions, tape)
 }
 
 // The functions, and the sections after them.
-fn functions_on(s: &[u8], r: Step, tape: &mut [u32]) -> Step
+fn functions_on(s: &[u8], set: &Settings, r: Step, tape: &mut [u32]) -> Step
     requires { ⌜ Ready (now s) r ⌝ }
-    ensures { λ q. ⌜ Reader (Format.seq (section settings 0 functionsSection) (λ v. afterFunctions settings (counted v))) (now (s .entry)) r (now (tape .entry)) q (now (tape .exit)) ⌝ }
+    ensures { λ q. ⌜ Reader (Format.seq (section (settingsOf (now (set .entry))) 0 functionsSection) (λ v. afterFunctions (settingsOf (now (set .entry))) (counted v))) (now (s .entry)) r (now (tape .entry)) q (now (tape .exit)) ⌝ }
 {
     let Step::Taken(c) = r else {
         return r;
     };
-    let q = functions::number_functions(s, c, tape);
+    let q = functions::number_functions(s, set, c, tape);
     let Number::Got(n, d) = q else {
         return reader::refused(q);
     };
-    after_functions(s, Step::Taken(d), n, tape)
+    after_functions(s, set, Step::Taken(d), n, tape)
 }
 
 // The types: five lists, which are empty in a small pack.
-fn types(s: &[u8], r: Step, again: bool, tape: &mut [u32]) -> Step
-    requires { ⌜ (Ready (now s) r) × (Granted again fromStructs (now s) r) ⌝ }
-    ensures { λ q. ⌜ ComesTo fromStructs fromWellKnown (now (s .entry)) r (now (tape .entry)) q (now (tape .exit)) ⌝ }
+fn types(s: &[u8], set: &Settings, r: Step, again: bool, tape: &mut [u32]) -> Step
+    requires { ⌜ (Ready (now s) r) × (Granted again (fromStructs (settingsOf (now set))) (now s) r) ⌝ }
+    ensures { λ q. ⌜ ComesTo (fromStructs (settingsOf (now (set .entry)))) (fromWellKnown (settingsOf (now (set .entry)))) (now (s .entry)) r (now (tape .entry)) q (now (tape .exit)) ⌝ }
 {
     let Step::Taken(c) = r else {
         return r;
@@ -65,45 +66,45 @@ fn types(s: &[u8], r: Step, again: bool, tape: &mut [u32]) -> Step
     if empty_lists::five_at(s, c) {
         return Step::Taken(empty_lists::past_five(s, c, tape));
     }
-    let r1 = structs::structs(s, r, again, tape);
-    let r2 = interfaces::interfaces(s, r1, again, tape);
-    let r3 = named_types::named_types(s, r2, again, tape);
-    let r4 = tables::itabs(s, r3, tape);
-    runtime_type::runtime_types(s, r4, again, tape)
+    let r1 = structs::structs(s, set, r, again, tape);
+    let r2 = interfaces::interfaces(s, set, r1, again, tape);
+    let r3 = named_types::named_types(s, set, r2, again, tape);
+    let r4 = tables::itabs(s, set, r3, tape);
+    runtime_type::runtime_types(s, set, r4, again, tape)
 }
 
 // The whole pack, up to the question of what comes after it. A second pass leaves out the search for repeated names.
-pub fn deserialize(s: &[u8], r: Step, again: bool, tape: &mut [u32]) -> Step
-    requires { ⌜ (Ready (now s) r) × (Granted again (packFormat settings) (now s) r) ⌝ }
-    ensures { λ q. ⌜ Reader (packFormat settings) (now (s .entry)) r (now (tape .entry)) q (now (tape .exit)) ⌝ }
+pub fn deserialize(s: &[u8], set: &Settings, r: Step, again: bool, tape: &mut [u32]) -> Step
+    requires { ⌜ (Ready (now s) r) × (Granted again (packFormat (settingsOf (now set))) (now s) r) ⌝ }
+    ensures { λ q. ⌜ Reader (packFormat (settingsOf (now (set .entry)))) (now (s .entry)) r (now (tape .entry)) q (now (tape .exit)) ⌝ }
 {
     let r1 = fields::field_magic(s, r, tape);
     let r2 = fields::field_version(s, r1, tape);
     let r3 = fields::field_str(s, r2, tape);
-    let r4 = types(s, r3, again, tape);
+    let r4 = types(s, set, r3, again, tape);
     let r5 = tables::well_known(s, r4, tape);
-    let r6 = constants::constants(s, r5, tape);
-    let r7 = tables::globals(s, r6, tape);
-    functions_on(s, r7, tape)
+    let r6 = constants::constants(s, set, r5, tape);
+    let r7 = tables::globals(s, set, r6, tape);
+    functions_on(s, set, r7, tape)
 }
 
 // On to the artifacts of a pack that is taken.
-pub fn to_artifacts(s: &[u8], r: Step, tape: &mut [u32]) -> Step
-    requires { ⌜ (Ready (now s) r) × (Granted true (packFormat settings) (now s) r) ⌝ }
-    ensures { λ q. ⌜ Reaches (now (s .entry)) r q ⌝ }
+pub fn to_artifacts(s: &[u8], set: &Settings, r: Step, tape: &mut [u32]) -> Step
+    requires { ⌜ (Ready (now s) r) × (Granted true (packFormat (settingsOf (now set))) (now s) r) ⌝ }
+    ensures { λ q. ⌜ Reaches (settingsOf (now (set .entry))) (now (s .entry)) r q ⌝ }
 {
     let r1 = fields::field_magic(s, r, tape);
     let r2 = fields::field_version(s, r1, tape);
     let r3 = fields::field_str(s, r2, tape);
-    let r4 = structs::structs(s, r3, true, tape);
-    let r5 = interfaces::interfaces(s, r4, true, tape);
-    let r6 = named_types::named_types(s, r5, true, tape);
-    let r7 = tables::itabs(s, r6, tape);
-    let r8 = runtime_type::runtime_types(s, r7, true, tape);
+    let r4 = structs::structs(s, set, r3, true, tape);
+    let r5 = interfaces::interfaces(s, set, r4, true, tape);
+    let r6 = named_types::named_types(s, set, r5, true, tape);
+    let r7 = tables::itabs(s, set, r6, tape);
+    let r8 = runtime_type::runtime_types(s, set, r7, true, tape);
     let r9 = tables::well_known(s, r8, tape);
-    let r10 = constants::constants(s, r9, tape);
-    let r11 = tables::globals(s, r10, tape);
-    let r12 = functions::functions(s, r11, tape);
+    let r10 = constants::constants(s, set, r9, tape);
+    let r11 = tables::globals(s, set, r10, tape);
+    let r12 = functions::functions(s, set, r11, tape);
     let r13 = tables::externs(s, r12, tape);
     let r14 = tables::entry(s, r13, tape);
     tables::island_init(s, r14, tape)

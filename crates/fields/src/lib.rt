@@ -2,7 +2,7 @@
 // `field_` readers take the answer so far and give the next; `number_` and `span_` readers start at a cursor and also hand
 // out the number, or the start and length, that they read. Ports the read_ functions of serialize.rs on one field.
 ghost use Rattle.format.specs.Format.{number};
-ghost use Rattle.vob24.specs.Settings.{settings};
+ghost use Rattle.vob24.specs.Settings.{settingsOf};
 ghost use Rattle.vob24.specs.Leaves.{u8, u16, u32, u64, optionalId, bool, slotType, valueKind, direction, valueMeta, valueRttid, sourceU32, str, memberName, optional};
 ghost use Rattle.vob24.specs.Grammar.{assertKind, magic, version};
 ghost use Rattle.reader.specs.Contract.{Ready, ReadyAt, Reader, NumberOf, SpanOf};
@@ -12,8 +12,8 @@ use reader::Number;
 use reader::Payload;
 use reader::Step;
 use reader::Text;
-use reader::limits;
 use reader::numbers;
+use vob24::Settings;
 
 // ---- numbers
 
@@ -179,7 +179,7 @@ pub fn field_value_rttid(s: &[u8], r: Step, tape: &mut [u32]) -> Step
 
 pub fn field_assert_kind(s: &[u8], r: Step, tape: &mut [u32]) -> Step
     requires { ⌜ Ready (now s) r ⌝ }
-    ensures { λ q. ⌜ Reader (assertKind settings) (now (s .entry)) r (now (tape .entry)) q (now (tape .exit)) ⌝ }
+    ensures { λ q. ⌜ Reader assertKind (now (s .entry)) r (now (tape .entry)) q (now (tape .exit)) ⌝ }
 {
     let Step::Taken(c) = r else {
         return r;
@@ -318,7 +318,7 @@ pub fn number_value_rttid(s: &[u8], c: Cursor, tape: &mut [u32]) -> Number
 
 pub fn number_assert_kind(s: &[u8], c: Cursor, tape: &mut [u32]) -> Number
     requires { ⌜ ReadyAt (now s) c ⌝ }
-    ensures { λ q. ⌜ NumberOf (assertKind settings) number (now (s .entry)) c (now (tape .entry)) q (now (tape .exit)) ⌝ }
+    ensures { λ q. ⌜ NumberOf assertKind number (now (s .entry)) c (now (tape .entry)) q (now (tape .exit)) ⌝ }
 {
     let q = leaves::read_bare(s, c, 1, numbers::INVALID_INSTRUCTION_METADATA);
     let Number::Got(n, d) = q else {
@@ -372,11 +372,11 @@ pub fn number_metadata_tag(s: &[u8], c: Cursor, tape: &mut [u32]) -> Number
 }
 
 // The count of a list of entries whose size is numbered `kind`, as reader::sizes has them.
-pub fn number_count(s: &[u8], c: Cursor, kind: usize, tape: &mut [u32]) -> Number
+pub fn number_count(s: &[u8], set: &Settings, c: Cursor, kind: usize, tape: &mut [u32]) -> Number
     requires { ⌜ ReadyAt (now s) c ⌝ }
-    ensures { λ q. ⌜ NumberOf (listCount kind) number (now (s .entry)) c (now (tape .entry)) q (now (tape .exit)) ⌝ }
+    ensures { λ q. ⌜ NumberOf (listCount (settingsOf (now (set .entry))) kind) number (now (s .entry)) c (now (tape .entry)) q (now (tape .exit)) ⌝ }
 {
-    let q = payloads::read_count(s, c, kind);
+    let q = payloads::read_count(s, set, c, kind);
     let Number::Got(n, d) = q else {
         return q;
     };
@@ -385,6 +385,7 @@ pub fn number_count(s: &[u8], c: Cursor, kind: usize, tape: &mut [u32]) -> Numbe
 
 pub fn number_debug_count(
     s: &[u8],
+    set: &Settings,
     c: Cursor,
     context: u64,
     most: u64,
@@ -392,31 +393,31 @@ pub fn number_debug_count(
     tape: &mut [u32],
 ) -> Number
     requires { ⌜ ReadyAt (now s) c ⌝ }
-    ensures { λ q. ⌜ NumberOf (debugCount context most kind) number (now (s .entry)) c (now (tape .entry)) q (now (tape .exit)) ⌝ }
+    ensures { λ q. ⌜ NumberOf (debugCount (settingsOf (now (set .entry))) context most kind) number (now (s .entry)) c (now (tape .entry)) q (now (tape .exit)) ⌝ }
 {
-    let q = payloads::read_debug_count(s, c, context, most, kind);
+    let q = payloads::read_debug_count(s, set, c, context, most, kind);
     let Number::Got(n, d) = q else {
         return q;
     };
     Number::Got(n, reader::keep(d, n, tape))
 }
 
-pub fn number_artifact_count(s: &[u8], c: Cursor, tape: &mut [u32]) -> Number
+pub fn number_artifact_count(s: &[u8], set: &Settings, c: Cursor, tape: &mut [u32]) -> Number
     requires { ⌜ ReadyAt (now s) c ⌝ }
-    ensures { λ q. ⌜ NumberOf artifactCount number (now (s .entry)) c (now (tape .entry)) q (now (tape .exit)) ⌝ }
+    ensures { λ q. ⌜ NumberOf (artifactCount (settingsOf (now (set .entry)))) number (now (s .entry)) c (now (tape .entry)) q (now (tape .exit)) ⌝ }
 {
-    let q = payloads::read_artifact_count(s, c);
+    let q = payloads::read_artifact_count(s, set, c);
     let Number::Got(n, d) = q else {
         return q;
     };
     Number::Got(n, reader::keep(d, n, tape))
 }
 
-pub fn number_method_count(s: &[u8], c: Cursor, tape: &mut [u32]) -> Number
+pub fn number_method_count(s: &[u8], set: &Settings, c: Cursor, tape: &mut [u32]) -> Number
     requires { ⌜ ReadyAt (now s) c ⌝ }
-    ensures { λ q. ⌜ NumberOf methodCount number (now (s .entry)) c (now (tape .entry)) q (now (tape .exit)) ⌝ }
+    ensures { λ q. ⌜ NumberOf (methodCount (settingsOf (now (set .entry)))) number (now (s .entry)) c (now (tape .entry)) q (now (tape .exit)) ⌝ }
 {
-    let q = payloads::read_method_count(s, c);
+    let q = payloads::read_method_count(s, set, c);
     let Number::Got(n, d) = q else {
         return q;
     };
@@ -465,9 +466,9 @@ pub fn field_optional_str(s: &[u8], r: Step, tape: &mut [u32]) -> Step
     field_str(s, here, tape)
 }
 
-pub fn field_artifact_name(s: &[u8], r: Step, tape: &mut [u32]) -> Step
+pub fn field_artifact_name(s: &[u8], set: &Settings, r: Step, tape: &mut [u32]) -> Step
     requires { ⌜ Ready (now s) r ⌝ }
-    ensures { λ q. ⌜ Reader artifactName (now (s .entry)) r (now (tape .entry)) q (now (tape .exit)) ⌝ }
+    ensures { λ q. ⌜ Reader (artifactName (settingsOf (now (set .entry)))) (now (s .entry)) r (now (tape .entry)) q (now (tape .exit)) ⌝ }
 {
     let Step::Taken(c) = r else {
         return r;
@@ -476,7 +477,7 @@ pub fn field_artifact_name(s: &[u8], r: Step, tape: &mut [u32]) -> Step
         s,
         c,
         numbers::ARTIFACT_NAME,
-        limits::ARTIFACT_NAME_BYTES,
+        vob24::artifact_name_bytes(set),
     );
     let Text::Got(start, length, _, d) = q else {
         return reader::refused_text(q);
@@ -484,9 +485,9 @@ pub fn field_artifact_name(s: &[u8], r: Step, tape: &mut [u32]) -> Step
     Step::Taken(reader::keep_pair(d, start as u64, length as u64, tape))
 }
 
-pub fn field_artifact_payload(s: &[u8], r: Step, tape: &mut [u32]) -> Step
+pub fn field_artifact_payload(s: &[u8], set: &Settings, r: Step, tape: &mut [u32]) -> Step
     requires { ⌜ Ready (now s) r ⌝ }
-    ensures { λ q. ⌜ Reader artifactPayload (now (s .entry)) r (now (tape .entry)) q (now (tape .exit)) ⌝ }
+    ensures { λ q. ⌜ Reader (artifactPayload (settingsOf (now (set .entry)))) (now (s .entry)) r (now (tape .entry)) q (now (tape .exit)) ⌝ }
 {
     let Step::Taken(c) = r else {
         return r;
@@ -495,7 +496,7 @@ pub fn field_artifact_payload(s: &[u8], r: Step, tape: &mut [u32]) -> Step
         s,
         c,
         numbers::ARTIFACT_PAYLOAD,
-        limits::ARTIFACT_PAYLOAD_BYTES,
+        vob24::artifact_payload_bytes(set),
     );
     let Payload::Got(start, length, d) = q else {
         return reader::refused_payload(q);
@@ -518,15 +519,15 @@ pub fn span_str(s: &[u8], c: Cursor, tape: &mut [u32]) -> Payload
     )
 }
 
-pub fn span_artifact_name(s: &[u8], c: Cursor, tape: &mut [u32]) -> Payload
+pub fn span_artifact_name(s: &[u8], set: &Settings, c: Cursor, tape: &mut [u32]) -> Payload
     requires { ⌜ ReadyAt (now s) c ⌝ }
-    ensures { λ q. ⌜ SpanOf artifactName (now (s .entry)) c (now (tape .entry)) q (now (tape .exit)) ⌝ }
+    ensures { λ q. ⌜ SpanOf (artifactName (settingsOf (now (set .entry)))) (now (s .entry)) c (now (tape .entry)) q (now (tape .exit)) ⌝ }
 {
     let q = payloads::read_artifact_string(
         s,
         c,
         numbers::ARTIFACT_NAME,
-        limits::ARTIFACT_NAME_BYTES,
+        vob24::artifact_name_bytes(set),
     );
     let Text::Got(start, length, _, d) = q else {
         return reader::span(q);
@@ -538,15 +539,15 @@ pub fn span_artifact_name(s: &[u8], c: Cursor, tape: &mut [u32]) -> Payload
     )
 }
 
-pub fn span_artifact_payload(s: &[u8], c: Cursor, tape: &mut [u32]) -> Payload
+pub fn span_artifact_payload(s: &[u8], set: &Settings, c: Cursor, tape: &mut [u32]) -> Payload
     requires { ⌜ ReadyAt (now s) c ⌝ }
-    ensures { λ q. ⌜ SpanOf artifactPayload (now (s .entry)) c (now (tape .entry)) q (now (tape .exit)) ⌝ }
+    ensures { λ q. ⌜ SpanOf (artifactPayload (settingsOf (now (set .entry)))) (now (s .entry)) c (now (tape .entry)) q (now (tape .exit)) ⌝ }
 {
     let q = payloads::read_artifact_bytes(
         s,
         c,
         numbers::ARTIFACT_PAYLOAD,
-        limits::ARTIFACT_PAYLOAD_BYTES,
+        vob24::artifact_payload_bytes(set),
     );
     let Payload::Got(start, length, d) = q else {
         return q;

@@ -1,6 +1,7 @@
 // The functions section: each function's head, returns, traits, slot types, code, captures and parameters.
 // Ports FunctionDef of bytecode.rs and its reading in serialize.rs. Transfer words are judged after their whole list, the slot
 // count last of all; the list hands out how many functions there are, by which the inline sources are limited.
+ghost use Rattle.vob24.specs.Settings.{settingsOf};
 ghost use Rattle.format.specs.Format.{counted};
 ghost use Rattle.reader.specs.Contract.{Ready, ReadyAt, Reader, NumberOf};
 ghost use Rattle.functions.specs.Formats.{heapSlots, codeFormat, transferFormat, transferList, captureTypes, paramTypes, functionHead, functionReturns, functionTraits, functionBody, functionSlots, functionFormat, functionList};
@@ -10,22 +11,23 @@ use reader::Refusal;
 use reader::Step;
 use reader::numbers;
 use reader::sizes;
+use vob24::Settings;
 
 // ---- code
 
 // code, instruction_metadata; then 15 unless they are as many
-fn code(s: &[u8], r: Step, tape: &mut [u32]) -> Step
+fn code(s: &[u8], set: &Settings, r: Step, tape: &mut [u32]) -> Step
     requires { ⌜ Ready (now s) r ⌝ }
-    ensures { λ q. ⌜ Reader codeFormat (now (s .entry)) r (now (tape .entry)) q (now (tape .exit)) ⌝ }
+    ensures { λ q. ⌜ Reader (codeFormat (settingsOf (now (set .entry)))) (now (s .entry)) r (now (tape .entry)) q (now (tape .exit)) ⌝ }
 {
     let Step::Taken(c) = r else {
         return r;
     };
-    let p = instruction::number_instructions(s, c, tape);
+    let p = instruction::number_instructions(s, set, c, tape);
     let Number::Got(instructions, d) = p else {
         return reader::refused(p);
     };
-    let q = metadata::number_instruction_metadata(s, d, tape);
+    let q = metadata::number_instruction_metadata(s, set, d, tape);
     let Number::Got(metadata, e) = q else {
         return reader::refused(q);
     };
@@ -47,11 +49,11 @@ fn transfer_type(s: &[u8], r: Step, tape: &mut [u32]) -> Step
     fields::field_u16(s, rttid, tape)
 }
 
-fn number_transfer_types(s: &[u8], c: Cursor, tape: &mut [u32]) -> Number
+fn number_transfer_types(s: &[u8], set: &Settings, c: Cursor, tape: &mut [u32]) -> Number
     requires { ⌜ ReadyAt (now s) c ⌝ }
-    ensures { λ q. ⌜ NumberOf transferList counted (now (s .entry)) c (now (tape .entry)) q (now (tape .exit)) ⌝ }
+    ensures { λ q. ⌜ NumberOf (transferList (settingsOf (now (set .entry)))) counted (now (s .entry)) c (now (tape .entry)) q (now (tape .exit)) ⌝ }
 {
-    let q = fields::number_count(s, c, sizes::TRANSFER_TYPE, tape);
+    let q = fields::number_count(s, set, c, sizes::TRANSFER_TYPE, tape);
     let Number::Got(n, d) = q else {
         return q;
     };
@@ -67,25 +69,25 @@ fn number_transfer_types(s: &[u8], c: Cursor, tape: &mut [u32]) -> Number
     reader::with(n, here)
 }
 
-fn capture_types(s: &[u8], r: Step, tape: &mut [u32]) -> Step
+fn capture_types(s: &[u8], set: &Settings, r: Step, tape: &mut [u32]) -> Step
     requires { ⌜ Ready (now s) r ⌝ }
-    ensures { λ q. ⌜ Reader captureTypes (now (s .entry)) r (now (tape .entry)) q (now (tape .exit)) ⌝ }
+    ensures { λ q. ⌜ Reader (captureTypes (settingsOf (now (set .entry)))) (now (s .entry)) r (now (tape .entry)) q (now (tape .exit)) ⌝ }
 {
     let Step::Taken(c) = r else {
         return r;
     };
-    let list = reader::refused(number_transfer_types(s, c, tape));
+    let list = reader::refused(number_transfer_types(s, set, c, tape));
     transfers::transfer_words(s, numbers::CAPTURE_META, r, list)
 }
 
-fn param_types(s: &[u8], r: Step, tape: &mut [u32]) -> Step
+fn param_types(s: &[u8], set: &Settings, r: Step, tape: &mut [u32]) -> Step
     requires { ⌜ Ready (now s) r ⌝ }
-    ensures { λ q. ⌜ Reader paramTypes (now (s .entry)) r (now (tape .entry)) q (now (tape .exit)) ⌝ }
+    ensures { λ q. ⌜ Reader (paramTypes (settingsOf (now (set .entry)))) (now (s .entry)) r (now (tape .entry)) q (now (tape .exit)) ⌝ }
 {
     let Step::Taken(c) = r else {
         return r;
     };
-    let list = reader::refused(number_transfer_types(s, c, tape));
+    let list = reader::refused(number_transfer_types(s, set, c, tape));
     transfers::transfer_words(s, numbers::PARAMETER_META, r, list)
 }
 
@@ -101,14 +103,14 @@ fn function_head(s: &[u8], r: Step, tape: &mut [u32]) -> Step
     fields::field_u16(s, param_count, tape)
 }
 
-fn heap_ret_slots(s: &[u8], r: Step, tape: &mut [u32]) -> Step
+fn heap_ret_slots(s: &[u8], set: &Settings, r: Step, tape: &mut [u32]) -> Step
     requires { ⌜ Ready (now s) r ⌝ }
-    ensures { λ q. ⌜ Reader heapSlots (now (s .entry)) r (now (tape .entry)) q (now (tape .exit)) ⌝ }
+    ensures { λ q. ⌜ Reader (heapSlots (settingsOf (now (set .entry)))) (now (s .entry)) r (now (tape .entry)) q (now (tape .exit)) ⌝ }
 {
     let Step::Taken(c) = r else {
         return r;
     };
-    let q = fields::number_count(s, c, sizes::U16, tape);
+    let q = fields::number_count(s, set, c, sizes::U16, tape);
     let Number::Got(n, d) = q else {
         return reader::refused(q);
     };
@@ -116,16 +118,16 @@ fn heap_ret_slots(s: &[u8], r: Step, tape: &mut [u32]) -> Step
 }
 
 // ret_slots, ret_slot_types, recv_slots, heap_ret_gcref_count, heap_ret_gcref_start, heap_ret_slots
-fn function_returns(s: &[u8], r: Step, tape: &mut [u32]) -> Step
+fn function_returns(s: &[u8], set: &Settings, r: Step, tape: &mut [u32]) -> Step
     requires { ⌜ Ready (now s) r ⌝ }
-    ensures { λ q. ⌜ Reader functionReturns (now (s .entry)) r (now (tape .entry)) q (now (tape .exit)) ⌝ }
+    ensures { λ q. ⌜ Reader (functionReturns (settingsOf (now (set .entry)))) (now (s .entry)) r (now (tape .entry)) q (now (tape .exit)) ⌝ }
 {
     let ret_slots = fields::field_u16(s, r, tape);
-    let ret_slot_types = slots::slot_types(s, ret_slots, tape);
+    let ret_slot_types = slots::slot_types(s, set, ret_slots, tape);
     let recv_slots = fields::field_u16(s, ret_slot_types, tape);
     let gcref_count = fields::field_u16(s, recv_slots, tape);
     let gcref_start = fields::field_u16(s, gcref_count, tape);
-    heap_ret_slots(s, gcref_start, tape)
+    heap_ret_slots(s, set, gcref_start, tape)
 }
 
 // is_closure, error_ret_slot, has_defer
@@ -140,14 +142,21 @@ fn function_traits(s: &[u8], r: Step, tape: &mut [u32]) -> Step
 
 // code, instruction_metadata, capture_types, capture_slot_types, param_types; then 20 unless there are as many slot types as
 // local slots
-fn function_body(s: &[u8], r: Step, types: u64, locals: u64, tape: &mut [u32]) -> Step
+fn function_body(
+    s: &[u8],
+    set: &Settings,
+    r: Step,
+    types: u64,
+    locals: u64,
+    tape: &mut [u32],
+) -> Step
     requires { ⌜ Ready (now s) r ⌝ }
-    ensures { λ q. ⌜ Reader (functionBody types locals) (now (s .entry)) r (now (tape .entry)) q (now (tape .exit)) ⌝ }
+    ensures { λ q. ⌜ Reader (functionBody (settingsOf (now (set .entry))) types locals) (now (s .entry)) r (now (tape .entry)) q (now (tape .exit)) ⌝ }
 {
-    let code = code(s, r, tape);
-    let captures = capture_types(s, code, tape);
-    let capture_slot_types = slots::slot_types(s, captures, tape);
-    let params = param_types(s, capture_slot_types, tape);
+    let code = code(s, set, r, tape);
+    let captures = capture_types(s, set, code, tape);
+    let capture_slot_types = slots::slot_types(s, set, captures, tape);
+    let params = param_types(s, set, capture_slot_types, tape);
     let Step::Taken(c) = params else {
         return params;
     };
@@ -165,24 +174,24 @@ fn function_body(s: &[u8], r: Step, types: u64, locals: u64, tape: &mut [u32]) -
 }
 
 // slot_types, and the body
-fn function_slots(s: &[u8], r: Step, locals: u64, tape: &mut [u32]) -> Step
+fn function_slots(s: &[u8], set: &Settings, r: Step, locals: u64, tape: &mut [u32]) -> Step
     requires { ⌜ Ready (now s) r ⌝ }
-    ensures { λ q. ⌜ Reader (functionSlots locals) (now (s .entry)) r (now (tape .entry)) q (now (tape .exit)) ⌝ }
+    ensures { λ q. ⌜ Reader (functionSlots (settingsOf (now (set .entry))) locals) (now (s .entry)) r (now (tape .entry)) q (now (tape .exit)) ⌝ }
 {
     let Step::Taken(c) = r else {
         return r;
     };
-    let q = slots::number_slot_types(s, c, tape);
+    let q = slots::number_slot_types(s, set, c, tape);
     let Number::Got(types, d) = q else {
         return reader::refused(q);
     };
-    function_body(s, Step::Taken(d), types, locals, tape)
+    function_body(s, set, Step::Taken(d), types, locals, tape)
 }
 
 // local_slots stands after the head
-pub fn function(s: &[u8], r: Step, tape: &mut [u32]) -> Step
+pub fn function(s: &[u8], set: &Settings, r: Step, tape: &mut [u32]) -> Step
     requires { ⌜ Ready (now s) r ⌝ }
-    ensures { λ q. ⌜ Reader functionFormat (now (s .entry)) r (now (tape .entry)) q (now (tape .exit)) ⌝ }
+    ensures { λ q. ⌜ Reader (functionFormat (settingsOf (now (set .entry)))) (now (s .entry)) r (now (tape .entry)) q (now (tape .exit)) ⌝ }
 {
     let head = function_head(s, r, tape);
     let Step::Taken(c) = head else {
@@ -192,24 +201,24 @@ pub fn function(s: &[u8], r: Step, tape: &mut [u32]) -> Step
     let Number::Got(locals, d) = q else {
         return reader::refused(q);
     };
-    let returns = function_returns(s, Step::Taken(d), tape);
+    let returns = function_returns(s, set, Step::Taken(d), tape);
     let traits = function_traits(s, returns, tape);
-    function_slots(s, traits, locals, tape)
+    function_slots(s, set, traits, locals, tape)
 }
 
 // Hands out how many they are.
-pub fn number_functions(s: &[u8], c: Cursor, tape: &mut [u32]) -> Number
+pub fn number_functions(s: &[u8], set: &Settings, c: Cursor, tape: &mut [u32]) -> Number
     requires { ⌜ ReadyAt (now s) c ⌝ }
-    ensures { λ q. ⌜ NumberOf functionList counted (now (s .entry)) c (now (tape .entry)) q (now (tape .exit)) ⌝ }
+    ensures { λ q. ⌜ NumberOf (functionList (settingsOf (now (set .entry)))) counted (now (s .entry)) c (now (tape .entry)) q (now (tape .exit)) ⌝ }
 {
-    let q = fields::number_count(s, c, sizes::FUNCTION_DEF, tape);
+    let q = fields::number_count(s, set, c, sizes::FUNCTION_DEF, tape);
     let Number::Got(n, d) = q else {
         return q;
     };
     let mut k = n;
     let mut here = Step::Taken(d);
     while 0 < k {
-        here = function(s, here, tape);
+        here = function(s, set, here, tape);
         let Step::Taken(_) = here else {
             return reader::with(n, here);
         };
@@ -218,12 +227,12 @@ pub fn number_functions(s: &[u8], c: Cursor, tape: &mut [u32]) -> Number
     reader::with(n, here)
 }
 
-pub fn functions(s: &[u8], r: Step, tape: &mut [u32]) -> Step
+pub fn functions(s: &[u8], set: &Settings, r: Step, tape: &mut [u32]) -> Step
     requires { ⌜ Ready (now s) r ⌝ }
-    ensures { λ q. ⌜ Reader functionList (now (s .entry)) r (now (tape .entry)) q (now (tape .exit)) ⌝ }
+    ensures { λ q. ⌜ Reader (functionList (settingsOf (now (set .entry)))) (now (s .entry)) r (now (tape .entry)) q (now (tape .exit)) ⌝ }
 {
     let Step::Taken(c) = r else {
         return r;
     };
-    reader::refused(number_functions(s, c, tape))
+    reader::refused(number_functions(s, set, c, tape))
 }

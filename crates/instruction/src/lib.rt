@@ -1,5 +1,6 @@
 // Instructions: the code of a function.
 // Ports Instruction of instruction.rs and its reading by Module::deserialize of serialize.rs.
+ghost use Rattle.vob24.specs.Settings.{settingsOf};
 ghost use mathlib.Core.Path.{_≡_};
 ghost use Prim.Native.Nat.{_+_, _*_, _≤_};
 ghost use lib.ListN.{length};
@@ -13,6 +14,7 @@ use reader::Cursor;
 use reader::Number;
 use reader::Step;
 use reader::sizes;
+use vob24::Settings;
 
 // op, flags, a, b, c
 pub fn instruction(s: &[u8], r: Step, tape: &mut [u32]) -> Step
@@ -88,11 +90,11 @@ fn instructions(s: &[u8], c: Cursor, n: u64, tape: &mut [u32]) -> Step
 }
 
 // Hands out how many they are.
-pub fn number_instructions(s: &[u8], c: Cursor, tape: &mut [u32]) -> Number
+pub fn number_instructions(s: &[u8], set: &Settings, c: Cursor, tape: &mut [u32]) -> Number
     requires { ⌜ ReadyAt (now s) c ⌝ }
-    ensures { λ q. ⌜ NumberOf instructionList counted (now (s .entry)) c (now (tape .entry)) q (now (tape .exit)) ⌝ }
+    ensures { λ q. ⌜ NumberOf (instructionList (settingsOf (now (set .entry)))) counted (now (s .entry)) c (now (tape .entry)) q (now (tape .exit)) ⌝ }
 {
-    let q = fields::number_count(s, c, sizes::INSTRUCTION, tape);
+    let q = fields::number_count(s, set, c, sizes::INSTRUCTION, tape);
     let Number::Got(n, d) = q else {
         return q;
     };

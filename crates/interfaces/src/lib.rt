@@ -1,5 +1,6 @@
 // The interface section: each interface's method names and methods, then a set of each list's names.
 // Ports what Module::deserialize of serialize.rs reads into InterfaceMeta and InterfaceMethodMeta of bytecode.rs.
+ghost use Rattle.vob24.specs.Settings.{settingsOf};
 ghost use Rattle.reader.specs.Contract.{Ready, Reader};
 ghost use Rattle.second_pass.specs.Granted.{Granted};
 ghost use Rattle.interfaces.specs.Interfaces.{nameList, methodFormat, methodList, interfaceFormat, interfaceList};
@@ -7,15 +8,16 @@ use items::Item;
 use reader::Number;
 use reader::Step;
 use reader::sizes;
+use vob24::Settings;
 
-pub fn method_names(s: &[u8], r: Step, tape: &mut [u32]) -> Step
+pub fn method_names(s: &[u8], set: &Settings, r: Step, tape: &mut [u32]) -> Step
     requires { ⌜ Ready (now s) r ⌝ }
-    ensures { λ q. ⌜ Reader nameList (now (s .entry)) r (now (tape .entry)) q (now (tape .exit)) ⌝ }
+    ensures { λ q. ⌜ Reader (nameList (settingsOf (now (set .entry)))) (now (s .entry)) r (now (tape .entry)) q (now (tape .exit)) ⌝ }
 {
     let Step::Taken(c) = r else {
         return r;
     };
-    let q = fields::number_count(s, c, sizes::STRING, tape);
+    let q = fields::number_count(s, set, c, sizes::STRING, tape);
     let Number::Got(n, d) = q else {
         return reader::refused(q);
     };
@@ -39,14 +41,14 @@ pub fn interface_method(s: &[u8], r: Step, tape: &mut [u32]) -> Step
     fields::field_u32(s, name, tape)
 }
 
-pub fn interface_methods(s: &[u8], r: Step, tape: &mut [u32]) -> Step
+pub fn interface_methods(s: &[u8], set: &Settings, r: Step, tape: &mut [u32]) -> Step
     requires { ⌜ Ready (now s) r ⌝ }
-    ensures { λ q. ⌜ Reader methodList (now (s .entry)) r (now (tape .entry)) q (now (tape .exit)) ⌝ }
+    ensures { λ q. ⌜ Reader (methodList (settingsOf (now (set .entry)))) (now (s .entry)) r (now (tape .entry)) q (now (tape .exit)) ⌝ }
 {
     let Step::Taken(c) = r else {
         return r;
     };
-    let q = fields::number_count(s, c, sizes::INTERFACE_METHOD_META, tape);
+    let q = fields::number_count(s, set, c, sizes::INTERFACE_METHOD_META, tape);
     let Number::Got(n, d) = q else {
         return reader::refused(q);
     };
@@ -63,32 +65,32 @@ pub fn interface_methods(s: &[u8], r: Step, tape: &mut [u32]) -> Step
 }
 
 // Both lists are read before either set is charged and judged.
-pub fn interface(s: &[u8], r: Step, again: bool, tape: &mut [u32]) -> Step
-    requires { ⌜ (Ready (now s) r) × (Granted again interfaceFormat (now s) r) ⌝ }
-    ensures { λ q. ⌜ Reader interfaceFormat (now (s .entry)) r (now (tape .entry)) q (now (tape .exit)) ⌝ }
+pub fn interface(s: &[u8], set: &Settings, r: Step, again: bool, tape: &mut [u32]) -> Step
+    requires { ⌜ (Ready (now s) r) × (Granted again (interfaceFormat (settingsOf (now set))) (now s) r) ⌝ }
+    ensures { λ q. ⌜ Reader (interfaceFormat (settingsOf (now (set .entry)))) (now (s .entry)) r (now (tape .entry)) q (now (tape .exit)) ⌝ }
 {
     let name = fields::field_str(s, r, tape);
-    let names = method_names(s, name, tape);
-    let methods = interface_methods(s, names, tape);
-    let unique = names::method_set(s, Item::Name, name, methods, again);
-    names::method_set(s, Item::InterfaceMethod, names, unique, again)
+    let names = method_names(s, set, name, tape);
+    let methods = interface_methods(s, set, names, tape);
+    let unique = names::method_set(s, set, Item::Name, name, methods, again);
+    names::method_set(s, set, Item::InterfaceMethod, names, unique, again)
 }
 
-pub fn interfaces(s: &[u8], r: Step, again: bool, tape: &mut [u32]) -> Step
-    requires { ⌜ (Ready (now s) r) × (Granted again interfaceList (now s) r) ⌝ }
-    ensures { λ q. ⌜ Reader interfaceList (now (s .entry)) r (now (tape .entry)) q (now (tape .exit)) ⌝ }
+pub fn interfaces(s: &[u8], set: &Settings, r: Step, again: bool, tape: &mut [u32]) -> Step
+    requires { ⌜ (Ready (now s) r) × (Granted again (interfaceList (settingsOf (now set))) (now s) r) ⌝ }
+    ensures { λ q. ⌜ Reader (interfaceList (settingsOf (now (set .entry)))) (now (s .entry)) r (now (tape .entry)) q (now (tape .exit)) ⌝ }
 {
     let Step::Taken(c) = r else {
         return r;
     };
-    let q = fields::number_count(s, c, sizes::INTERFACE_META, tape);
+    let q = fields::number_count(s, set, c, sizes::INTERFACE_META, tape);
     let Number::Got(n, d) = q else {
         return reader::refused(q);
     };
     let mut k = n;
     let mut here = Step::Taken(d);
     while 0 < k {
-        here = interface(s, here, again, tape);
+        here = interface(s, set, here, again, tape);
         let Step::Taken(_) = here else {
             return here;
         };

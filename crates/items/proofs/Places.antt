@@ -8,7 +8,6 @@ use lib.ListN.{length, getD}
 use Rattle.format.specs.Trace.{out}
 use Rattle.format.specs.Format.{Value, num, text, first, second, Width, byte, word, Rule, fixed, Format, empty, leaf, seq, _▸_}
 use Rattle.format.specs.Reading.{little, part, size, trace}
-use Rattle.vob24.specs.Settings.{settings}
 use Rattle.vob24.specs.Refusals.{invalidBoolean}
 use Rattle.vob24.specs.Leaves.{str, optional, atMost, u16, bool, valueRttid}
 use Rattle.vob24.specs.Grammar.{structField, interfaceMethod, runtimeMethod, method, runtimeField, identity}
@@ -94,7 +93,7 @@ word-next h =
     let x = number-stands (a .back) in
     (omega (arith, t .next, x .room), omega (arith, a .next, t .next, x .next))
 
-method-next : {s : List ℕ} {p : ℕ} → Stands (method settings) s p → (endOf s p + 10 ≤ length s) × (nextAt (method settings) s p ≡ endOf s p + 10)
+method-next : {s : List ℕ} {p : ℕ} → Stands method s p → (endOf s p + 10 ≤ length s) × (nextAt method s p ≡ endOf s p + 10)
 unfolding method
 method-next h =
     let a = parts h in
@@ -111,9 +110,9 @@ method-next h =
 record FieldStands (s : List ℕ) (p : ℕ) : Type 0 where
   room : endOf s p + 9 ≤ length s
   rest : Stands (optional str) s (endOf s p + 9)
-  next : nextAt (structField settings) s p ≡ nextAt (optional str) s (endOf s p + 9)
+  next : nextAt structField s p ≡ nextAt (optional str) s (endOf s p + 9)
 
-field-stands : {s : List ℕ} {p : ℕ} → Stands (structField settings) s p → FieldStands s p
+field-stands : {s : List ℕ} {p : ℕ} → Stands structField s p → FieldStands s p
 unfolding structField
 field-stands {s} {p} h =
     let a = parts h in
@@ -137,10 +136,10 @@ pub record RuntimeStands (s : List ℕ) (p : ℕ) : Type 0 where
   pub typ : endOf s p + 4 ≤ length s
   pub tag : endOf s (endOf s p + 4) + 1 ≤ length s
   pub pkg : endOf s (packageAt s p) ≤ length s
-  pub next : nextAt (runtimeField settings) s p ≡ endOf s (packageAt s p)
-  pub value : identity settings (valueAt (runtimeField settings) s p) .0 ≡ text (packageAt s p + 4) (textAt s (packageAt s p))
+  pub next : nextAt runtimeField s p ≡ endOf s (packageAt s p)
+  pub value : identity (valueAt runtimeField s p) .0 ≡ text (packageAt s p + 4) (textAt s (packageAt s p))
 
-pub runtime-stands : {s : List ℕ} {p : ℕ} → Stands (runtimeField settings) s p → RuntimeStands s p
+pub runtime-stands : {s : List ℕ} {p : ℕ} → Stands runtimeField s p → RuntimeStands s p
 unfolding runtimeField
 runtime-stands {s} {p} h =
     let a = parts h in
@@ -181,7 +180,7 @@ module _ {s : List ℕ} {p : ℕ} where
       option-present w = record { is = w .is ∙ sym (option-stands (h .stands) .present e .1) }
 
   -- a runtime struct's field
-  module _ (h : Placed (runtimeField settings) s p) where
+  module _ (h : Placed runtimeField s p) where
     pub runtime-name : TextAt s p
     runtime-name = record { small = h .small; room = name-stands RuntimeField (h .stands) .room }
 
@@ -228,7 +227,7 @@ module _ {s : List ℕ} {p : ℕ} where
       pub past-field-end : {z : ℕ} → i ≡ StructField → Past (optional str) s (q + 9) z → Past (formatOf i) s p z
       past-field-end e v = let a = field-stands (rw e at (h .stands)) in rw e (record { is = v .is ∙ rw (w .is) (sym (a .next)) })
 
-    pub past-identity : i ≡ RuntimeField → Placed (runtimeField settings) s p
+    pub past-identity : i ≡ RuntimeField → Placed runtimeField s p
     past-identity e = rw e at h
 
     pub past-identity-end : {q z : ℕ} → i ≡ RuntimeField → PackageIs s p q → EndIs s q z → Past (formatOf i) s p z

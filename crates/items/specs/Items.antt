@@ -4,35 +4,34 @@ use mathlib.Core.List.{List, map}
 use Rattle.format.specs.Format.{Value, content, Format}
 use Rattle.format.specs.Reading.{little, part}
 use Rattle.vob24.specs.Grammar as grammar
-use Rattle.vob24.specs.Settings.{settings}
 use Rattle.vob24.specs.Leaves.{memberName}
 use Rattle.items.specs.declared.Item.{Item}
 use Rattle.items.specs.declared.Item.the-variants.{Name, StructField, InterfaceMethod, RuntimeMethod, NamedMethod, RuntimeField}
 
 abbrev pub formatOf : Item → Format
 formatOf Name = memberName
-formatOf StructField = grammar.structField settings
-formatOf InterfaceMethod = grammar.interfaceMethod settings
-formatOf RuntimeMethod = grammar.runtimeMethod settings
-formatOf NamedMethod = grammar.method settings
-formatOf RuntimeField = grammar.runtimeField settings
+formatOf StructField = grammar.structField
+formatOf InterfaceMethod = grammar.interfaceMethod
+formatOf RuntimeMethod = grammar.runtimeMethod
+formatOf NamedMethod = grammar.method
+formatOf RuntimeField = grammar.runtimeField
 
 abbrev pub nameOf : Item → Value → Value
 nameOf Name v = v
-nameOf StructField v = grammar.fieldName settings v
-nameOf InterfaceMethod v = grammar.methodName settings v
-nameOf RuntimeMethod v = grammar.methodName settings v
-nameOf NamedMethod v = grammar.methodName settings v
-nameOf RuntimeField v = grammar.identity settings v .1
+nameOf StructField v = grammar.fieldName v
+nameOf InterfaceMethod v = grammar.methodName v
+nameOf RuntimeMethod v = grammar.methodName v
+nameOf NamedMethod v = grammar.methodName v
+nameOf RuntimeField v = grammar.identity v .1
 
 -- the names of a list's items, as the grammar has them
 abbrev pub namesOf : Item → List Value → List Value
 namesOf Name vs = vs
-namesOf StructField vs = map (grammar.fieldName settings) vs
-namesOf InterfaceMethod vs = map (grammar.methodName settings) vs
-namesOf RuntimeMethod vs = map (grammar.methodName settings) vs
-namesOf NamedMethod vs = map (grammar.methodName settings) vs
-namesOf RuntimeField vs = map (λ v. grammar.identity settings v .1) vs
+namesOf StructField vs = map grammar.fieldName vs
+namesOf InterfaceMethod vs = map grammar.methodName vs
+namesOf RuntimeMethod vs = map grammar.methodName vs
+namesOf NamedMethod vs = map grammar.methodName vs
+namesOf RuntimeField vs = map (λ v. grammar.identity v .1) vs
 
 -- their bytes
 abbrev pub contents : Item → List Value → List (List ℕ)

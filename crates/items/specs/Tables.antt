@@ -2,7 +2,6 @@
 use Prim.Native.Nat.{ℕ}
 use mathlib.Core.List.{List, []}
 use Rattle.format.specs.Format.{Value, none, Format}
-use Rattle.vob24.specs.Settings.{settings}
 use Rattle.vob24.specs.Questions.{Identity}
 use Rattle.vob24.specs.Grammar.{identity}
 use Rattle.items.specs.declared.Item.{Item}
@@ -23,7 +22,7 @@ formatIn t = formatOf (itemOf t)
 abbrev pub packageOf : Table → Value → Value
 packageOf Fields v = none
 packageOf (Methods i) v = none
-packageOf Identities v = identity settings v .0
+packageOf Identities v = identity v .0
 
 abbrev pub keyOf : Table → Value → Identity
 keyOf t v = (packageOf t v, nameOf (itemOf t) v)

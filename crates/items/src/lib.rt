@@ -2,7 +2,6 @@
 // Ports the comparisons behind the maps and sets of serialize.rs. There is no heap: names are compared where they stand.
 ghost use Prim.Native.Nat.{_+_, _≤_, _<_};
 ghost use lib.ListN.{length};
-ghost use Rattle.vob24.specs.Settings.{settings};
 ghost use Rattle.vob24.specs.Leaves.{str, optional};
 ghost use Rattle.vob24.specs.Grammar.{runtimeField};
 ghost use Rattle.items.specs.Items.{formatOf};
@@ -105,7 +104,7 @@ fn past_optional_text(s: &[u8], p: usize) -> usize
 
 // The package text of the runtime struct's field at p.
 pub fn package_at(s: &[u8], p: usize) -> usize
-    requires { ⌜ Placed (runtimeField settings) (now s) p ⌝ }
+    requires { ⌜ Placed runtimeField (now s) p ⌝ }
     ensures { λ q. ⌜ PackageIs (now (s .entry)) p q ⌝ }
 {
     let typ = past_text(s, p);
@@ -146,7 +145,7 @@ pub fn past_item(s: &[u8], table: Table, p: usize) -> usize
 
 // Have the fields of a runtime struct at a and at b the same package?
 fn same_package(s: &[u8], a: usize, b: usize) -> bool
-    requires { ⌜ TwoPlaced (runtimeField settings) (now s) a b ⌝ }
+    requires { ⌜ TwoPlaced runtimeField (now s) a b ⌝ }
     ensures { λ q. ⌜ SamePackage Table.Identities (now (s .entry)) a b q ⌝ }
 {
     let package = package_at(s, a);

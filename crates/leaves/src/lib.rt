@@ -1,7 +1,6 @@
 // Leaves that hold a number to a rule, packed numbers, and the file's marks.
 // Ports the methods of `impl ByteReader` in serialize.rs that judge what they read.
 ghost use Rattle.format.specs.Format.{Leaf, Width};
-ghost use Rattle.vob24.specs.Settings.{settings};
 ghost use Rattle.vob24.specs.Leaves.{atMost, atMostBare, packedWord, magicMark, versionMark};
 ghost use Rattle.vob24.specs.Grammar.{metadataTag};
 ghost use Rattle.reader.specs.Contract.{ReadyAt};
@@ -46,7 +45,7 @@ pub fn read_bare(s: &[u8], c: Cursor, most: u64, number: u64) -> Number
 // The tag of an instruction's metadata: 6, 7 and 8 are not in use.
 pub fn read_metadata_tag(s: &[u8], c: Cursor) -> Number
     requires { ⌜ ReadyAt (now s) c ⌝ }
-    ensures { λ q. ⌜ Answers (Leaf.fixed Width.byte (metadataTag settings)) (now (s .entry)) c q ⌝ }
+    ensures { λ q. ⌜ Answers (Leaf.fixed Width.byte metadataTag) (now (s .entry)) c q ⌝ }
 {
     let q = reader::read_u8(s, c);
     let Number::Got(n, d) = q else {

@@ -14,7 +14,7 @@ use Rattle.positions.specs.Moving.{positionOf, Moves, Fits}
 use Rattle.positions.specs.declared.Position.{Position}
 use Rattle.lent_sections.specs.Call.{LentCall}
 
-module _ {n : ℕ} {x : Section} {s : List ℕ} {at : Position} {t : List ℕ} {q : Answer} {t′ : List ℕ} (k : SectionCall n x s (at .place) (at .budget) t q t′) where
+module _ {n : ℕ} {x : Section} {s : List ℕ} {at : Position} {t : List ℕ} {q : Answer} {t′ : List ℕ} (k : SectionCall settings n x s (at .place) (at .budget) t q t′) where
   -- the bytes taken lie in the pack
   pub fits-pack : length s < 2 ^ 64 → Fits at q
   fits-pack h = record {

@@ -42,6 +42,7 @@ use denote.Triple.Walked.{says, Stays, stay-dropped, stay-ref, gave-slice, walkO
 use denote.Exit.{yes}
 use Rattle.vob24.specs.Grammar.{Section}
 use Rattle.calls.specs.declared.Answer.{Answer}
+use Rattle.vob24.specs.Settings.{settings}
 use Rattle.calls.specs.Call.{SectionCall}
 use Rattle.calls.proofs.Answer as R
 use Rattle.calls.proofs.Answer.Laws as R′
@@ -96,10 +97,10 @@ module _ {M : Type 1} (𝓤 : URA M) (x : Section) where
   thin-clauses a-number κs a = record { ghost = Unit {0}; requires = λ _. emp 𝓤; ensures = λ _ r e. fact 𝓤 (LentCall (a .1 .1 .0) x (now (a .0)) (now (a .1 .0)) (now (a .1 .1 .1 .0)) r (now (e .1 .0)) (now (e .1 .1 .1 .0))) }
 
   abbrev read-clauses : Clauses 𝓤 read.ended
-  read-clauses κs a = record { ghost = Unit {0}; requires = λ _. emp 𝓤; ensures = λ _ r e. fact 𝓤 (SectionCall 0 x (now (a .0)) (a .1 .0) (a .1 .1 .0) (now (a .1 .1 .1 .0)) r (now (e .1 .1 .1 .0))) }
+  read-clauses κs a = record { ghost = Unit {0}; requires = λ _. emp 𝓤; ensures = λ _ r e. fact 𝓤 (SectionCall settings 0 x (now (a .0)) (a .1 .0) (a .1 .1 .0) (now (a .1 .1 .1 .0)) r (now (e .1 .1 .1 .0))) }
 
   abbrev read-of-clauses : Clauses 𝓤 read-of.ended
-  read-of-clauses κs a = record { ghost = Unit {0}; requires = λ _. emp 𝓤; ensures = λ _ r e. fact 𝓤 (SectionCall (a .1 .1 .1 .0) x (now (a .0)) (a .1 .0) (a .1 .1 .0) (now (a .1 .1 .1 .1 .0)) r (now (e .1 .1 .1 .1 .0))) }
+  read-of-clauses κs a = record { ghost = Unit {0}; requires = λ _. emp 𝓤; ensures = λ _ r e. fact 𝓤 (SectionCall settings (a .1 .1 .1 .0) x (now (a .0)) (a .1 .0) (a .1 .1 .0) (now (a .1 .1 .1 .1 .0)) r (now (e .1 .1 .1 .1 .0))) }
 
   module _ (H : Heap 𝓤) (A : Atoms 𝓤) where
     abbrev pub Read : Takes → Contract 𝓤
@@ -150,7 +151,7 @@ module _ {M : Type 1} (𝓤 : URA M) (H : Heap 𝓤) (A : Atoms 𝓤) (W : Given
 
   module _ (C : Calls 𝓤 H) (Λ : Loops 𝓤 H) (g : Name) (k : Takes) (n : ℕ) (x : Section) (Post : Val → SProp 𝓤) {X : Type 0} (L : X → Fml) (last : X → List ℕ) where
     abbrev Said : Answer → List ℕ → Type 0
-    Said r zs = SectionCall n x (x₀ .now) (p .place) (p .budget) (x₂ .now) r zs
+    Said r zs = SectionCall settings n x (x₀ .now) (p .place) (p .budget) (x₂ .now) r zs
 
     -- THE walk. It asks that the reader runs on what it is handed, that what it says of its last values tells the tape's last list, and that the postcondition follows from what is left.
     walk : FmC 𝓤 H (W .laws) C → Triple 𝓤 (C moved-symbol.name) (Moved 𝓤 H A)

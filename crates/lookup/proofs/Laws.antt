@@ -14,7 +14,7 @@ use Rattle.format.specs.Format.{text, content, first, second}
 use Rattle.format.specs.Reading.{little, part, same}
 use Rattle.format.specs.Ending.{part-length}
 use Rattle.vob24.specs.Refusals
-use Rattle.vob24.specs.Settings.{settings, maxPackBytes}
+use Rattle.vob24.specs.Settings.{Settings, maxPackBytes}
 use Rattle.vob24.specs.Grammar.{artifact}
 use Rattle.vob24.specs.Calls as vob
 use Rattle.reader.specs.declared.Cursor.{Cursor}
@@ -28,15 +28,15 @@ abbrev payloadAt : List ℕ → ℕ → ℕ
 payloadAt s p = p + 4 + little (part s p 4) + 4
 
 -- An artifact that was read at p: its name, and its payload.
-pub record ArtifactStands (s : List ℕ) (p : ℕ) : Type 0 where
-  pub name : content (first (valueAt (artifact settings) s p)) ≡ part s (p + 4) (little (part s p 4))
-  pub payload : second (second (valueAt (artifact settings) s p)) ≡ text (payloadAt s p + 4) (part s (payloadAt s p + 4) (little (part s (payloadAt s p) 4)))
-  pub next : nextAt (artifact settings) s p ≡ payloadAt s p + 4 + little (part s (payloadAt s p) 4)
+pub record ArtifactStands (set : Settings) (s : List ℕ) (p : ℕ) : Type 0 where
+  pub name : content (first (valueAt (artifact set) s p)) ≡ part s (p + 4) (little (part s p 4))
+  pub payload : second (second (valueAt (artifact set) s p)) ≡ text (payloadAt s p + 4) (part s (payloadAt s p + 4) (little (part s (payloadAt s p) 4)))
+  pub next : nextAt (artifact set) s p ≡ payloadAt s p + 4 + little (part s (payloadAt s p) 4)
   pub room : payloadAt s p + 4 + little (part s (payloadAt s p) 4) ≤ length s
 
-artifact-stands : {s : List ℕ} {p : ℕ} → Stands (artifact settings) s p → ArtifactStands s p
+artifact-stands : {set : Settings} {s : List ℕ} {p : ℕ} → Stands (artifact set) s p → ArtifactStands set s p
 unfolding artifact
-artifact-stands {s} {p} h =
+artifact-stands {set} {s} {p} h =
     let a = parts h in
     let x = passed (a .fore) in
     let b = parts (a .back) in
@@ -113,52 +113,52 @@ pub ruleset matching = (name-other, matching-start, matching-more, matching-othe
 -- ---- the walk
 
 -- With k artifacts to go, from `at` on, none before had the name.
-pub record Looking (s : List ℕ) (from n : ℕ) (name : List ℕ) (c : Cursor) (at k : ℕ) : Type 0 where
-  pub items : Items (artifact settings) k s at
-  pub rest : vob.lookIn name (itemsAt (artifact settings) n s from) (c .place) (c .left) ≡ vob.lookIn name (itemsAt (artifact settings) k s at) (c .place) (c .left)
+pub record Looking (set : Settings) (s : List ℕ) (from n : ℕ) (name : List ℕ) (c : Cursor) (at k : ℕ) : Type 0 where
+  pub items : Items (artifact set) k s at
+  pub rest : vob.lookIn name (itemsAt (artifact set) n s from) (c .place) (c .left) ≡ vob.lookIn name (itemsAt (artifact set) k s at) (c .place) (c .left)
 
-module _ {s : List ℕ} {from n : ℕ} {name : List ℕ} {c : Cursor} where
-  pub looking-start : Items (artifact settings) n s from → Looking s from n name c from n
+module _ {set : Settings} {s : List ℕ} {from n : ℕ} {name : List ℕ} {c : Cursor} where
+  pub looking-start : Items (artifact set) n s from → Looking set s from n name c from n
   looking-start h = record { items = h; rest = refl }
 
-  module _ {at k : ℕ} (h : Looking s from n name c at k) (l : 0 < k) where
-    pub looking-here : ArtifactStands s at
-    looking-here = artifact-stands (stand-more (artifact settings) k s at l (h .items .all) .0)
+  module _ {at k : ℕ} (h : Looking set s from n name c at k) (l : 0 < k) where
+    pub looking-here : ArtifactStands set s at
+    looking-here = artifact-stands (stand-more (artifact set) k s at l (h .items .all) .0)
 
-    step′ : vob.lookIn name (itemsAt (artifact settings) n s from) (c .place) (c .left)
-        ≡ pick (same (part s (at + 4) (little (part s at 4))) name) (vob.At (payloadAt s at + 4) (little (part s (payloadAt s at) 4))) (vob.lookIn name (itemsAt (artifact settings) (k - 1) s (payloadAt s at + 4 + little (part s (payloadAt s at) 4))) (c .place) (c .left))
+    step′ : vob.lookIn name (itemsAt (artifact set) n s from) (c .place) (c .left)
+        ≡ pick (same (part s (at + 4) (little (part s at 4))) name) (vob.At (payloadAt s at + 4) (little (part s (payloadAt s at) 4))) (vob.lookIn name (itemsAt (artifact set) (k - 1) s (payloadAt s at + 4 + little (part s (payloadAt s at) 4))) (c .place) (c .left))
     unfolding vob.lookIn
     step′ =
         let a = looking-here in
         let e : length (part s (payloadAt s at + 4) (little (part s (payloadAt s at) 4))) ≡ little (part s (payloadAt s at) 4) = part-length s (payloadAt s at + 4) (little (part s (payloadAt s at) 4)) (a .room) in
-        h .rest ∙ rw (items-more (artifact settings) k s at l, a .name, a .payload, e, a .next)
+        h .rest ∙ rw (items-more (artifact set) k s at l, a .name, a .payload, e, a .next)
 
     -- as the code has it, with the two length words in hand
     module _ {a b : ℕ} (x : WordIs s at a) (y : WordIs s (at + 4 + a + 4) b) where
       pub looking-room : (at + 4 + a + 4 + 4 + b ≤ length s) × (length s ≤ maxPackBytes)
       looking-room = let r = looking-here .room in (rw (y .is, x .is) r, h .items .small)
 
-      pub looking-found : {d : Bool} → IsName s (at + 4) a name d → d ≡ true → Looks s from n name c (Found.At (at + 4 + a + 4 + 4) b)
+      pub looking-found : {d : Bool} → IsName s (at + 4) a name d → d ≡ true → Looks set s from n name c (Found.At (at + 4 + a + 4 + 4) b)
       unfolding pick
       looking-found m e =
           let f : same (part s (at + 4) (little (part s at 4))) name ≡ true = rw (← (x .is)) (sym (m .is) ∙ e) in
           record { is = rw (y .is, x .is) (sym (step′ ∙ rw f)); room = record { fits = λ p′ n′ i. let u : p′ ≡ at + 4 + a + 4 + 4 = cc in let w : n′ ≡ b = cc in omega (arith, looking-room .0) } }
 
-      pub looking-on : {d : Bool} → IsName s (at + 4) a name d → d ≡ false → Looking s from n name c (at + 4 + a + 4 + 4 + b) (k - 1)
+      pub looking-on : {d : Bool} → IsName s (at + 4) a name d → d ≡ false → Looking set s from n name c (at + 4 + a + 4 + 4 + b) (k - 1)
       unfolding pick
       looking-on m e =
           let f : same (part s (at + 4) (little (part s at 4))) name ≡ false = rw (← (x .is)) (sym (m .is) ∙ e) in
-          rw (y .is, x .is) (record { items = record { small = h .items .small; all = rw (looking-here .next) at (stand-more (artifact settings) k s at l (h .items .all) .1) }; rest = step′ ∙ rw f })
+          rw (y .is, x .is) (record { items = record { small = h .items .small; all = rw (looking-here .next) at (stand-more (artifact set) k s at l (h .items .all) .1) }; rest = step′ ∙ rw f })
 
-  pub looking-done : {at k : ℕ} → Looking s from n name c at k → k ≤ 0 → Looks s from n name c (Found.Not (record { number = Refusals.noSuchArtifact; context = 0; detail1 = 0; detail2 = 0; place = c .place; left = c .left }))
+  pub looking-done : {at k : ℕ} → Looking set s from n name c at k → k ≤ 0 → Looks set s from n name c (Found.Not (record { number = Refusals.noSuchArtifact; context = 0; detail1 = 0; detail2 = 0; place = c .place; left = c .left }))
   unfolding vob.lookIn
-  looking-done {at} {k} h l = record { is = sym (h .rest ∙ rw (items-none (artifact settings) k s at l)); room = record { fits = λ p n i. let no : _≡_ {A = ℕ} 0 1 = cc in absurd (omega arith) } }
+  looking-done {at} {k} h l = record { is = sym (h .rest ∙ rw (items-none (artifact set) k s at l)); room = record { fits = λ p n i. let no : _≡_ {A = ℕ} 0 1 = cc in absurd (omega arith) } }
 
 -- ---- the count before the artifacts
 
-module _ {s : List ℕ} {p n : ℕ} (w : WordIs s p n) where
-  pub counted-items : Counted s p → Items (artifact settings) n s (p + 4)
+module _ {set : Settings} {s : List ℕ} {p n : ℕ} (w : WordIs s p n) where
+  pub counted-items : Counted set s p → Items (artifact set) n s (p + 4)
   counted-items h = rw (w .is) (h .items)
 
-  pub looks-from : {name : List ℕ} {c : Cursor} {q : Found} → Looks s (p + 4) n name c q → LooksFrom s p name c q
+  pub looks-from : {name : List ℕ} {c : Cursor} {q : Found} → Looks set s (p + 4) n name c q → LooksFrom set s p name c q
   looks-from h = record { looks = rw (w .is) at h }

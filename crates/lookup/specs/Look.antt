@@ -5,7 +5,7 @@ use mathlib.Core.List.{List}
 use mathlib.Core.Bool.{Bool}
 use lib.ListN.{length}
 use Rattle.format.specs.Reading.{little, part, same}
-use Rattle.vob24.specs.Settings.{settings}
+use Rattle.vob24.specs.Settings.{Settings}
 use Rattle.vob24.specs.Grammar.{artifact}
 use Rattle.vob24.specs.Calls as vob
 use Rattle.reader.specs.Contract.{wrongOf}
@@ -27,15 +27,15 @@ pub record Room (s : List ℕ) (q : Found) : Type 0 where
   pub fits : (p n : ℕ) → q ≡ Found.At p n → p + n ≤ length s
 
 -- The first of n artifacts from p on that has the name.
-pub record Looks (s : List ℕ) (p n : ℕ) (name : List ℕ) (c : Cursor) (q : Found) : Type 0 where
-  pub is : foundOf q ≡ vob.lookIn name (itemsAt (artifact settings) n s p) (c .place) (c .left)
+pub record Looks (set : Settings) (s : List ℕ) (p n : ℕ) (name : List ℕ) (c : Cursor) (q : Found) : Type 0 where
+  pub is : foundOf q ≡ vob.lookIn name (itemsAt (artifact set) n s p) (c .place) (c .left)
   pub room : Room s q
 
 -- A count at p, and the artifacts that it says.
-pub record Counted (s : List ℕ) (p : ℕ) : Type 0 where
+pub record Counted (set : Settings) (s : List ℕ) (p : ℕ) : Type 0 where
   pub count : p + 4 ≤ length s
-  pub items : Items (artifact settings) (little (part s p 4)) s (p + 4)
+  pub items : Items (artifact set) (little (part s p 4)) s (p + 4)
 
 -- The first of them that has the name.
-pub record LooksFrom (s : List ℕ) (p : ℕ) (name : List ℕ) (c : Cursor) (q : Found) : Type 0 where
-  pub looks : Looks s (p + 4) (little (part s p 4)) name c q
+pub record LooksFrom (set : Settings) (s : List ℕ) (p : ℕ) (name : List ℕ) (c : Cursor) (q : Found) : Type 0 where
+  pub looks : Looks set s (p + 4) (little (part s p 4)) name c q

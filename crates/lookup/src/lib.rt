@@ -2,13 +2,14 @@
 // The Rust's Module::artifact is a binary search; document 01 asks for the first.
 ghost use Prim.Native.Nat.{_+_, _≤_};
 ghost use lib.ListN.{length};
-ghost use Rattle.vob24.specs.Settings.{settings};
+ghost use Rattle.vob24.specs.Settings.{settingsOf};
 ghost use Rattle.vob24.specs.Grammar.{artifact};
 ghost use Rattle.items.specs.Contract.{Items};
 ghost use Rattle.lookup.specs.Look.{IsName, Looks, Counted, LooksFrom};
 use reader::Cursor;
 use reader::Refusal;
 use reader::numbers;
+use vob24::Settings;
 
 // start, length
 pub enum Found {
@@ -35,9 +36,9 @@ fn is_name(s: &[u8], p: usize, n: usize, name: &[u8]) -> bool
 }
 
 // The payload of the first of n artifacts from `from` on that has this name; 27 shows where the reading ended.
-fn look(s: &[u8], from: usize, n: usize, name: &[u8], end: Cursor) -> Found
-    requires { ⌜ Items (artifact settings) n (now s) from ⌝ }
-    ensures { λ q. ⌜ Looks (now (s .entry)) from n (now (name .entry)) end q ⌝ }
+fn look(s: &[u8], set: &Settings, from: usize, n: usize, name: &[u8], end: Cursor) -> Found
+    requires { ⌜ Items (artifact (settingsOf (now set))) n (now s) from ⌝ }
+    ensures { λ q. ⌜ Looks (settingsOf (now (set .entry))) (now (s .entry)) from n (now (name .entry)) end q ⌝ }
 {
     let mut at = from;
     let mut k = n;
@@ -63,10 +64,10 @@ fn look(s: &[u8], from: usize, n: usize, name: &[u8], end: Cursor) -> Found
 }
 
 // The same among the artifacts that a count at `at` says.
-pub fn look_from(s: &[u8], at: usize, name: &[u8], end: Cursor) -> Found
-    requires { ⌜ Counted (now s) at ⌝ }
-    ensures { λ q. ⌜ LooksFrom (now (s .entry)) at (now (name .entry)) end q ⌝ }
+pub fn look_from(s: &[u8], set: &Settings, at: usize, name: &[u8], end: Cursor) -> Found
+    requires { ⌜ Counted (settingsOf (now set)) (now s) at ⌝ }
+    ensures { λ q. ⌜ LooksFrom (settingsOf (now (set .entry))) (now (s .entry)) at (now (name .entry)) end q ⌝ }
 {
     let n = items::word_at(s, at);
-    look(s, at + 4, n, name, end)
+    look(s, set, at + 4, n, name, end)
 }

@@ -7,7 +7,7 @@ use lib.ListN.{length, getD}
 use Rattle.format.specs.Format.{number, Rule, byte, fixed, leaf}
 use Rattle.format.specs.Reading.{little, part, trace}
 use Rattle.format.specs.Ending.{leaf-ends}
-use Rattle.vob24.specs.Settings.{settings}
+use Rattle.vob24.specs.Settings.{Settings}
 use Rattle.vob24.specs.Grammar.{metadata, metadataVariants}
 use Rattle.fields.specs.Fields.{metadataTagged}
 use Rattle.reader.specs.Contract.{stepOf, Reader, NumberOf}
@@ -34,16 +34,16 @@ tag-is {ρ} {s = s} {c = c} a e h =
     g .is ∙ ap number (p .2) ∙ byte-at s (c .place) (p .0) ∙ a
 
 -- None: nothing follows the tag
-none-reads : {s : List ℕ} {c : Cursor} (q : Number) {t t₁ : List ℕ} → getD s (c .place) 0 ≡ 0 → NumberOf metadataTagged number s c t q t₁ → Reader (metadata settings) s (Taken c) t (stepOf q) t₁
+none-reads : (set : Settings) → {s : List ℕ} {c : Cursor} (q : Number) {t t₁ : List ℕ} → getD s (c .place) 0 ≡ 0 → NumberOf metadataTagged number s c t q t₁ → Reader (metadata set) s (Taken c) t (stepOf q) t₁
 unfolding metadata
-none-reads (Got n d) a h = chooseAt (metadataVariants settings) 0 refl refl (tag-is a refl h) h (emptyThen (got-ready refl h))
-none-reads (Not x) a h = numberNot _ refl refl h
+none-reads set (Got n d) a h = chooseAt (metadataVariants set) 0 refl refl (tag-is a refl h) h (emptyThen (got-ready refl h))
+none-reads set (Not x) a h = numberNot _ refl refl h
 
-module _ {s : List ℕ} {c : Cursor} {r r₂ : Step} {q : Number} {t t₁ : List ℕ} (y : r ≡ Taken c) (h : NumberOf metadataTagged number s c t q t₁) where
-  pub noneNext : getD s (c .place) 0 ≡ 0 → r₂ ≡ stepOf q → Reader (metadata settings) s r t r₂ t₁
-  noneNext a i = at-step y (rw i (none-reads q a h))
+module _ (set : Settings) {s : List ℕ} {c : Cursor} {r r₂ : Step} {q : Number} {t t₁ : List ℕ} (y : r ≡ Taken c) (h : NumberOf metadataTagged number s c t q t₁) where
+  pub noneNext : getD s (c .place) 0 ≡ 0 → r₂ ≡ stepOf q → Reader (metadata set) s r t r₂ t₁
+  noneNext a i = at-step y (rw i (none-reads set q a h))
 
   -- CallLayout: two lists
-  pub callNext : {n : ℕ} {d : Cursor} {t₂ : List ℕ} → getD s (c .place) 0 ≡ 11 → q ≡ Got n d → Reader twoLayouts s (Taken d) t₁ r₂ t₂ → Reader (metadata settings) s r t r₂ t₂
+  pub callNext : {n : ℕ} {d : Cursor} {t₂ : List ℕ} → getD s (c .place) 0 ≡ 11 → q ≡ Got n d → Reader (twoLayouts set) s (Taken d) t₁ r₂ t₂ → Reader (metadata set) s r t r₂ t₂
   unfolding metadata
-  callNext a e k = chooseAt (metadataVariants settings) 11 y e (tag-is a e h) h k
+  callNext a e k = chooseAt (metadataVariants set) 11 y e (tag-is a e h) h k

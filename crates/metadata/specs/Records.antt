@@ -5,7 +5,7 @@ use lib.Dec.{eqb}
 use lib.ListN.{getD}
 use Rattle.format.specs.Format.{Value, number, first, second, counted, Format, _▸_}
 use Rattle.vob24.specs.Settings as of
-use Rattle.vob24.specs.Settings.{settings}
+use Rattle.vob24.specs.Settings.{Settings}
 use Rattle.vob24.specs.Leaves.{u16, u32, bool}
 use Rattle.vob24.specs.Grammar as vob
 use Rattle.records.specs.Recorded.{noItems, itemsAt}
@@ -15,32 +15,32 @@ use Rattle.metadata.specs.declared.MetadataRecord.{MetadataRecord}
 
 -- ---- the formats
 
-abbrev pub metadataFormat : Format
-metadataFormat = vob.metadata settings
+abbrev pub metadataFormat : Settings → Format
+metadataFormat set = vob.metadata set
 
-abbrev pub metadataList : Format
-metadataList = vob.list settings of.InstructionMetadata metadataFormat
+abbrev pub metadataList : Settings → Format
+metadataList set = vob.list set of.InstructionMetadata (metadataFormat set)
 
-abbrev slots : Format
-slots = vob.slotTypes settings
+abbrev slots : Settings → Format
+slots set = vob.slotTypes set
 
-abbrev pub twoLayouts : Format
-twoLayouts = slots ▸ slots
+abbrev pub twoLayouts : Settings → Format
+twoLayouts set = (slots set) ▸ (slots set)
 
-abbrev pub elemLayout : Format
-elemLayout = u32 ▸ bool ▸ slots
+abbrev pub elemLayout : Settings → Format
+elemLayout set = u32 ▸ bool ▸ (slots set)
 
-abbrev pub mapGet : Format
-mapGet = slots ▸ slots ▸ bool
+abbrev pub mapGet : Settings → Format
+mapGet set = (slots set) ▸ (slots set) ▸ bool
 
-abbrev pub slotLayout : Format
-slotLayout = u16 ▸ slots
+abbrev pub slotLayout : Settings → Format
+slotLayout set = u16 ▸ (slots set)
 
-abbrev pub ifaceAssert : Format
-ifaceAssert = vob.assertKind settings ▸ u32 ▸ slots
+abbrev pub ifaceAssert : Settings → Format
+ifaceAssert set = vob.assertKind ▸ u32 ▸ (slots set)
 
-abbrev pub callIface : Format
-callIface = u32 ▸ u32 ▸ slots ▸ slots
+abbrev pub callIface : Settings → Format
+callIface set = u32 ▸ u32 ▸ (slots set) ▸ (slots set)
 
 -- ---- the records: p is the place after the tag, v the value there
 

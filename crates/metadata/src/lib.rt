@@ -6,7 +6,7 @@ ghost use mathlib.Core.Bool.{true};
 ghost use Prim.Native.Nat.{_≤_};
 ghost use lib.ListN.{length, getD};
 ghost use Rattle.format.specs.Format.{counted};
-ghost use Rattle.vob24.specs.Settings.{settings};
+ghost use Rattle.vob24.specs.Settings.{settingsOf};
 ghost use Rattle.vob24.specs.Leaves.{u32};
 ghost use Rattle.vob24.specs.Grammar.{slotTypes};
 ghost use Rattle.reader.specs.Contract.{stepOf, Ready, ReadyAt, Reader, NumberOf};
@@ -19,6 +19,7 @@ use reader::Refusal;
 use reader::Step;
 use reader::sizes;
 use records::Items;
+use vob24::Settings;
 
 // The tags of the two commonest metadata.
 const NONE: u8 = 0;
@@ -98,11 +99,11 @@ fn not_metadata(q: Number) -> MetadataRead
 // ---- metadata by their shapes
 
 // One slot layout.
-fn layout(s: &[u8], c: Cursor, kind: Metadata, tape: &mut [u32]) -> MetadataRead
+fn layout(s: &[u8], set: &Settings, c: Cursor, kind: Metadata, tape: &mut [u32]) -> MetadataRead
     requires { ⌜ ReadyAt (now s) c ⌝ }
-    ensures { λ q. ⌜ MetadataReader (slotTypes settings) (oneOf kind) (now (s .entry)) c (now (tape .entry)) q (now (tape .exit)) ⌝ }
+    ensures { λ q. ⌜ MetadataReader (slotTypes (settingsOf (now (set .entry)))) (oneOf kind) (now (s .entry)) c (now (tape .entry)) q (now (tape .exit)) ⌝ }
 {
-    let q = slots::number_slot_types(s, c, tape);
+    let q = slots::number_slot_types(s, set, c, tape);
     let Number::Got(n, d) = q else {
         return not_metadata(q);
     };
@@ -117,15 +118,15 @@ fn layout(s: &[u8], c: Cursor, kind: Metadata, tape: &mut [u32]) -> MetadataRead
 }
 
 // Two slot layouts.
-fn layouts(s: &[u8], c: Cursor, kind: Metadata, tape: &mut [u32]) -> MetadataRead
+fn layouts(s: &[u8], set: &Settings, c: Cursor, kind: Metadata, tape: &mut [u32]) -> MetadataRead
     requires { ⌜ ReadyAt (now s) c ⌝ }
-    ensures { λ q. ⌜ MetadataReader twoLayouts (twoOf kind) (now (s .entry)) c (now (tape .entry)) q (now (tape .exit)) ⌝ }
+    ensures { λ q. ⌜ MetadataReader (twoLayouts (settingsOf (now (set .entry)))) (twoOf kind) (now (s .entry)) c (now (tape .entry)) q (now (tape .exit)) ⌝ }
 {
-    let q1 = slots::number_slot_types(s, c, tape);
+    let q1 = slots::number_slot_types(s, set, c, tape);
     let Number::Got(m, d) = q1 else {
         return not_metadata(q1);
     };
-    let q2 = slots::number_slot_types(s, d, tape);
+    let q2 = slots::number_slot_types(s, set, d, tape);
     let Number::Got(n, e) = q2 else {
         return not_metadata(q2);
     };
@@ -140,9 +141,9 @@ fn layouts(s: &[u8], c: Cursor, kind: Metadata, tape: &mut [u32]) -> MetadataRea
 }
 
 // elem_bytes, needs_sign_extend, slot_layout
-fn elem_layout(s: &[u8], c: Cursor, tape: &mut [u32]) -> MetadataRead
+fn elem_layout(s: &[u8], set: &Settings, c: Cursor, tape: &mut [u32]) -> MetadataRead
     requires { ⌜ ReadyAt (now s) c ⌝ }
-    ensures { λ q. ⌜ MetadataReader elemLayout elemOf (now (s .entry)) c (now (tape .entry)) q (now (tape .exit)) ⌝ }
+    ensures { λ q. ⌜ MetadataReader (elemLayout (settingsOf (now (set .entry)))) elemOf (now (s .entry)) c (now (tape .entry)) q (now (tape .exit)) ⌝ }
 {
     let q1 = fields::number_u32(s, c, tape);
     let Number::Got(bytes, d) = q1 else {
@@ -156,19 +157,19 @@ fn elem_layout(s: &[u8], c: Cursor, tape: &mut [u32]) -> MetadataRead
         elem_bytes: bytes as u32,
         needs_sign_extend: extend == 1,
     };
-    layout(s, e, kind, tape)
+    layout(s, set, e, kind, tape)
 }
 
 // key_layout, val_layout, has_ok
-fn map_get(s: &[u8], c: Cursor, tape: &mut [u32]) -> MetadataRead
+fn map_get(s: &[u8], set: &Settings, c: Cursor, tape: &mut [u32]) -> MetadataRead
     requires { ⌜ ReadyAt (now s) c ⌝ }
-    ensures { λ q. ⌜ MetadataReader mapGet mapGetOf (now (s .entry)) c (now (tape .entry)) q (now (tape .exit)) ⌝ }
+    ensures { λ q. ⌜ MetadataReader (mapGet (settingsOf (now (set .entry)))) mapGetOf (now (s .entry)) c (now (tape .entry)) q (now (tape .exit)) ⌝ }
 {
-    let q1 = slots::number_slot_types(s, c, tape);
+    let q1 = slots::number_slot_types(s, set, c, tape);
     let Number::Got(m, d) = q1 else {
         return not_metadata(q1);
     };
-    let q2 = slots::number_slot_types(s, d, tape);
+    let q2 = slots::number_slot_types(s, set, d, tape);
     let Number::Got(n, e) = q2 else {
         return not_metadata(q2);
     };
@@ -199,9 +200,9 @@ fn loop_end(s: &[u8], c: Cursor, tape: &mut [u32]) -> MetadataRead
 }
 
 // array_len, elem_layout
-fn slot_layout(s: &[u8], c: Cursor, tape: &mut [u32]) -> MetadataRead
+fn slot_layout(s: &[u8], set: &Settings, c: Cursor, tape: &mut [u32]) -> MetadataRead
     requires { ⌜ ReadyAt (now s) c ⌝ }
-    ensures { λ q. ⌜ MetadataReader slotLayout slotOf (now (s .entry)) c (now (tape .entry)) q (now (tape .exit)) ⌝ }
+    ensures { λ q. ⌜ MetadataReader (slotLayout (settingsOf (now (set .entry)))) slotOf (now (s .entry)) c (now (tape .entry)) q (now (tape .exit)) ⌝ }
 {
     let q = fields::number_u16(s, c, tape);
     let Number::Got(length, d) = q else {
@@ -210,13 +211,13 @@ fn slot_layout(s: &[u8], c: Cursor, tape: &mut [u32]) -> MetadataRead
     let kind = Metadata::SlotLayout {
         array_len: length as u16,
     };
-    layout(s, d, kind, tape)
+    layout(s, set, d, kind, tape)
 }
 
 // assert_kind, target_id, result_layout
-fn iface_assert_layout(s: &[u8], c: Cursor, tape: &mut [u32]) -> MetadataRead
+fn iface_assert_layout(s: &[u8], set: &Settings, c: Cursor, tape: &mut [u32]) -> MetadataRead
     requires { ⌜ ReadyAt (now s) c ⌝ }
-    ensures { λ q. ⌜ MetadataReader ifaceAssert assertOf (now (s .entry)) c (now (tape .entry)) q (now (tape .exit)) ⌝ }
+    ensures { λ q. ⌜ MetadataReader (ifaceAssert (settingsOf (now (set .entry)))) assertOf (now (s .entry)) c (now (tape .entry)) q (now (tape .exit)) ⌝ }
 {
     let q1 = fields::number_assert_kind(s, c, tape);
     let Number::Got(assert, d) = q1 else {
@@ -230,13 +231,13 @@ fn iface_assert_layout(s: &[u8], c: Cursor, tape: &mut [u32]) -> MetadataRead
         assert_kind: assert as u8,
         target_id: target as u32,
     };
-    layout(s, e, kind, tape)
+    layout(s, set, e, kind, tape)
 }
 
 // iface_meta_id, method_idx, arg_layout, ret_layout
-fn call_iface_layout(s: &[u8], c: Cursor, tape: &mut [u32]) -> MetadataRead
+fn call_iface_layout(s: &[u8], set: &Settings, c: Cursor, tape: &mut [u32]) -> MetadataRead
     requires { ⌜ ReadyAt (now s) c ⌝ }
-    ensures { λ q. ⌜ MetadataReader callIface callIfaceOf (now (s .entry)) c (now (tape .entry)) q (now (tape .exit)) ⌝ }
+    ensures { λ q. ⌜ MetadataReader (callIface (settingsOf (now (set .entry)))) callIfaceOf (now (s .entry)) c (now (tape .entry)) q (now (tape .exit)) ⌝ }
 {
     let q1 = fields::number_u32(s, c, tape);
     let Number::Got(id, d) = q1 else {
@@ -250,15 +251,15 @@ fn call_iface_layout(s: &[u8], c: Cursor, tape: &mut [u32]) -> MetadataRead
         iface_meta_id: id as u32,
         method_idx: method as u32,
     };
-    layouts(s, e, kind, tape)
+    layouts(s, set, e, kind, tape)
 }
 
 // cases
-fn select_exec_layout(s: &[u8], c: Cursor, tape: &mut [u32]) -> MetadataRead
+fn select_exec_layout(s: &[u8], set: &Settings, c: Cursor, tape: &mut [u32]) -> MetadataRead
     requires { ⌜ ReadyAt (now s) c ⌝ }
-    ensures { λ q. ⌜ MetadataReader selectList (oneOf Metadata.SelectExecLayout) (now (s .entry)) c (now (tape .entry)) q (now (tape .exit)) ⌝ }
+    ensures { λ q. ⌜ MetadataReader (selectList (settingsOf (now (set .entry)))) (oneOf Metadata.SelectExecLayout) (now (s .entry)) c (now (tape .entry)) q (now (tape .exit)) ⌝ }
 {
-    let q = select_case::number_select_cases(s, c, tape);
+    let q = select_case::number_select_cases(s, set, c, tape);
     let Number::Got(n, d) = q else {
         return not_metadata(q);
     };
@@ -273,9 +274,9 @@ fn select_exec_layout(s: &[u8], c: Cursor, tape: &mut [u32]) -> MetadataRead
 }
 
 // The tag, and what it stands for; the last arm is 18, as number_metadata_tag refuses all others.
-pub fn instruction_metadata(s: &[u8], c: Cursor, tape: &mut [u32]) -> MetadataRead
+pub fn instruction_metadata(s: &[u8], set: &Settings, c: Cursor, tape: &mut [u32]) -> MetadataRead
     requires { ⌜ ReadyAt (now s) c ⌝ }
-    ensures { λ q. ⌜ MetadataReader metadataFormat metadataOf (now (s .entry)) c (now (tape .entry)) q (now (tape .exit)) ⌝ }
+    ensures { λ q. ⌜ MetadataReader (metadataFormat (settingsOf (now (set .entry)))) metadataOf (now (s .entry)) c (now (tape .entry)) q (now (tape .exit)) ⌝ }
 {
     let q = fields::number_metadata_tag(s, c, tape);
     let Number::Got(tag, d) = q else {
@@ -283,21 +284,21 @@ pub fn instruction_metadata(s: &[u8], c: Cursor, tape: &mut [u32]) -> MetadataRe
     };
     match tag {
         0 => MetadataRead::Got(bare(Metadata::None), d),
-        1 => elem_layout(s, d, tape),
-        2 => map_get(s, d, tape),
-        3 => layouts(s, d, Metadata::MapSet, tape),
-        4 => layout(s, d, Metadata::MapDelete, tape),
+        1 => elem_layout(s, set, d, tape),
+        2 => map_get(s, set, d, tape),
+        3 => layouts(s, set, d, Metadata::MapSet, tape),
+        4 => layout(s, set, d, Metadata::MapDelete, tape),
         5 => loop_end(s, d, tape),
-        9 => layout(s, d, Metadata::PtrLayout, tape),
-        10 => slot_layout(s, d, tape),
-        11 => layouts(s, d, Metadata::CallLayout, tape),
-        12 => layouts(s, d, Metadata::CallExternLayout, tape),
-        13 => layout(s, d, Metadata::QueueLayout, tape),
-        14 => layouts(s, d, Metadata::MapIterNext, tape),
-        15 => iface_assert_layout(s, d, tape),
-        16 => layouts(s, d, Metadata::MapNew, tape),
-        17 => call_iface_layout(s, d, tape),
-        _ => select_exec_layout(s, d, tape),
+        9 => layout(s, set, d, Metadata::PtrLayout, tape),
+        10 => slot_layout(s, set, d, tape),
+        11 => layouts(s, set, d, Metadata::CallLayout, tape),
+        12 => layouts(s, set, d, Metadata::CallExternLayout, tape),
+        13 => layout(s, set, d, Metadata::QueueLayout, tape),
+        14 => layouts(s, set, d, Metadata::MapIterNext, tape),
+        15 => iface_assert_layout(s, set, d, tape),
+        16 => layouts(s, set, d, Metadata::MapNew, tape),
+        17 => call_iface_layout(s, set, d, tape),
+        _ => select_exec_layout(s, set, d, tape),
     }
 }
 
@@ -324,21 +325,21 @@ fn is_tag(s: &[u8], place: usize, tag: u8) -> bool
     s[place] == tag
 }
 
-fn two_layouts(s: &[u8], c: Cursor, tape: &mut [u32]) -> Step
+fn two_layouts(s: &[u8], set: &Settings, c: Cursor, tape: &mut [u32]) -> Step
     requires { ⌜ ReadyAt (now s) c ⌝ }
-    ensures { λ q. ⌜ ReaderAt twoLayouts (now (s .entry)) c (now (tape .entry)) q (now (tape .exit)) ⌝ }
+    ensures { λ q. ⌜ ReaderAt (twoLayouts (settingsOf (now (set .entry)))) (now (s .entry)) c (now (tape .entry)) q (now (tape .exit)) ⌝ }
 {
-    let q = slots::number_slot_types(s, c, tape);
+    let q = slots::number_slot_types(s, set, c, tape);
     let Number::Got(_, d) = q else {
         return reader::refused(q);
     };
-    reader::refused(slots::number_slot_types(s, d, tape))
+    reader::refused(slots::number_slot_types(s, set, d, tape))
 }
 
 // The next of a list: the two commonest, None and CallLayout, are read without their records.
-fn next_metadata(s: &[u8], r: Step, tape: &mut [u32]) -> Step
+fn next_metadata(s: &[u8], set: &Settings, r: Step, tape: &mut [u32]) -> Step
     requires { ⌜ Ready (now s) r ⌝ }
-    ensures { λ q. ⌜ Reader metadataFormat (now (s .entry)) r (now (tape .entry)) q (now (tape .exit)) ⌝ }
+    ensures { λ q. ⌜ Reader (metadataFormat (settingsOf (now (set .entry)))) (now (s .entry)) r (now (tape .entry)) q (now (tape .exit)) ⌝ }
 {
     let Step::Taken(c) = r else {
         return r;
@@ -352,24 +353,24 @@ fn next_metadata(s: &[u8], r: Step, tape: &mut [u32]) -> Step
         let Number::Got(_, d) = q else {
             return reader::refused(q);
         };
-        return two_layouts(s, d, tape);
+        return two_layouts(s, set, d, tape);
     }
-    without_record(instruction_metadata(s, c, tape))
+    without_record(instruction_metadata(s, set, c, tape))
 }
 
 // Hands out how many they are.
-pub fn number_instruction_metadata(s: &[u8], c: Cursor, tape: &mut [u32]) -> Number
+pub fn number_instruction_metadata(s: &[u8], set: &Settings, c: Cursor, tape: &mut [u32]) -> Number
     requires { ⌜ ReadyAt (now s) c ⌝ }
-    ensures { λ q. ⌜ NumberOf metadataList counted (now (s .entry)) c (now (tape .entry)) q (now (tape .exit)) ⌝ }
+    ensures { λ q. ⌜ NumberOf (metadataList (settingsOf (now (set .entry)))) counted (now (s .entry)) c (now (tape .entry)) q (now (tape .exit)) ⌝ }
 {
-    let q = fields::number_count(s, c, sizes::INSTRUCTION_METADATA, tape);
+    let q = fields::number_count(s, set, c, sizes::INSTRUCTION_METADATA, tape);
     let Number::Got(n, d) = q else {
         return q;
     };
     let mut k = n;
     let mut here = Step::Taken(d);
     while 0 < k {
-        here = next_metadata(s, here, tape);
+        here = next_metadata(s, set, here, tape);
         let Step::Taken(_) = here else {
             return reader::with(n, here);
         };

@@ -5,7 +5,7 @@ use mathlib.Core.List.{List, []}
 use mathlib.Core.Bool.{true, false}
 use Rattle.format.specs.Format.{Format, chain}
 use Rattle.vob24.specs.Settings as of
-use Rattle.vob24.specs.Settings.{settings}
+use Rattle.vob24.specs.Settings.{Settings}
 use Rattle.vob24.specs.Grammar as vob
 use Rattle.reader.specs.Contract.{Reader}
 use Rattle.reader.specs.declared.Cursor.{Cursor}
@@ -18,21 +18,21 @@ use Rattle.items.specs.Contract.{Items}
 use Rattle.repeats.specs.Repeats.{repeatAt}
 
 abbrev pub namedMethod : Format
-namedMethod = vob.method settings
+namedMethod = vob.method
 
-abbrev pub namedMethods : Format
-namedMethods = vob.methods settings
+abbrev pub namedMethods : Settings → Format
+namedMethods set = vob.methods set
 
-abbrev pub namedFormat : Format
-namedFormat = vob.namedType settings
+abbrev pub namedFormat : Settings → Format
+namedFormat set = vob.namedType set
 
 -- the section
-abbrev pub namedList : Format
-namedList = vob.list settings of.NamedTypeMeta (vob.namedType settings)
+abbrev pub namedList : Settings → Format
+namedList set = vob.list set of.NamedTypeMeta (vob.namedType set)
 
 -- n methods, each new among those before it
 abbrev pub newMethods : ℕ → Format
-newMethods n = chain (vob.newMethod settings) (vob.alsoSeen settings) [] n
+newMethods n = chain vob.newMethod vob.alsoSeen [] n
 
 -- none of the first m methods repeats one before it
 pub record AllNew (s : List ℕ) (from m : ℕ) : Type 0 where

@@ -1,5 +1,6 @@
 // The named-type section: each named type's methods, whose names are new one by one.
 // Ports what Module::deserialize of serialize.rs reads into NamedTypeMeta and MethodInfo of bytecode.rs.
+ghost use Rattle.vob24.specs.Settings.{settingsOf};
 ghost use Rattle.reader.specs.Contract.{Ready, ReadyAt, Reader};
 ghost use Rattle.second_pass.specs.Granted.{Granted};
 ghost use Rattle.named_types.specs.NamedTypes.{namedMethod, namedMethods, namedFormat, namedList, MethodsRead};
@@ -9,6 +10,7 @@ use reader::Cursor;
 use reader::Number;
 use reader::Step;
 use reader::sizes;
+use vob24::Settings;
 
 pub fn method(s: &[u8], r: Step, tape: &mut [u32]) -> Step
     requires { ⌜ Ready (now s) r ⌝ }
@@ -58,14 +60,14 @@ fn read_methods(s: &[u8], d: Cursor, n: usize, lim: usize, tape: &mut [u32]) -> 
 
 // The methods are read, and then, in a first pass, the first repeat among those that were read is looked for; it is judged where it comes, by
 // a second run.
-pub fn methods(s: &[u8], r: Step, again: bool, tape: &mut [u32]) -> Step
-    requires { ⌜ (Ready (now s) r) × (Granted again namedMethods (now s) r) ⌝ }
-    ensures { λ q. ⌜ Reader namedMethods (now (s .entry)) r (now (tape .entry)) q (now (tape .exit)) ⌝ }
+pub fn methods(s: &[u8], set: &Settings, r: Step, again: bool, tape: &mut [u32]) -> Step
+    requires { ⌜ (Ready (now s) r) × (Granted again (namedMethods (settingsOf (now set))) (now s) r) ⌝ }
+    ensures { λ q. ⌜ Reader (namedMethods (settingsOf (now (set .entry)))) (now (s .entry)) r (now (tape .entry)) q (now (tape .exit)) ⌝ }
 {
     let Step::Taken(c) = r else {
         return r;
     };
-    let q = fields::number_method_count(s, c, tape);
+    let q = fields::number_method_count(s, set, c, tape);
     let Number::Got(n, d) = q else {
         return reader::refused(q);
     };
@@ -82,31 +84,31 @@ pub fn methods(s: &[u8], r: Step, again: bool, tape: &mut [u32]) -> Step
     judged.step
 }
 
-pub fn named_type(s: &[u8], r: Step, again: bool, tape: &mut [u32]) -> Step
-    requires { ⌜ (Ready (now s) r) × (Granted again namedFormat (now s) r) ⌝ }
-    ensures { λ q. ⌜ Reader namedFormat (now (s .entry)) r (now (tape .entry)) q (now (tape .exit)) ⌝ }
+pub fn named_type(s: &[u8], set: &Settings, r: Step, again: bool, tape: &mut [u32]) -> Step
+    requires { ⌜ (Ready (now s) r) × (Granted again (namedFormat (settingsOf (now set))) (now s) r) ⌝ }
+    ensures { λ q. ⌜ Reader (namedFormat (settingsOf (now (set .entry)))) (now (s .entry)) r (now (tape .entry)) q (now (tape .exit)) ⌝ }
 {
     let name = fields::field_str(s, r, tape);
     let underlying_meta = fields::field_value_meta(s, name, tape);
     let underlying_rttid = fields::field_value_rttid(s, underlying_meta, tape);
-    methods(s, underlying_rttid, again, tape)
+    methods(s, set, underlying_rttid, again, tape)
 }
 
-pub fn named_types(s: &[u8], r: Step, again: bool, tape: &mut [u32]) -> Step
-    requires { ⌜ (Ready (now s) r) × (Granted again namedList (now s) r) ⌝ }
-    ensures { λ q. ⌜ Reader namedList (now (s .entry)) r (now (tape .entry)) q (now (tape .exit)) ⌝ }
+pub fn named_types(s: &[u8], set: &Settings, r: Step, again: bool, tape: &mut [u32]) -> Step
+    requires { ⌜ (Ready (now s) r) × (Granted again (namedList (settingsOf (now set))) (now s) r) ⌝ }
+    ensures { λ q. ⌜ Reader (namedList (settingsOf (now (set .entry)))) (now (s .entry)) r (now (tape .entry)) q (now (tape .exit)) ⌝ }
 {
     let Step::Taken(c) = r else {
         return r;
     };
-    let q = fields::number_count(s, c, sizes::NAMED_TYPE_META, tape);
+    let q = fields::number_count(s, set, c, sizes::NAMED_TYPE_META, tape);
     let Number::Got(n, d) = q else {
         return reader::refused(q);
     };
     let mut k = n;
     let mut here = Step::Taken(d);
     while 0 < k {
-        here = named_type(s, here, again, tape);
+        here = named_type(s, set, here, again, tape);
         let Step::Taken(_) = here else {
             return here;
         };

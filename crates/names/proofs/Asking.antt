@@ -9,7 +9,6 @@ use Rattle.format.specs.Trace.{Wrong, pick}
 use Rattle.format.specs.Format.{start, content, pay}
 use Rattle.format.specs.Reading.{same}
 use Rattle.vob24.specs.Refusals as refusals
-use Rattle.vob24.specs.Settings.{settings}
 use Rattle.vob24.specs.Questions.{refuseIf, repeat}
 use Rattle.vob24.specs.Grammar.{structField, identity}
 use Rattle.reader.specs.Contract.{refusal, Paid, Asks}
@@ -63,7 +62,7 @@ module _ {t : Table} {s : List ℕ} {p : ℕ} (h : Placed (formatIn t) s p) {c :
     where
       go : Placed (formatIn Identities) s p → q ≡ Refused (refusal (wrongIn Identities (valueAt (formatIn Identities) s p)) (c .place) (c .left))
       go h =
-          let y : start (identity settings (valueAt (formatIn Identities) s p) .0) ≡ x + 4 = ap start (runtime-stands (h .stands) .value) ∙ rw (g .is) in
+          let y : start (identity (valueAt (formatIn Identities) s p) .0) ≡ x + 4 = ap start (runtime-stands (h .stands) .value) ∙ rw (g .is) in
           repeat-told RuntimeField h (rw (← y) at r)
 
 -- the answers of `charge_field` and `charge_key`
@@ -74,8 +73,8 @@ paid-asks {k} {n} {c} {y} h = go y refl
     go (Taken d) e = rw e (asks-paid h e asks-none)
     go (Refused x) e = asks-poor h e
 
-module _ {s : List ℕ} {p : ℕ} (h : Placed (structField settings) s p) {b : Bool} (w : BlankIs s p b) where
-  blank-is : same (content (nameOf StructField (valueAt (structField settings) s p))) (95 ∷ []) ≡ b
+module _ {s : List ℕ} {p : ℕ} (h : Placed structField s p) {b : Bool} (w : BlankIs s p b) where
+  blank-is : same (content (nameOf StructField (valueAt structField s p))) (95 ∷ []) ≡ b
   blank-is = ap (λ x. same x (95 ∷ [])) (name-content StructField (h .stands)) ∙ sym (w .is)
 
   pub charge-none : {c : Cursor} → b ≡ true → Charged Fields s p c (Taken c)

@@ -7,7 +7,6 @@ use native.Mathlib.Omega.{arith}
 use lib.ListN.{length}
 use Rattle.format.specs.Trace.{pick}
 use Rattle.format.specs.Reading.{same}
-use Rattle.vob24.specs.Settings.{settings}
 use Rattle.vob24.specs.Questions.{named}
 use Rattle.vob24.specs.Grammar.{structField}
 use Rattle.items.specs.declared.Item.the-variants.{StructField}
@@ -23,18 +22,18 @@ use Rattle.names.specs.Asking.{price}
 use Rattle.names.specs.Contract.{Tallied}
 
 pub record Counting (s : List ℕ) (from n at k m b : ℕ) : Type 0 where
-  pub items : Items (structField settings) k s at
+  pub items : Items structField k s at
   pub most : m + k ≤ n
-  pub leads : length (named (map (nameOf StructField) (itemsAt (structField settings) n s from))) ≡ m + length (named (map (nameOf StructField) (itemsAt (structField settings) k s at)))
+  pub leads : length (named (map (nameOf StructField) (itemsAt structField n s from))) ≡ m + length (named (map (nameOf StructField) (itemsAt structField k s at)))
   pub bound : b + 4294967295 * k ≤ 4294967295 * n
-  pub sums : price Fields (itemsAt (structField settings) n s from) ≡ b + price Fields (itemsAt (structField settings) k s at)
+  pub sums : price Fields (itemsAt structField n s from) ≡ b + price Fields (itemsAt structField k s at)
 
-pub counting-start : {s : List ℕ} {from n : ℕ} → Items (structField settings) n s from → Counting s from n from n 0 0
+pub counting-start : {s : List ℕ} {from n : ℕ} → Items structField n s from → Counting s from n from n 0 0
 counting-start h = record { items = h; most = omega arith; leads = omega arith; bound = omega arith; sums = omega arith }
 
 module _ {s : List ℕ} {from n : ℕ} where
   module _ {at k m b : ℕ} (h : 0 < k) (l : Counting s from n at k m b) where
-    pub counting-here : Placed (structField settings) s at
+    pub counting-here : Placed structField s at
     counting-here = items-here h (l .items)
 
     pub counting-text : TextAt s at
@@ -43,7 +42,7 @@ module _ {s : List ℕ} {from n : ℕ} where
     pub counting-room : at + 4 ≤ length s
     counting-room = omega (arith, counting-text .room)
 
-    pub counting-more : {z w i j : ℕ} {q : Bool} → BlankIs s at q → i ≡ pick q 0 1 → WordIs s at w → j ≡ pick q 0 w → Past (structField settings) s at z → Counting s from n z (k - 1) (m + i) (b + j)
+    pub counting-more : {z w i j : ℕ} {q : Bool} → BlankIs s at q → i ≡ pick q 0 1 → WordIs s at w → j ≡ pick q 0 w → Past structField s at z → Counting s from n z (k - 1) (m + i) (b + j)
     unfolding named price pick
     counting-more {z} {w} {i} {j} {q} e x g y p =
         record {
@@ -63,19 +62,19 @@ module _ {s : List ℕ} {from n : ℕ} where
         under false e = omega (arith, l .bound, g .below)
 
         step : (q : Bool) → q ≡ same (textAt s at) (95 ∷ []) → i ≡ pick q 0 1
-            → m + length (named (nameOf StructField (valueAt (structField settings) s at) ∷ map (nameOf StructField) (itemsAt (structField settings) (k - 1) s z))) ≡ m + i + length (named (map (nameOf StructField) (itemsAt (structField settings) (k - 1) s z)))
+            → m + length (named (nameOf StructField (valueAt structField s at) ∷ map (nameOf StructField) (itemsAt structField (k - 1) s z))) ≡ m + i + length (named (map (nameOf StructField) (itemsAt structField (k - 1) s z)))
         step true b e = rw (name-content StructField (counting-here .stands), ← b) (omega arith)
         step false b e = rw (name-content StructField (counting-here .stands), ← b) (omega arith)
 
         sum : (q : Bool) → q ≡ same (textAt s at) (95 ∷ []) → j ≡ pick q 0 w
-            → b + price Fields (valueAt (structField settings) s at ∷ itemsAt (structField settings) (k - 1) s z) ≡ b + j + price Fields (itemsAt (structField settings) (k - 1) s z)
+            → b + price Fields (valueAt structField s at ∷ itemsAt structField (k - 1) s z) ≡ b + j + price Fields (itemsAt structField (k - 1) s z)
         sum true d e = rw (name-content StructField (counting-here .stands), ← d) (omega arith)
         sum false d e = rw (name-content StructField (counting-here .stands), ← d, text-length counting-text g) (omega arith)
 
   pub counting-done : {at k m b : ℕ} → k ≤ 0 → Counting s from n at k m b → Tallied s from n m b
   unfolding named price
   counting-done {at} {k} {m} {b} h l =
-      let z = items-none (structField settings) k s at h in
+      let z = items-none structField k s at h in
       record {
         named = record { is = sym (l .leads ∙ ap (λ vs. m + length (named (map (nameOf StructField) vs))) z ∙ omega arith); most = omega (arith, l .most) };
         cost = record { is = sym (l .sums ∙ ap (λ vs. b + price Fields vs) z ∙ omega arith) };

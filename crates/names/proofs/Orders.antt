@@ -9,7 +9,6 @@ use Rattle.format.specs.Format.{Value, content, pay}
 use Rattle.format.specs.Reading.{same}
 use Rattle.format.specs.Laying.{same-eq}
 use Rattle.vob24.specs.Refusals as refusals
-use Rattle.vob24.specs.Settings.{settings}
 use Rattle.vob24.specs.Questions.{refuseIf, among, blank, repeat, named, fieldKeys, newNames, Identity, amongIdentities, newIdentities}
 use Rattle.vob24.specs.Grammar.{identity}
 use Rattle.items.specs.declared.Item.{Item}
@@ -109,7 +108,7 @@ keys-over vs = keys-from [] [] vs (λ x e. refl)
 
 -- 19: the same of a package and a name
 abbrev KnowsIdentities : List Identity → List Value → Type 0
-KnowsIdentities seen before = (x : Identity) → blank (x .1) ≡ false → amongIdentities x seen ≡ amongIdentities x (map (identity settings) before)
+KnowsIdentities seen before = (x : Identity) → blank (x .1) ≡ false → amongIdentities x seen ≡ amongIdentities x (map identity before)
 
 identities-snoc : (x y : Identity) (l : List Identity) → amongIdentities x (l ++ (y ∷ [])) ≡ amongIdentities x (y ∷ l)
 unfolding amongIdentities pick
@@ -129,32 +128,32 @@ identities-snoc x y (z ∷ l) = go (same (content (x .1)) (content (z .1))) (sam
     go false b true false e = e
     go false b false d e = e
 
-identities-from : (seen : List Identity) (before vs : List Value) → KnowsIdentities seen before → newIdentities seen (map (identity settings) vs) ≡ over (tableAsks Identities) before vs
+identities-from : (seen : List Identity) (before vs : List Value) → KnowsIdentities seen before → newIdentities seen (map identity vs) ≡ over (tableAsks Identities) before vs
 unfolding over tableAsks repeats newIdentities amongIdentities pick
 identities-from seen before [] k = refl
-identities-from seen before (v ∷ vs) k = go (blank (identity settings v .1)) refl
+identities-from seen before (v ∷ vs) k = go (blank (identity v .1)) refl
     (λ e. identities-from seen (before ++ (v ∷ [])) vs (skip e))
-    (λ e. identities-from (identity settings v ∷ seen) (before ++ (v ∷ [])) vs (keep e))
+    (λ e. identities-from (identity v ∷ seen) (before ++ (v ∷ [])) vs (keep e))
   where
-    snoc : (x : Identity) → amongIdentities x (map (identity settings) (before ++ (v ∷ []))) ≡ amongIdentities x (identity settings v ∷ map (identity settings) before)
-    snoc x = ap (amongIdentities x) (map-snoc (identity settings) before v) ∙ identities-snoc x (identity settings v) (map (identity settings) before)
+    snoc : (x : Identity) → amongIdentities x (map identity (before ++ (v ∷ []))) ≡ amongIdentities x (identity v ∷ map identity before)
+    snoc x = ap (amongIdentities x) (map-snoc identity before v) ∙ identities-snoc x (identity v) (map identity before)
 
-    skip : blank (identity settings v .1) ≡ true → KnowsIdentities seen (before ++ (v ∷ []))
+    skip : blank (identity v .1) ≡ true → KnowsIdentities seen (before ++ (v ∷ []))
     skip e x j =
-        let c : content (identity settings v .1) ≡ 95 ∷ [] = same-eq (content (identity settings v .1)) (95 ∷ []) (rw e tt) in
-        let o : same (content (x .1)) (content (identity settings v .1)) ≡ false = rw c j in
+        let c : content (identity v .1) ≡ 95 ∷ [] = same-eq (content (identity v .1)) (95 ∷ []) (rw e tt) in
+        let o : same (content (x .1)) (content (identity v .1)) ≡ false = rw c j in
         k x j ∙ sym (snoc x ∙ rw o)
 
-    keep : blank (identity settings v .1) ≡ false → KnowsIdentities (identity settings v ∷ seen) (before ++ (v ∷ []))
-    keep e x j = ap (λ b. pick (same (content (x .1)) (content (identity settings v .1))) (pick (same (content (x .0)) (content (identity settings v .0))) true b) b) (k x j) ∙ sym (snoc x)
+    keep : blank (identity v .1) ≡ false → KnowsIdentities (identity v ∷ seen) (before ++ (v ∷ []))
+    keep e x j = ap (λ b. pick (same (content (x .1)) (content (identity v .1))) (pick (same (content (x .0)) (content (identity v .0))) true b) b) (k x j) ∙ sym (snoc x)
 
-    go : (b : Bool) → blank (identity settings v .1) ≡ b
-        → (blank (identity settings v .1) ≡ true → newIdentities seen (map (identity settings) vs) ≡ over (tableAsks Identities) (before ++ (v ∷ [])) vs)
-        → (blank (identity settings v .1) ≡ false → newIdentities (identity settings v ∷ seen) (map (identity settings) vs) ≡ over (tableAsks Identities) (before ++ (v ∷ [])) vs)
-        → refuseIf (pick b false (amongIdentities (identity settings v) seen)) (repeat refusals.duplicateRuntimeStructField (Rattle.format.specs.Format.start (identity settings v .0)) (identity settings v .1)) ++ newIdentities (pick b seen (identity settings v ∷ seen)) (map (identity settings) vs)
-        ≡ refuseIf (pick b false (amongIdentities (identity settings v) (map (identity settings) before))) (repeat refusals.duplicateRuntimeStructField (Rattle.format.specs.Format.start (identity settings v .0)) (identity settings v .1)) ++ over (tableAsks Identities) (before ++ (v ∷ [])) vs
+    go : (b : Bool) → blank (identity v .1) ≡ b
+        → (blank (identity v .1) ≡ true → newIdentities seen (map identity vs) ≡ over (tableAsks Identities) (before ++ (v ∷ [])) vs)
+        → (blank (identity v .1) ≡ false → newIdentities (identity v ∷ seen) (map identity vs) ≡ over (tableAsks Identities) (before ++ (v ∷ [])) vs)
+        → refuseIf (pick b false (amongIdentities (identity v) seen)) (repeat refusals.duplicateRuntimeStructField (Rattle.format.specs.Format.start (identity v .0)) (identity v .1)) ++ newIdentities (pick b seen (identity v ∷ seen)) (map identity vs)
+        ≡ refuseIf (pick b false (amongIdentities (identity v) (map identity before))) (repeat refusals.duplicateRuntimeStructField (Rattle.format.specs.Format.start (identity v .0)) (identity v .1)) ++ over (tableAsks Identities) (before ++ (v ∷ [])) vs
     go true e o u = o e
-    go false e o u = rw (k (identity settings v) e, u e)
+    go false e o u = rw (k (identity v) e, u e)
 
-pub identities-over : (vs : List Value) → newIdentities [] (map (identity settings) vs) ≡ over (tableAsks Identities) [] vs
+pub identities-over : (vs : List Value) → newIdentities [] (map identity vs) ≡ over (tableAsks Identities) [] vs
 identities-over vs = identities-from [] [] vs (λ x e. refl)

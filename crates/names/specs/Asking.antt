@@ -5,7 +5,6 @@ use lib.ListN.{length}
 use Rattle.format.specs.Trace.{Wrong, pick}
 use Rattle.format.specs.Format.{Value, start, content, Ask, pay}
 use Rattle.vob24.specs.Refusals as refusals
-use Rattle.vob24.specs.Settings.{settings}
 use Rattle.vob24.specs.Questions.{refuseIf, among, blank, repeat}
 use Rattle.vob24.specs.Grammar.{method, methodName, identity}
 use Rattle.items.specs.declared.Item.the-variants.{StructField}
@@ -34,7 +33,7 @@ price t (v ∷ vs) = priceOf t v + price t vs
 abbrev pub wrongIn : Table → Value → Wrong
 wrongIn Fields v = repeat refusals.duplicateStructField 0 (nameOf StructField v)
 wrongIn (Methods i) v = repeat refusals.duplicateInterfaceMethod 0 (nameOf i v)
-wrongIn Identities v = repeat refusals.duplicateRuntimeStructField (start (identity settings v .0)) (identity settings v .1)
+wrongIn Identities v = repeat refusals.duplicateRuntimeStructField (start (identity v .0)) (identity v .1)
 
 -- 16, 17, 19: an item's charge, and that it repeats none before it
 unfoldable pub tableAsks : Table → List Value → Value → List Ask
@@ -43,8 +42,8 @@ tableAsks t before v = charges t v ++ refuseIf (repeats t before v) (wrongIn t v
 -- the names of the first i methods from a place on, as the named type's list has them after i methods
 unfoldable pub seenAt : ℕ → List ℕ → ℕ → List (List ℕ)
 seenAt zero s p = []
-seenAt (suc i) s p = content (methodName settings (valueAt (method settings) s (lastAt (method settings) i s p))) ∷ seenAt i s p
+seenAt (suc i) s p = content (methodName (valueAt method s (lastAt method i s p))) ∷ seenAt i s p
 
 -- 18
 abbrev pub methodAsks : List (List ℕ) → Value → List Ask
-methodAsks seen v = refuseIf (among (content (methodName settings v)) seen) (repeat refusals.duplicateNamedMethod 0 (methodName settings v))
+methodAsks seen v = refuseIf (among (content (methodName v)) seen) (repeat refusals.duplicateNamedMethod 0 (methodName v))

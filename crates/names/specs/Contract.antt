@@ -6,7 +6,6 @@ use mathlib.Core.Bool.{Bool}
 use lib.ListN.{length}
 use Rattle.format.specs.Format.{Value, Ask, Format}
 use Rattle.format.specs.Reading.{little, part}
-use Rattle.vob24.specs.Settings.{settings}
 use Rattle.vob24.specs.Questions.{named}
 use Rattle.vob24.specs.Grammar.{method}
 use Rattle.reader.specs.Contract.{refusal, Ready, Asks}
@@ -57,10 +56,10 @@ pub record Tallied (s : List ℕ) (from n names bytes : ℕ) : Type 0 where
 
 -- A named type's method was read from r to r₁, after n others.
 pub record MethodBehind (s : List ℕ) (from n : ℕ) (r r₁ : Step) : Type 0 where
-  pub items : Items (method settings) n s from
+  pub items : Items method n s from
   pub ready : Ready s r₁
-  pub comes : (c d : Cursor) → r ≡ Taken c → r₁ ≡ Taken d → Stands (method settings) s (c .place)
+  pub comes : (c d : Cursor) → r ≡ Taken c → r₁ ≡ Taken d → Stands method s (c .place)
 
 pub record MethodAsked (s : List ℕ) (from n : ℕ) (r r₁ q : Step) : Type 0 where
   pub stays : (x : Refusal) → r₁ ≡ Refused x → q ≡ r₁
-  pub asks : (c d : Cursor) → r ≡ Taken c → r₁ ≡ Taken d → Asks (methodAsks (seenAt n s from) (valueAt (method settings) s (c .place))) d q
+  pub asks : (c d : Cursor) → r ≡ Taken c → r₁ ≡ Taken d → Asks (methodAsks (seenAt n s from) (valueAt method s (c .place))) d q

@@ -5,7 +5,7 @@ ghost use mathlib.Core.Path.{_≡_};
 ghost use Prim.Native.Nat.{_≤_, _<_};
 ghost use mathlib.Core.List.{[], map};
 ghost use Rattle.format.specs.Trace.{pick};
-ghost use Rattle.vob24.specs.Settings.{settings};
+ghost use Rattle.vob24.specs.Settings.{settingsOf};
 ghost use Rattle.vob24.specs.Grammar.{structField, fieldName, fieldIndex, methodSet, runtimeField, identity, fieldSet};
 ghost use Rattle.reader.specs.Contract.{Asks};
 ghost use Rattle.items.specs.Walk.{itemsAt};
@@ -23,6 +23,7 @@ use reader::Refusal;
 use reader::Step;
 use reader::numbers;
 use reader::sizes;
+use vob24::Settings;
 
 // ---- the charge and the refusal of an item
 
@@ -65,7 +66,7 @@ fn refuse_repeat(s: &[u8], table: Table, p: usize, c: Cursor) -> Step
 
 // A struct field's name is charged; "_" is no key.
 fn charge_field(s: &[u8], p: usize, c: Cursor) -> Step
-    requires { ⌜ Placed (structField settings) (now s) p ⌝ }
+    requires { ⌜ Placed structField (now s) p ⌝ }
     ensures { λ q. ⌜ Charged Table.Fields (now (s .entry)) p c q ⌝ }
 {
     if items::blank(s, p) {
@@ -164,7 +165,7 @@ struct Tally {
 }
 
 fn named(s: &[u8], from: usize, n: usize) -> Tally
-    requires { ⌜ (Items (structField settings) n (now s) from) × (n < 4294967296) ⌝ }
+    requires { ⌜ (Items structField n (now s) from) × (n < 4294967296) ⌝ }
     ensures { λ q. ⌜ Tallied (now (s .entry)) from n (q .names) (q .bytes) ⌝ }
 {
     let mut at = from;
@@ -182,9 +183,9 @@ fn named(s: &[u8], from: usize, n: usize) -> Tally
 }
 
 // The index of the fields whose list was read at r, asked at r1.
-pub fn field_index(s: &[u8], r: Step, r1: Step, again: bool) -> Step
-    requires { ⌜ (ListBehind (structField settings) (now s) r r1) × (ListGranted again (structField settings) (λ vs. fieldIndex settings (map (fieldName settings) vs)) (now s) r r1) ⌝ }
-    ensures { λ q. ⌜ ListAsked (structField settings) (λ vs. fieldIndex settings (map (fieldName settings) vs)) (now (s .entry)) r r1 q ⌝ }
+pub fn field_index(s: &[u8], set: &Settings, r: Step, r1: Step, again: bool) -> Step
+    requires { ⌜ (ListBehind structField (now s) r r1) × (ListGranted again structField (λ vs. fieldIndex (settingsOf (now set)) (map fieldName vs)) (now s) r r1) ⌝ }
+    ensures { λ q. ⌜ ListAsked structField (λ vs. fieldIndex (settingsOf (now (set .entry))) (map fieldName vs)) (now (s .entry)) r r1 q ⌝ }
 {
     let Step::Taken(d) = r1 else {
         return r1;
@@ -198,7 +199,7 @@ pub fn field_index(s: &[u8], r: Step, r1: Step, again: bool) -> Step
     let tally = named(s, from, n);
     let names = tally.names;
     let bytes = tally.bytes;
-    let size = names * vob24::size(sizes::STRING_USIZE);
+    let size = names * vob24::size(set, sizes::STRING_USIZE);
     let paid = reader::charge_allocation(d, numbers::STRUCT_FIELD_INDEX, size);
     let Step::Taken(e) = paid else {
         return paid;
@@ -209,9 +210,9 @@ pub fn field_index(s: &[u8], r: Step, r1: Step, again: bool) -> Step
 // ---- 17: the methods of an interface
 
 // The set of the names whose list was read at r, asked at r1.
-pub fn method_set(s: &[u8], item: Item, r: Step, r1: Step, again: bool) -> Step
-    requires { ⌜ (ListBehind (formatOf item) (now s) r r1) × (ListGranted again (formatOf item) (λ vs. methodSet settings (namesOf item vs)) (now s) r r1) ⌝ }
-    ensures { λ q. ⌜ ListAsked (formatOf item) (λ vs. methodSet settings (namesOf item vs)) (now (s .entry)) r r1 q ⌝ }
+pub fn method_set(s: &[u8], set: &Settings, item: Item, r: Step, r1: Step, again: bool) -> Step
+    requires { ⌜ (ListBehind (formatOf item) (now s) r r1) × (ListGranted again (formatOf item) (λ vs. methodSet (settingsOf (now set)) (namesOf item vs)) (now s) r r1) ⌝ }
+    ensures { λ q. ⌜ ListAsked (formatOf item) (λ vs. methodSet (settingsOf (now (set .entry))) (namesOf item vs)) (now (s .entry)) r r1 q ⌝ }
 {
     let Step::Taken(d) = r1 else {
         return r1;
@@ -221,7 +222,7 @@ pub fn method_set(s: &[u8], item: Item, r: Step, r1: Step, again: bool) -> Step
     };
     let place = c.place;
     let n = items::word_at(s, place);
-    let size = (n as u64) * (2 * vob24::size(sizes::STR));
+    let size = (n as u64) * (2 * vob24::size(set, sizes::STR));
     let paid = reader::charge_allocation(d, numbers::INTERFACE_METHOD_SET, size);
     let Step::Taken(e) = paid else {
         return paid;
@@ -252,9 +253,9 @@ pub fn new_method(s: &[u8], from: usize, n: usize, r: Step, r1: Step) -> Step
 // ---- 19: the fields of a runtime struct
 
 // The set of the fields whose list was read at r, asked at r1; "_" is charged too.
-pub fn field_set(s: &[u8], r: Step, r1: Step, again: bool) -> Step
-    requires { ⌜ (ListBehind (runtimeField settings) (now s) r r1) × (ListGranted again (runtimeField settings) (λ vs. fieldSet settings (map (identity settings) vs)) (now s) r r1) ⌝ }
-    ensures { λ q. ⌜ ListAsked (runtimeField settings) (λ vs. fieldSet settings (map (identity settings) vs)) (now (s .entry)) r r1 q ⌝ }
+pub fn field_set(s: &[u8], set: &Settings, r: Step, r1: Step, again: bool) -> Step
+    requires { ⌜ (ListBehind runtimeField (now s) r r1) × (ListGranted again runtimeField (λ vs. fieldSet (settingsOf (now set)) (map identity vs)) (now s) r r1) ⌝ }
+    ensures { λ q. ⌜ ListAsked runtimeField (λ vs. fieldSet (settingsOf (now (set .entry))) (map identity vs)) (now (s .entry)) r r1 q ⌝ }
 {
     let Step::Taken(d) = r1 else {
         return r1;
@@ -264,7 +265,7 @@ pub fn field_set(s: &[u8], r: Step, r1: Step, again: bool) -> Step
     };
     let place = c.place;
     let n = items::word_at(s, place);
-    let size = (n as u64) * (2 * vob24::size(sizes::STR_STR));
+    let size = (n as u64) * (2 * vob24::size(set, sizes::STR_STR));
     let paid = reader::charge_allocation(d, numbers::RUNTIME_STRUCT_FIELD_SET, size);
     let Step::Taken(e) = paid else {
         return paid;

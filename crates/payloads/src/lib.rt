@@ -5,7 +5,7 @@ ghost use Prim.Native.Nat.{_+_, _≤_};
 ghost use lib.ListN.{length as lengthOf};
 ghost use Rattle.format.specs.Format.{Leaf};
 ghost use Rattle.vob24.specs.Refusals;
-ghost use Rattle.vob24.specs.Settings.{settings, sizeOf, ModuleArtifact};
+ghost use Rattle.vob24.specs.Settings.{settingsOf, sizeOf, ModuleArtifact};
 ghost use Rattle.vob24.specs.Utf8.{wellFormed};
 ghost use Rattle.vob24.specs.Leaves.{free, limit};
 ghost use Rattle.vob24.specs.Grammar.{methodSize, noHostCalls};
@@ -18,11 +18,11 @@ use reader::Payload;
 use reader::Refusal;
 use reader::Step;
 use reader::Text;
-use reader::limits;
 use reader::numbers;
 use reader::sizes;
 use utf8::Scanned;
 use utf8::Tried;
+use vob24::Settings;
 
 fn not_payload(q: Number) -> Payload
     ensures { λ r. ⌜ payloadStep r ≡ stepOf q ⌝ }
@@ -180,21 +180,28 @@ fn counted(s: &[u8], d: Cursor, n: u64, least: u64, context: u64, size: u64) -> 
 }
 
 // The count of a list of entries whose size is numbered `kind`.
-pub fn read_count(s: &[u8], c: Cursor, kind: usize) -> Number
+pub fn read_count(s: &[u8], set: &Settings, c: Cursor, kind: usize) -> Number
     requires { ⌜ ReadyAt (now s) c ⌝ }
-    ensures { λ q. ⌜ Answers (Leaf.count free 1 Refusals.vector (sizeOf settings kind)) (now (s .entry)) c q ⌝ }
+    ensures { λ q. ⌜ Answers (Leaf.count free 1 Refusals.vector (sizeOf (settingsOf (now (set .entry))) kind)) (now (s .entry)) c q ⌝ }
 {
     let q = reader::read_u32(s, c);
     let Number::Got(n, d) = q else {
         return q;
     };
-    counted(s, d, n, 1, numbers::VECTOR, vob24::size(kind))
+    counted(s, d, n, 1, numbers::VECTOR, vob24::size(set, kind))
 }
 
 // The count of an inline list, which is at most `most`: `read_debug_vec`.
-pub fn read_debug_count(s: &[u8], c: Cursor, context: u64, most: u64, kind: usize) -> Number
+pub fn read_debug_count(
+    s: &[u8],
+    set: &Settings,
+    c: Cursor,
+    context: u64,
+    most: u64,
+    kind: usize,
+) -> Number
     requires { ⌜ ReadyAt (now s) c ⌝ }
-    ensures { λ q. ⌜ Answers (Leaf.count (limit Refusals.debugMetadataLimitExceeded context most) 1 Refusals.vector (sizeOf settings kind)) (now (s .entry)) c q ⌝ }
+    ensures { λ q. ⌜ Answers (Leaf.count (limit Refusals.debugMetadataLimitExceeded context most) 1 Refusals.vector (sizeOf (settingsOf (now (set .entry))) kind)) (now (s .entry)) c q ⌝ }
 {
     let q = reader::read_u32(s, c);
     let Number::Got(n, d) = q else {
@@ -203,25 +210,26 @@ pub fn read_debug_count(s: &[u8], c: Cursor, context: u64, most: u64, kind: usiz
     if most < n {
         return Number::Not(over(d, numbers::DEBUG_METADATA_LIMIT_EXCEEDED, context, n, most));
     }
-    counted(s, d, n, 1, numbers::VECTOR, vob24::size(kind))
+    counted(s, d, n, 1, numbers::VECTOR, vob24::size(set, kind))
 }
 
 // The count of artifacts, which is never held against the bytes left.
-pub fn read_artifact_count(s: &[u8], c: Cursor) -> Number
+pub fn read_artifact_count(s: &[u8], set: &Settings, c: Cursor) -> Number
     requires { ⌜ ReadyAt (now s) c ⌝ }
-    ensures { λ q. ⌜ Answers (Leaf.count (limit Refusals.moduleArtifactLimitExceeded Refusals.artifactCount (settings .artifacts)) 0 Refusals.moduleArtifacts (sizeOf settings ModuleArtifact)) (now (s .entry)) c q ⌝ }
+    ensures { λ q. ⌜ Answers (Leaf.count (limit Refusals.moduleArtifactLimitExceeded Refusals.artifactCount (settingsOf (now (set .entry)) .artifacts)) 0 Refusals.moduleArtifacts (sizeOf (settingsOf (now (set .entry))) ModuleArtifact)) (now (s .entry)) c q ⌝ }
 {
     let q = reader::read_u32(s, c);
     let Number::Got(n, d) = q else {
         return q;
     };
-    if limits::ARTIFACTS < n {
+    let most = vob24::artifacts(set);
+    if most < n {
         return Number::Not(over(
             d,
             numbers::MODULE_ARTIFACT_LIMIT_EXCEEDED,
             numbers::ARTIFACT_COUNT,
             n,
-            limits::ARTIFACTS,
+            most,
         ));
     }
     counted(
@@ -230,27 +238,27 @@ pub fn read_artifact_count(s: &[u8], c: Cursor) -> Number
         n,
         0,
         numbers::MODULE_ARTIFACTS,
-        vob24::size(sizes::MODULE_ARTIFACT),
+        vob24::size(set, sizes::MODULE_ARTIFACT),
     )
 }
 
 // The count of a named type's methods: 14 bytes each at the least, and a charge of their own.
-pub fn read_method_count(s: &[u8], c: Cursor) -> Number
+pub fn read_method_count(s: &[u8], set: &Settings, c: Cursor) -> Number
     requires { ⌜ ReadyAt (now s) c ⌝ }
-    ensures { λ q. ⌜ Answers (Leaf.count free 14 Refusals.namedMethodMap (methodSize settings)) (now (s .entry)) c q ⌝ }
+    ensures { λ q. ⌜ Answers (Leaf.count free 14 Refusals.namedMethodMap (methodSize (settingsOf (now (set .entry))))) (now (s .entry)) c q ⌝ }
 {
     let q = reader::read_u32(s, c);
     let Number::Got(n, d) = q else {
         return q;
     };
-    let size = vob24::size(sizes::STRING_METHOD_INFO) + 3 * vob24::size(sizes::USIZE);
+    let size = vob24::size(set, sizes::STRING_METHOD_INFO) + 3 * vob24::size(set, sizes::USIZE);
     counted(s, d, n, 14, numbers::NAMED_METHOD_MAP, size)
 }
 
 // The count of externs, which the reader leaves out: it is 0.
 pub fn read_extern_count(s: &[u8], c: Cursor) -> Number
     requires { ⌜ ReadyAt (now s) c ⌝ }
-    ensures { λ q. ⌜ Answers (Leaf.count (noHostCalls settings) 1 Refusals.vector 0) (now (s .entry)) c q ⌝ }
+    ensures { λ q. ⌜ Answers (Leaf.count noHostCalls 1 Refusals.vector 0) (now (s .entry)) c q ⌝ }
 {
     let q = reader::read_u32(s, c);
     let Number::Got(n, d) = q else {

@@ -256,7 +256,7 @@ pub count-below : {s : List ℕ} {c d : Cursor} {q : Number} {n m z : ℕ} → R
 count-below r e h i j = record { ready = past-ready r e h; word = omega (arith, below (fetched e h)); least = i; size = j }
 
 -- a size of the table
-pub count-at : {s : List ℕ} {c d : Cursor} {q : Number} {n m z : ℕ} → ReadyAt s c → q ≡ Got n d → Fetches 4 s c q → m < 4294967296 → z ≤ 4096 → CountAt s d n m z
+pub count-at : {s : List ℕ} {c d : Cursor} {q : Number} {n m z : ℕ} → ReadyAt s c → q ≡ Got n d → Fetches 4 s c q → m < 4294967296 → z < 65536 → CountAt s d n m z
 count-at r e h i j = count-below r e h i (omega arith)
 
 -- ---- payloads

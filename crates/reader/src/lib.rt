@@ -11,7 +11,6 @@ ghost use Rattle.format.specs.Reading.{little};
 ghost use Rattle.reader.specs.Contract.{refusal, stepOf, signedStep, floatStep, payloadStep, textStep, textSpan, numberOf, ReadyAt, Wordy, Kept, WordyPair, KeptPair, Paid};
 ghost use Rattle.reader.specs.Leaves.{Fetches, FetchesSigned, FetchesFloat};
 
-pub mod limits;
 pub mod numbers;
 pub mod sizes;
 

@@ -1,6 +1,7 @@
 // The members of runtime types: the fields of a struct, each with an identity of its own, and the methods of an interface,
 // each with a name of its own.
 // Ports StructField and InterfaceMethod of runtime_type.rs and their reading by read_runtime_type of serialize.rs.
+ghost use Rattle.vob24.specs.Settings.{settingsOf};
 ghost use Rattle.format.specs.Format.{counted};
 ghost use Rattle.reader.specs.Contract.{Ready, ReadyAt, Reader, NumberOf};
 ghost use Rattle.reader.specs.declared.Step.the-variants.{Taken};
@@ -11,6 +12,7 @@ use reader::Cursor;
 use reader::Number;
 use reader::Step;
 use reader::sizes;
+use vob24::Settings;
 
 // ---- fields of structs
 
@@ -26,11 +28,11 @@ fn field(s: &[u8], r: Step, tape: &mut [u32]) -> Step
     fields::field_str(s, embedded, tape)
 }
 
-fn number_fields(s: &[u8], c: Cursor, tape: &mut [u32]) -> Number
+fn number_fields(s: &[u8], set: &Settings, c: Cursor, tape: &mut [u32]) -> Number
     requires { ⌜ ReadyAt (now s) c ⌝ }
-    ensures { λ q. ⌜ NumberOf fieldList counted (now (s .entry)) c (now (tape .entry)) q (now (tape .exit)) ⌝ }
+    ensures { λ q. ⌜ NumberOf (fieldList (settingsOf (now (set .entry)))) counted (now (s .entry)) c (now (tape .entry)) q (now (tape .exit)) ⌝ }
 {
-    let q = fields::number_count(s, c, sizes::STRUCT_FIELD, tape);
+    let q = fields::number_count(s, set, c, sizes::STRUCT_FIELD, tape);
     let Number::Got(n, d) = q else {
         return q;
     };
@@ -47,17 +49,23 @@ fn number_fields(s: &[u8], c: Cursor, tape: &mut [u32]) -> Number
 }
 
 // A struct's fields, each with an identity of its own; hands out how many they are.
-pub fn number_new_fields(s: &[u8], c: Cursor, again: bool, tape: &mut [u32]) -> Number
-    requires { ⌜ (ReadyAt (now s) c) × (Granted again newFields (now s) (Taken c)) ⌝ }
-    ensures { λ q. ⌜ NumberOf newFields newCount (now (s .entry)) c (now (tape .entry)) q (now (tape .exit)) ⌝ }
+pub fn number_new_fields(
+    s: &[u8],
+    set: &Settings,
+    c: Cursor,
+    again: bool,
+    tape: &mut [u32],
+) -> Number
+    requires { ⌜ (ReadyAt (now s) c) × (Granted again (newFields (settingsOf (now set))) (now s) (Taken c)) ⌝ }
+    ensures { λ q. ⌜ NumberOf (newFields (settingsOf (now (set .entry)))) newCount (now (s .entry)) c (now (tape .entry)) q (now (tape .exit)) ⌝ }
 {
-    let q = number_fields(s, c, tape);
+    let q = number_fields(s, set, c, tape);
     let Number::Got(n, d) = q else {
         return q;
     };
     reader::with(
         n,
-        names::field_set(s, Step::Taken(c), Step::Taken(d), again),
+        names::field_set(s, set, Step::Taken(c), Step::Taken(d), again),
     )
 }
 
@@ -72,11 +80,11 @@ fn method(s: &[u8], r: Step, tape: &mut [u32]) -> Step
     fields::field_value_rttid(s, name, tape)
 }
 
-fn number_methods(s: &[u8], c: Cursor, tape: &mut [u32]) -> Number
+fn number_methods(s: &[u8], set: &Settings, c: Cursor, tape: &mut [u32]) -> Number
     requires { ⌜ ReadyAt (now s) c ⌝ }
-    ensures { λ q. ⌜ NumberOf methodList counted (now (s .entry)) c (now (tape .entry)) q (now (tape .exit)) ⌝ }
+    ensures { λ q. ⌜ NumberOf (methodList (settingsOf (now (set .entry)))) counted (now (s .entry)) c (now (tape .entry)) q (now (tape .exit)) ⌝ }
 {
-    let q = fields::number_count(s, c, sizes::INTERFACE_METHOD, tape);
+    let q = fields::number_count(s, set, c, sizes::INTERFACE_METHOD, tape);
     let Number::Got(n, d) = q else {
         return q;
     };
@@ -93,11 +101,17 @@ fn number_methods(s: &[u8], c: Cursor, tape: &mut [u32]) -> Number
 }
 
 // An interface's methods, each with a name of its own; hands out how many they are.
-pub fn number_new_methods(s: &[u8], c: Cursor, again: bool, tape: &mut [u32]) -> Number
-    requires { ⌜ (ReadyAt (now s) c) × (Granted again newMethods (now s) (Taken c)) ⌝ }
-    ensures { λ q. ⌜ NumberOf newMethods newCount (now (s .entry)) c (now (tape .entry)) q (now (tape .exit)) ⌝ }
+pub fn number_new_methods(
+    s: &[u8],
+    set: &Settings,
+    c: Cursor,
+    again: bool,
+    tape: &mut [u32],
+) -> Number
+    requires { ⌜ (ReadyAt (now s) c) × (Granted again (newMethods (settingsOf (now set))) (now s) (Taken c)) ⌝ }
+    ensures { λ q. ⌜ NumberOf (newMethods (settingsOf (now (set .entry)))) newCount (now (s .entry)) c (now (tape .entry)) q (now (tape .exit)) ⌝ }
 {
-    let q = number_methods(s, c, tape);
+    let q = number_methods(s, set, c, tape);
     let Number::Got(n, d) = q else {
         return q;
     };
@@ -105,6 +119,7 @@ pub fn number_new_methods(s: &[u8], c: Cursor, again: bool, tape: &mut [u32]) ->
         n,
         names::method_set(
             s,
+            set,
             Item::RuntimeMethod,
             Step::Taken(c),
             Step::Taken(d),

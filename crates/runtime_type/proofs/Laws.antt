@@ -6,7 +6,7 @@ use native.Mathlib.Omega.{arith}
 use native.Mathlib.Nat.{le-antisymm}
 use Rattle.format.specs.Format.{Value, counted, word, Format}
 use Rattle.vob24.specs.Refusals.{invalidPackedValueRttid}
-use Rattle.vob24.specs.Settings.{settings}
+use Rattle.vob24.specs.Settings.{Settings}
 use Rattle.vob24.specs.Leaves.{packedWord}
 use Rattle.vob24.specs.Grammar.{rttids}
 use Rattle.reader.specs.Contract.{Reader, NumberOf}
@@ -28,8 +28,8 @@ use Rattle.runtime_type.specs.Records.{optionalOf, listedAt, twoOf, past
 use Rattle.runtime_type.specs.Contract.{typeStep, TypeReader}
 
 -- rttids take four bytes each
-pub rttids-place : {s : List ℕ} {c d : Cursor} {q : Number} {n : ℕ} {t t₁ : List ℕ} → q ≡ Got n d → NumberOf (rttids settings) counted s c t q t₁ → d .place ≡ c .place + 4 + 4 * n
-rttids-place e h = omega (arith, list-place word (packedWord invalidPackedValueRttid) e h)
+pub rttids-place : (set : Settings) → {s : List ℕ} {c d : Cursor} {q : Number} {n : ℕ} {t t₁ : List ℕ} → q ≡ Got n d → NumberOf (rttids set) counted s c t q t₁ → d .place ≡ c .place + 4 + 4 * n
+rttids-place set e h = omega (arith, list-place word (packedWord invalidPackedValueRttid) e h)
 
 -- ---- the records of lists
 

@@ -5,7 +5,7 @@ use lib.Dec.{eqb}
 use lib.ListN.{getD}
 use Rattle.format.specs.Format.{Value, number, first, second, counted, Format, _▸_}
 use Rattle.vob24.specs.Settings as of
-use Rattle.vob24.specs.Settings.{settings}
+use Rattle.vob24.specs.Settings.{Settings}
 use Rattle.vob24.specs.Leaves.{u32, u64, optionalId, bool, direction, valueRttid}
 use Rattle.vob24.specs.Grammar as vob
 use Rattle.records.specs.Recorded.{noItems}
@@ -17,14 +17,14 @@ use Rattle.runtime_type.specs.declared.RuntimeTypeRecord.{RuntimeTypeRec
 
 -- ---- the formats
 
-abbrev pub typeFormat : Format
-typeFormat = vob.runtimeType settings
+abbrev pub typeFormat : Settings → Format
+typeFormat set = vob.runtimeType set
 
-abbrev pub typeList : Format
-typeList = vob.list settings of.RuntimeType typeFormat
+abbrev pub typeList : Settings → Format
+typeList set = vob.list set of.RuntimeType (typeFormat set)
 
-abbrev pub rttidList : Format
-rttidList = vob.rttids settings
+abbrev pub rttidList : Settings → Format
+rttidList set = vob.rttids set
 
 abbrev pub namedFormat : Format
 namedFormat = u32 ▸ optionalId
@@ -38,14 +38,14 @@ mapFormat = valueRttid ▸ valueRttid
 abbrev pub directedFormat : Format
 directedFormat = direction ▸ valueRttid
 
-abbrev pub funcFormat : Format
-funcFormat = bool ▸ rttidList ▸ rttidList
+abbrev pub funcFormat : Settings → Format
+funcFormat set = bool ▸ (rttidList set) ▸ (rttidList set)
 
-abbrev pub structFormat : Format
-structFormat = vob.runtimeStruct settings
+abbrev pub structFormat : Settings → Format
+structFormat set = vob.runtimeStruct set
 
-abbrev pub interfaceFormat : Format
-interfaceFormat = vob.runtimeInterface settings
+abbrev pub interfaceFormat : Settings → Format
+interfaceFormat set = vob.runtimeInterface set
 
 -- ---- the records: p is the place after the tag, v the value there
 

@@ -1,6 +1,7 @@
 // Runtime types, and the section that lists them.
 // Ports RuntimeType of runtime_type.rs and read_runtime_type of serialize.rs. A runtime type is answered as an enum without
 // lists, held in a record beside its lists' starts and counts.
+ghost use Rattle.vob24.specs.Settings.{settingsOf};
 ghost use mathlib.Core.Path.{_≡_};
 ghost use Prim.Native.Nat.{_<_};
 ghost use Rattle.format.specs.Format.{counted};
@@ -16,6 +17,7 @@ use reader::Refusal;
 use reader::Step;
 use reader::sizes;
 use records::Items;
+use vob24::Settings;
 
 // An id that may be absent.
 pub enum OptionalId {
@@ -54,11 +56,11 @@ pub enum RuntimeTypeRead {
 }
 
 // A list of rttids; hands out how many they are.
-fn number_rttids(s: &[u8], c: Cursor, tape: &mut [u32]) -> Number
+fn number_rttids(s: &[u8], set: &Settings, c: Cursor, tape: &mut [u32]) -> Number
     requires { ⌜ ReadyAt (now s) c ⌝ }
-    ensures { λ q. ⌜ NumberOf rttidList counted (now (s .entry)) c (now (tape .entry)) q (now (tape .exit)) ⌝ }
+    ensures { λ q. ⌜ NumberOf (rttidList (settingsOf (now (set .entry)))) counted (now (s .entry)) c (now (tape .entry)) q (now (tape .exit)) ⌝ }
 {
-    let q = fields::number_count(s, c, sizes::VALUE_RTTID, tape);
+    let q = fields::number_count(s, set, c, sizes::VALUE_RTTID, tape);
     let Number::Got(n, d) = q else {
         return q;
     };
@@ -219,19 +221,19 @@ fn chan(s: &[u8], c: Cursor, tape: &mut [u32]) -> RuntimeTypeRead
 }
 
 // variadic, params, results
-fn func(s: &[u8], c: Cursor, tape: &mut [u32]) -> RuntimeTypeRead
+fn func(s: &[u8], set: &Settings, c: Cursor, tape: &mut [u32]) -> RuntimeTypeRead
     requires { ⌜ ReadyAt (now s) c ⌝ }
-    ensures { λ q. ⌜ TypeReader funcFormat funcOf (now (s .entry)) c (now (tape .entry)) q (now (tape .exit)) ⌝ }
+    ensures { λ q. ⌜ TypeReader (funcFormat (settingsOf (now (set .entry)))) funcOf (now (s .entry)) c (now (tape .entry)) q (now (tape .exit)) ⌝ }
 {
     let q1 = fields::number_bool(s, c, tape);
     let Number::Got(variadic, d) = q1 else {
         return not_type(q1);
     };
-    let q2 = number_rttids(s, d, tape);
+    let q2 = number_rttids(s, set, d, tape);
     let Number::Got(params, e) = q2 else {
         return not_type(q2);
     };
-    let q3 = number_rttids(s, e, tape);
+    let q3 = number_rttids(s, set, e, tape);
     let Number::Got(results, f) = q3 else {
         return not_type(q3);
     };
@@ -248,15 +250,21 @@ fn func(s: &[u8], c: Cursor, tape: &mut [u32]) -> RuntimeTypeRead
 }
 
 // meta_id, fields
-fn struct_type(s: &[u8], c: Cursor, again: bool, tape: &mut [u32]) -> RuntimeTypeRead
-    requires { ⌜ (ReadyAt (now s) c) × (Granted again structFormat (now s) (Taken c)) ⌝ }
-    ensures { λ q. ⌜ TypeReader structFormat structOf (now (s .entry)) c (now (tape .entry)) q (now (tape .exit)) ⌝ }
+fn struct_type(
+    s: &[u8],
+    set: &Settings,
+    c: Cursor,
+    again: bool,
+    tape: &mut [u32],
+) -> RuntimeTypeRead
+    requires { ⌜ (ReadyAt (now s) c) × (Granted again (structFormat (settingsOf (now set))) (now s) (Taken c)) ⌝ }
+    ensures { λ q. ⌜ TypeReader (structFormat (settingsOf (now (set .entry)))) structOf (now (s .entry)) c (now (tape .entry)) q (now (tape .exit)) ⌝ }
 {
     let q1 = fields::number_u32(s, c, tape);
     let Number::Got(id, d) = q1 else {
         return not_type(q1);
     };
-    let q2 = runtime_members::number_new_fields(s, d, again, tape);
+    let q2 = runtime_members::number_new_fields(s, set, d, again, tape);
     let Number::Got(n, e) = q2 else {
         return not_type(q2);
     };
@@ -271,15 +279,15 @@ fn struct_type(s: &[u8], c: Cursor, again: bool, tape: &mut [u32]) -> RuntimeTyp
 }
 
 // meta_id, methods
-fn interface(s: &[u8], c: Cursor, again: bool, tape: &mut [u32]) -> RuntimeTypeRead
-    requires { ⌜ (ReadyAt (now s) c) × (Granted again interfaceFormat (now s) (Taken c)) ⌝ }
-    ensures { λ q. ⌜ TypeReader interfaceFormat interfaceOf (now (s .entry)) c (now (tape .entry)) q (now (tape .exit)) ⌝ }
+fn interface(s: &[u8], set: &Settings, c: Cursor, again: bool, tape: &mut [u32]) -> RuntimeTypeRead
+    requires { ⌜ (ReadyAt (now s) c) × (Granted again (interfaceFormat (settingsOf (now set))) (now s) (Taken c)) ⌝ }
+    ensures { λ q. ⌜ TypeReader (interfaceFormat (settingsOf (now (set .entry)))) interfaceOf (now (s .entry)) c (now (tape .entry)) q (now (tape .exit)) ⌝ }
 {
     let q1 = fields::number_u32(s, c, tape);
     let Number::Got(id, d) = q1 else {
         return not_type(q1);
     };
-    let q2 = runtime_members::number_new_methods(s, d, again, tape);
+    let q2 = runtime_members::number_new_methods(s, set, d, again, tape);
     let Number::Got(n, e) = q2 else {
         return not_type(q2);
     };
@@ -293,11 +301,11 @@ fn interface(s: &[u8], c: Cursor, again: bool, tape: &mut [u32]) -> RuntimeTypeR
     )
 }
 
-fn tuple(s: &[u8], c: Cursor, tape: &mut [u32]) -> RuntimeTypeRead
+fn tuple(s: &[u8], set: &Settings, c: Cursor, tape: &mut [u32]) -> RuntimeTypeRead
     requires { ⌜ ReadyAt (now s) c ⌝ }
-    ensures { λ q. ⌜ TypeReader rttidList tupleOf (now (s .entry)) c (now (tape .entry)) q (now (tape .exit)) ⌝ }
+    ensures { λ q. ⌜ TypeReader (rttidList (settingsOf (now (set .entry)))) tupleOf (now (s .entry)) c (now (tape .entry)) q (now (tape .exit)) ⌝ }
 {
-    let q = number_rttids(s, c, tape);
+    let q = number_rttids(s, set, c, tape);
     let Number::Got(n, d) = q else {
         return not_type(q);
     };
@@ -333,9 +341,15 @@ fn port(s: &[u8], c: Cursor, tape: &mut [u32]) -> RuntimeTypeRead
 // ---- the section
 
 // The tag, and what it stands for; the last arm is 12, as number_runtime_tag refuses all others.
-pub fn runtime_type(s: &[u8], c: Cursor, again: bool, tape: &mut [u32]) -> RuntimeTypeRead
-    requires { ⌜ (ReadyAt (now s) c) × (Granted again typeFormat (now s) (Taken c)) ⌝ }
-    ensures { λ q. ⌜ TypeReader typeFormat runtimeTypeOf (now (s .entry)) c (now (tape .entry)) q (now (tape .exit)) ⌝ }
+pub fn runtime_type(
+    s: &[u8],
+    set: &Settings,
+    c: Cursor,
+    again: bool,
+    tape: &mut [u32],
+) -> RuntimeTypeRead
+    requires { ⌜ (ReadyAt (now s) c) × (Granted again (typeFormat (settingsOf (now set))) (now s) (Taken c)) ⌝ }
+    ensures { λ q. ⌜ TypeReader (typeFormat (settingsOf (now (set .entry)))) runtimeTypeOf (now (s .entry)) c (now (tape .entry)) q (now (tape .exit)) ⌝ }
 {
     let q = fields::number_runtime_tag(s, c, tape);
     let Number::Got(tag, d) = q else {
@@ -349,10 +363,10 @@ pub fn runtime_type(s: &[u8], c: Cursor, again: bool, tape: &mut [u32]) -> Runti
         4 => slice(s, d, tape),
         5 => map(s, d, tape),
         6 => chan(s, d, tape),
-        7 => func(s, d, tape),
-        8 => struct_type(s, d, again, tape),
-        9 => interface(s, d, again, tape),
-        10 => tuple(s, d, tape),
+        7 => func(s, set, d, tape),
+        8 => struct_type(s, set, d, again, tape),
+        9 => interface(s, set, d, again, tape),
+        10 => tuple(s, set, d, tape),
         11 => port(s, d, tape),
         _ => RuntimeTypeRead::Got(bare(RuntimeType::Island), d),
     }
@@ -368,21 +382,21 @@ fn type_refused(q: RuntimeTypeRead) -> Step
     }
 }
 
-pub fn runtime_types(s: &[u8], r: Step, again: bool, tape: &mut [u32]) -> Step
-    requires { ⌜ (Ready (now s) r) × (Granted again typeList (now s) r) ⌝ }
-    ensures { λ q. ⌜ Reader typeList (now (s .entry)) r (now (tape .entry)) q (now (tape .exit)) ⌝ }
+pub fn runtime_types(s: &[u8], set: &Settings, r: Step, again: bool, tape: &mut [u32]) -> Step
+    requires { ⌜ (Ready (now s) r) × (Granted again (typeList (settingsOf (now set))) (now s) r) ⌝ }
+    ensures { λ q. ⌜ Reader (typeList (settingsOf (now (set .entry)))) (now (s .entry)) r (now (tape .entry)) q (now (tape .exit)) ⌝ }
 {
     let Step::Taken(c) = r else {
         return r;
     };
-    let q = fields::number_count(s, c, sizes::RUNTIME_TYPE, tape);
+    let q = fields::number_count(s, set, c, sizes::RUNTIME_TYPE, tape);
     let Number::Got(n, d) = q else {
         return reader::refused(q);
     };
     let mut k = n;
     let mut here = d;
     while 0 < k {
-        let item = runtime_type(s, here, again, tape);
+        let item = runtime_type(s, set, here, again, tape);
         let RuntimeTypeRead::Got(_, next) = item else {
             return type_refused(item);
         };

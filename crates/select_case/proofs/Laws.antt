@@ -5,7 +5,6 @@ use mathlib.Core.List.{List, [], _∷_}
 use native.Mathlib.Omega.{arith}
 use lib.ListN.{getD}
 use Rattle.format.specs.Format.{number, empty}
-use Rattle.vob24.specs.Settings.{settings}
 use Rattle.vob24.specs.Grammar.{selectCase, selectVariants}
 use Rattle.fields.specs.Fields.{selectTag}
 use Rattle.reader.specs.Contract.{NumberOf}
@@ -28,9 +27,9 @@ use Rattle.select_case.specs.declared.SelectCaseRead.{SelectCaseRead}
 -- ---- by the tag
 
 pub selectAt : (k : ℕ) {s : List ℕ} {c d : Cursor} {q : Number} {n : ℕ} {x : SelectCase} {r : Step} {t t₁ t₂ : List ℕ} → q ≡ Got n d → n ≡ k → NumberOf selectTag number s c t q t₁
-    → Recorded (getD (selectVariants settings) k empty) (λ p v. getD (sendOf p v ∷ recvOf p v ∷ []) k (Send 0 0 0)) s d t₁ r x t₂ → Recorded (selectCase settings) selectOf s c t r x t₂
+    → Recorded (getD selectVariants k empty) (λ p v. getD (sendOf p v ∷ recvOf p v ∷ []) k (Send 0 0 0)) s d t₁ r x t₂ → Recorded selectCase selectOf s c t r x t₂
 unfolding selectCase selectOf
-selectAt k e i h m = variantAt (selectVariants settings) (λ p v. sendOf p v ∷ recvOf p v ∷ []) (Send 0 0 0) k e i h m
+selectAt k e i h m = variantAt selectVariants (λ p v. sendOf p v ∷ recvOf p v ∷ []) (Send 0 0 0) k e i h m
 
 -- a select case that is not 0 is 1
 pub select-one : {s : List ℕ} {c d : Cursor} {q : Number} {n : ℕ} {t t₁ : List ℕ} → q ≡ Got n d → (n ≡ 0 → ⊥) → NumberOf selectTag number s c t q t₁ → n ≡ 1

@@ -5,7 +5,7 @@ use lib.Dec.{eqb}
 use lib.ListN.{getD}
 use Rattle.format.specs.Format.{Value, number, first, second, Format, _▸_}
 use Rattle.vob24.specs.Settings as of
-use Rattle.vob24.specs.Settings.{settings}
+use Rattle.vob24.specs.Settings.{Settings}
 use Rattle.vob24.specs.Leaves.{u16, bool}
 use Rattle.vob24.specs.Grammar as vob
 use Rattle.select_case.specs.declared.SelectCase.{SelectCase}
@@ -14,10 +14,10 @@ use Rattle.select_case.specs.declared.SelectCase.the-variants.{Send, Rec
 -- ---- the formats
 
 abbrev pub selectFormat : Format
-selectFormat = vob.selectCase settings
+selectFormat = vob.selectCase
 
-abbrev pub selectList : Format
-selectList = vob.list settings of.SelectCaseLayout selectFormat
+abbrev pub selectList : Settings → Format
+selectList set = vob.list set of.SelectCaseLayout selectFormat
 
 abbrev pub sendFormat : Format
 sendFormat = u16 ▸ u16 ▸ u16

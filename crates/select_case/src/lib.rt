@@ -1,5 +1,6 @@
 // The cases of a select, which stand in an instruction's metadata.
 // Ports SelectCaseLayout of bytecode.rs and its reading in serialize.rs, read_instruction_metadata.
+ghost use Rattle.vob24.specs.Settings.{settingsOf};
 ghost use mathlib.Core.Path.{_≡_};
 ghost use Rattle.format.specs.Format.{counted};
 ghost use Rattle.reader.specs.Contract.{stepOf, ReadyAt, NumberOf};
@@ -9,6 +10,7 @@ use reader::Cursor;
 use reader::Number;
 use reader::Refusal;
 use reader::sizes;
+use vob24::Settings;
 
 pub enum SelectCase {
     Send {
@@ -130,11 +132,11 @@ fn select_refused(q: SelectCaseRead) -> Number
 }
 
 // Hands out how many they are.
-pub fn number_select_cases(s: &[u8], c: Cursor, tape: &mut [u32]) -> Number
+pub fn number_select_cases(s: &[u8], set: &Settings, c: Cursor, tape: &mut [u32]) -> Number
     requires { ⌜ ReadyAt (now s) c ⌝ }
-    ensures { λ q. ⌜ NumberOf selectList counted (now (s .entry)) c (now (tape .entry)) q (now (tape .exit)) ⌝ }
+    ensures { λ q. ⌜ NumberOf (selectList (settingsOf (now (set .entry)))) counted (now (s .entry)) c (now (tape .entry)) q (now (tape .exit)) ⌝ }
 {
-    let q = fields::number_count(s, c, sizes::SELECT_CASE_LAYOUT, tape);
+    let q = fields::number_count(s, set, c, sizes::SELECT_CASE_LAYOUT, tape);
     let Number::Got(n, d) = q else {
         return q;
     };

@@ -3,7 +3,7 @@ use Prim.Native.Nat.{ℕ}
 use mathlib.Core.Path.{_≡_}
 use mathlib.Core.List.{List}
 use Rattle.format.specs.Format.{Value, entries}
-use Rattle.vob24.specs.Settings.{settings}
+use Rattle.vob24.specs.Settings.{Settings}
 use Rattle.vob24.specs.Grammar.{pack}
 use Rattle.vob24.specs.Cost.{partOf}
 use Rattle.vob24.specs.Grammar as vob
@@ -16,21 +16,21 @@ use Rattle.lookup.specs.Look.{foundOf, Room}
 use Rattle.lookup.specs.declared.Found.{Found}
 
 -- THE contract of the companion: start and length, or the refusal.
-pub record LocateCall (s name : List ℕ) (q : Found) : Type 0 where
-  pub is : foundOf q ≡ findOutcome settings s name
+pub record LocateCall (set : Settings) (s name : List ℕ) (q : Found) : Type 0 where
+  pub is : foundOf q ≡ findOutcome set s name
   pub room : Room s q
 
 -- THE contract of the lookup: the payload as a part of the pack, or an empty part.
-pub record FindCall (s name part′ : List ℕ) : Type 0 where
-  pub is : part′ ≡ foundPart s (findOutcome settings s name)
+pub record FindCall (set : Settings) (s name part′ : List ℕ) : Type 0 where
+  pub is : part′ ≡ foundPart s (findOutcome set s name)
 
 -- A pack that the reading from r takes, ending at c.
-pub record Whole (s : List ℕ) (r : Step) (c : Cursor) : Type 0 where
+pub record Whole (set : Settings) (s : List ℕ) (r : Step) (c : Cursor) : Type 0 where
   pub value : Value
-  pub on : On (pack settings) s value (c .place) (c .left) r
+  pub on : On (pack set) s value (c .place) (c .left) r
   pub ready : Ready s r
 
 -- The lookup in it.
-pub record Located (s : List ℕ) (r : Step) (name : List ℕ) (c : Cursor) (q : Found) : Type 0 where
-  pub is : (v : Value) → On (pack settings) s v (c .place) (c .left) r → foundOf q ≡ lookIn name (entries (partOf vob.artifacts v)) (c .place) (c .left)
+pub record Located (set : Settings) (s : List ℕ) (r : Step) (name : List ℕ) (c : Cursor) (q : Found) : Type 0 where
+  pub is : (v : Value) → On (pack set) s v (c .place) (c .left) r → foundOf q ≡ lookIn name (entries (partOf vob.artifacts v)) (c .place) (c .left)
   pub room : Room s q

@@ -36,7 +36,7 @@ kept f a b t (taken v p l) {w = w′} {p = p′} {l = l′} e = go (leb (length 
     go true e = let no : _≡_ {A = ℕ} 0 1 = cc in absurd (omega arith)
     go false e = refl
 
-module _ {s : List ℕ} {b : ℕ} {t : List ℕ} {q : Answer} {t′ : List ℕ} (call : ReadCall s b t q t′) where
+module _ {s : List ℕ} {b : ℕ} {t : List ℕ} {q : Answer} {t′ : List ℕ} (call : ReadCall settings s b t q t′) where
   answer : vob.readOutcome settings s b t .answer ≡ answerOf q
   answer = ap (λ o. o .answer) (call .is)
 
@@ -83,7 +83,7 @@ pub bounded : (s : List ℕ) → Bytes s → total (vob.wholeTrace settings s) <
 bounded = spec.whole-bound settings settings-licensed
 
 -- The lookup: a pack that is refused shows its refusal; in one that is taken, the first artifact with the name, or 27.
-module _ {s name : List ℕ} {q : Found} (call : LocateCall s name q) where
+module _ {s name : List ℕ} {q : Found} (call : LocateCall settings s name q) where
   pub located-refused : {w : Wrong} {p l : ℕ} → settle startingBudget (vob.wholeTrace settings s) ≡ refused w p l → foundOf q ≡ vob.Not w p l
   located-refused e = call .is ∙ find-refused settings s name e .0
 

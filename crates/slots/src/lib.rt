@@ -3,7 +3,7 @@
 // Most lists have one item or two: such a list is tested whole, and then kept, without a loop. Where a test fails, nothing is kept yet,
 // and the list is read as any other, so that a refusal is made in one place.
 ghost use Rattle.format.specs.Format.{counted, Leaf, Width};
-ghost use Rattle.vob24.specs.Settings.{settings};
+ghost use Rattle.vob24.specs.Settings.{settingsOf};
 ghost use Rattle.vob24.specs.Refusals.{invalidSlotType};
 ghost use Rattle.vob24.specs.Leaves.{atMost};
 ghost use Rattle.vob24.specs.Grammar.{slotTypes};
@@ -15,13 +15,14 @@ use reader::Number;
 use reader::Step;
 use reader::numbers;
 use reader::sizes;
+use vob24::Settings;
 
 // A list of any length.
-fn number_any(s: &[u8], c: Cursor, tape: &mut [u32]) -> Number
+fn number_any(s: &[u8], set: &Settings, c: Cursor, tape: &mut [u32]) -> Number
     requires { ⌜ ReadyAt (now s) c ⌝ }
-    ensures { λ q. ⌜ NumberOf (slotTypes settings) counted (now (s .entry)) c (now (tape .entry)) q (now (tape .exit)) ⌝ }
+    ensures { λ q. ⌜ NumberOf (slotTypes (settingsOf (now (set .entry)))) counted (now (s .entry)) c (now (tape .entry)) q (now (tape .exit)) ⌝ }
 {
-    let q = fields::number_count(s, c, sizes::SLOT_TYPE, tape);
+    let q = fields::number_count(s, set, c, sizes::SLOT_TYPE, tape);
     let Number::Got(n, d) = q else {
         return q;
     };
@@ -48,21 +49,28 @@ fn item(s: &[u8], c: Cursor) -> Number
 // The cursor comes in registers, as for texts. The budget and the count are looked at before the leaf asks, so that the compiler drops the leaf's refusals
 // here. `number_any` is called with copies: what is lent to it, or is its answer, stands in memory and not in registers, also where it is
 // not called.
-fn number_at(s: &[u8], place: usize, left: u64, at: usize, tape: &mut [u32]) -> Number
+fn number_at(
+    s: &[u8],
+    set: &Settings,
+    place: usize,
+    left: u64,
+    at: usize,
+    tape: &mut [u32],
+) -> Number
     requires { ⌜ ReadyAt (now s) (cursorAt place left at) ⌝ }
-    ensures { λ q. ⌜ NumberOf (slotTypes settings) counted (now (s .entry)) (cursorAt place left at) (now (tape .entry)) q (now (tape .exit)) ⌝ }
+    ensures { λ q. ⌜ NumberOf (slotTypes (settingsOf (now (set .entry)))) counted (now (s .entry)) (cursorAt place left at) (now (tape .entry)) q (now (tape .exit)) ⌝ }
 {
     let c = Cursor { place, left, at };
     if left < 2 {
         let pack = s;
         let start = c;
-        let any = number_any(pack, start, tape);
+        let any = number_any(pack, set, start, tape);
         return any;
     }
     if 4 <= s.len() - place {
         let count = reader::le4([s[place], s[place + 1], s[place + 2], s[place + 3]]);
         if count == 1 {
-            let q = payloads::read_count(s, c, sizes::SLOT_TYPE);
+            let q = payloads::read_count(s, set, c, sizes::SLOT_TYPE);
             if let Number::Got(n, d) = q {
                 if n == 1 {
                     let r = item(s, d);
@@ -74,7 +82,7 @@ fn number_at(s: &[u8], place: usize, left: u64, at: usize, tape: &mut [u32]) -> 
             }
         }
         if count == 2 {
-            let q = payloads::read_count(s, c, sizes::SLOT_TYPE);
+            let q = payloads::read_count(s, set, c, sizes::SLOT_TYPE);
             if let Number::Got(n, d) = q {
                 if n == 2 {
                     let r1 = item(s, d);
@@ -92,24 +100,24 @@ fn number_at(s: &[u8], place: usize, left: u64, at: usize, tape: &mut [u32]) -> 
     }
     let pack = s;
     let start = c;
-    let any = number_any(pack, start, tape);
+    let any = number_any(pack, set, start, tape);
     any
 }
 
 // Hands out how many they are.
-pub fn number_slot_types(s: &[u8], c: Cursor, tape: &mut [u32]) -> Number
+pub fn number_slot_types(s: &[u8], set: &Settings, c: Cursor, tape: &mut [u32]) -> Number
     requires { ⌜ ReadyAt (now s) c ⌝ }
-    ensures { λ q. ⌜ NumberOf (slotTypes settings) counted (now (s .entry)) c (now (tape .entry)) q (now (tape .exit)) ⌝ }
+    ensures { λ q. ⌜ NumberOf (slotTypes (settingsOf (now (set .entry)))) counted (now (s .entry)) c (now (tape .entry)) q (now (tape .exit)) ⌝ }
 {
-    number_at(s, c.place, c.left, c.at, tape)
+    number_at(s, set, c.place, c.left, c.at, tape)
 }
 
-pub fn slot_types(s: &[u8], r: Step, tape: &mut [u32]) -> Step
+pub fn slot_types(s: &[u8], set: &Settings, r: Step, tape: &mut [u32]) -> Step
     requires { ⌜ Ready (now s) r ⌝ }
-    ensures { λ q. ⌜ Reader (slotTypes settings) (now (s .entry)) r (now (tape .entry)) q (now (tape .exit)) ⌝ }
+    ensures { λ q. ⌜ Reader (slotTypes (settingsOf (now (set .entry)))) (now (s .entry)) r (now (tape .entry)) q (now (tape .exit)) ⌝ }
 {
     let Step::Taken(c) = r else {
         return r;
     };
-    reader::refused(number_at(s, c.place, c.left, c.at, tape))
+    reader::refused(number_at(s, set, c.place, c.left, c.at, tape))
 }

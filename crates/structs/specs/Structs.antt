@@ -1,18 +1,18 @@
 -- The formats of the struct section under the Rust's settings.
 use Rattle.format.specs.Format.{Format}
 use Rattle.vob24.specs.Settings as of
-use Rattle.vob24.specs.Settings.{settings}
+use Rattle.vob24.specs.Settings.{Settings}
 use Rattle.vob24.specs.Grammar as vob
 
 abbrev pub fieldFormat : Format
-fieldFormat = vob.structField settings
+fieldFormat = vob.structField
 
-abbrev pub fieldList : Format
-fieldList = vob.list settings of.FieldMeta (vob.structField settings)
+abbrev pub fieldList : Settings → Format
+fieldList set = vob.list set of.FieldMeta vob.structField
 
-abbrev pub structFormat : Format
-structFormat = vob.struct settings
+abbrev pub structFormat : Settings → Format
+structFormat set = vob.struct set
 
 -- the section
-abbrev pub structList : Format
-structList = vob.list settings of.StructMeta (vob.struct settings)
+abbrev pub structList : Settings → Format
+structList set = vob.list set of.StructMeta (vob.struct set)

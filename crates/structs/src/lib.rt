@@ -1,11 +1,13 @@
 // The struct section: each struct's slot types and fields, then the index of its fields.
 // Ports what Module::deserialize of serialize.rs reads into StructMeta and FieldMeta of bytecode.rs.
+ghost use Rattle.vob24.specs.Settings.{settingsOf};
 ghost use Rattle.reader.specs.Contract.{Ready, Reader};
 ghost use Rattle.second_pass.specs.Granted.{Granted};
 ghost use Rattle.structs.specs.Structs.{fieldFormat, fieldList, structFormat, structList};
 use reader::Number;
 use reader::Step;
 use reader::sizes;
+use vob24::Settings;
 
 pub fn struct_field(s: &[u8], r: Step, tape: &mut [u32]) -> Step
     requires { ⌜ Ready (now s) r ⌝ }
@@ -19,14 +21,14 @@ pub fn struct_field(s: &[u8], r: Step, tape: &mut [u32]) -> Step
     fields::field_optional_str(s, embedded, tape)
 }
 
-pub fn struct_fields(s: &[u8], r: Step, tape: &mut [u32]) -> Step
+pub fn struct_fields(s: &[u8], set: &Settings, r: Step, tape: &mut [u32]) -> Step
     requires { ⌜ Ready (now s) r ⌝ }
-    ensures { λ q. ⌜ Reader fieldList (now (s .entry)) r (now (tape .entry)) q (now (tape .exit)) ⌝ }
+    ensures { λ q. ⌜ Reader (fieldList (settingsOf (now (set .entry)))) (now (s .entry)) r (now (tape .entry)) q (now (tape .exit)) ⌝ }
 {
     let Step::Taken(c) = r else {
         return r;
     };
-    let q = fields::number_count(s, c, sizes::FIELD_META, tape);
+    let q = fields::number_count(s, set, c, sizes::FIELD_META, tape);
     let Number::Got(n, d) = q else {
         return reader::refused(q);
     };
@@ -43,30 +45,30 @@ pub fn struct_fields(s: &[u8], r: Step, tape: &mut [u32]) -> Step
 }
 
 // The field index is built after the whole list, from where the list stands.
-pub fn structure(s: &[u8], r: Step, again: bool, tape: &mut [u32]) -> Step
-    requires { ⌜ (Ready (now s) r) × (Granted again structFormat (now s) r) ⌝ }
-    ensures { λ q. ⌜ Reader structFormat (now (s .entry)) r (now (tape .entry)) q (now (tape .exit)) ⌝ }
+pub fn structure(s: &[u8], set: &Settings, r: Step, again: bool, tape: &mut [u32]) -> Step
+    requires { ⌜ (Ready (now s) r) × (Granted again (structFormat (settingsOf (now set))) (now s) r) ⌝ }
+    ensures { λ q. ⌜ Reader (structFormat (settingsOf (now (set .entry)))) (now (s .entry)) r (now (tape .entry)) q (now (tape .exit)) ⌝ }
 {
-    let slot_types = slots::slot_types(s, r, tape);
-    let fields = struct_fields(s, slot_types, tape);
-    names::field_index(s, slot_types, fields, again)
+    let slot_types = slots::slot_types(s, set, r, tape);
+    let fields = struct_fields(s, set, slot_types, tape);
+    names::field_index(s, set, slot_types, fields, again)
 }
 
-pub fn structs(s: &[u8], r: Step, again: bool, tape: &mut [u32]) -> Step
-    requires { ⌜ (Ready (now s) r) × (Granted again structList (now s) r) ⌝ }
-    ensures { λ q. ⌜ Reader structList (now (s .entry)) r (now (tape .entry)) q (now (tape .exit)) ⌝ }
+pub fn structs(s: &[u8], set: &Settings, r: Step, again: bool, tape: &mut [u32]) -> Step
+    requires { ⌜ (Ready (now s) r) × (Granted again (structList (settingsOf (now set))) (now s) r) ⌝ }
+    ensures { λ q. ⌜ Reader (structList (settingsOf (now (set .entry)))) (now (s .entry)) r (now (tape .entry)) q (now (tape .exit)) ⌝ }
 {
     let Step::Taken(c) = r else {
         return r;
     };
-    let q = fields::number_count(s, c, sizes::STRUCT_META, tape);
+    let q = fields::number_count(s, set, c, sizes::STRUCT_META, tape);
     let Number::Got(n, d) = q else {
         return reader::refused(q);
     };
     let mut k = n;
     let mut here = Step::Taken(d);
     while 0 < k {
-        here = structure(s, here, again, tape);
+        here = structure(s, set, here, again, tape);
         let Step::Taken(_) = here else {
             return here;
         };

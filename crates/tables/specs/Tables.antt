@@ -1,40 +1,40 @@
 -- The formats of the tables under the Rust's settings.
 use Rattle.format.specs.Format.{Format, number, seq, _▸_, times}
 use Rattle.vob24.specs.Settings as of
-use Rattle.vob24.specs.Settings.{settings}
+use Rattle.vob24.specs.Settings.{Settings}
 use Rattle.vob24.specs.Leaves.{u16, u32, optional}
 use Rattle.vob24.specs.Grammar as vob
 use Rattle.fields.specs.Fields.{artifactCount}
 
-abbrev pub itabMethods : Format
-itabMethods = vob.list settings of.U32 u32
+abbrev pub itabMethods : Settings → Format
+itabMethods set = vob.list set of.U32 u32
 
-abbrev pub itabFormat : Format
-itabFormat = vob.itab settings
+abbrev pub itabFormat : Settings → Format
+itabFormat set = vob.itab set
 
-abbrev pub itabList : Format
-itabList = vob.list settings of.Itab (vob.itab settings)
+abbrev pub itabList : Settings → Format
+itabList set = vob.list set of.Itab (vob.itab set)
 
 abbrev pub fieldOffsets : Format
 fieldOffsets = optional (u16 ▸ u16)
 
 abbrev pub errorFormat : Format
-errorFormat = vob.errorTypes settings
+errorFormat = vob.errorTypes
 
 abbrev pub objectFormat : Format
-objectFormat = vob.objectInterfaces settings
+objectFormat = vob.objectInterfaces
 
 abbrev pub wellKnown : Format
-wellKnown = vob.errorTypes settings ▸ vob.objectInterfaces settings
+wellKnown = vob.errorTypes ▸ vob.objectInterfaces
 
-abbrev pub globalFormat : Format
-globalFormat = vob.global settings
+abbrev pub globalFormat : Settings → Format
+globalFormat set = vob.global set
 
-abbrev pub globalList : Format
-globalList = vob.list settings of.GlobalDef (vob.global settings)
+abbrev pub globalList : Settings → Format
+globalList set = vob.list set of.GlobalDef (vob.global set)
 
-abbrev pub artifactFormat : Format
-artifactFormat = vob.artifact settings
+abbrev pub artifactFormat : Settings → Format
+artifactFormat set = vob.artifact set
 
-abbrev pub artifactList : Format
-artifactList = seq artifactCount (λ n. times (vob.artifact settings) (number n))
+abbrev pub artifactList : Settings → Format
+artifactList set = seq (artifactCount set) (λ n. times (vob.artifact set) (number n))

@@ -1,5 +1,6 @@
 // The tables of a module and its single ids: itabs, well-known ids, globals, externs, entry, island init, artifacts.
 // Ports what Module::deserialize of serialize.rs reads into the records of bytecode.rs.
+ghost use Rattle.vob24.specs.Settings.{settingsOf};
 ghost use Rattle.vob24.specs.Leaves.{u32};
 ghost use Rattle.fields.specs.Fields.{externCount};
 ghost use Rattle.reader.specs.Contract.{Ready, Reader};
@@ -7,44 +8,45 @@ ghost use Rattle.tables.specs.Tables.{itabMethods, itabFormat, itabList,
 use reader::Number;
 use reader::Step;
 use reader::sizes;
+use vob24::Settings;
 
-pub fn itab_methods(s: &[u8], r: Step, tape: &mut [u32]) -> Step
+pub fn itab_methods(s: &[u8], set: &Settings, r: Step, tape: &mut [u32]) -> Step
     requires { ⌜ Ready (now s) r ⌝ }
-    ensures { λ q. ⌜ Reader itabMethods (now (s .entry)) r (now (tape .entry)) q (now (tape .exit)) ⌝ }
+    ensures { λ q. ⌜ Reader (itabMethods (settingsOf (now (set .entry)))) (now (s .entry)) r (now (tape .entry)) q (now (tape .exit)) ⌝ }
 {
     let Step::Taken(c) = r else {
         return r;
     };
-    let q = fields::number_count(s, c, sizes::U32, tape);
+    let q = fields::number_count(s, set, c, sizes::U32, tape);
     let Number::Got(n, d) = q else {
         return reader::refused(q);
     };
     lists::u32s(s, d, n, tape)
 }
 
-pub fn itab(s: &[u8], r: Step, tape: &mut [u32]) -> Step
+pub fn itab(s: &[u8], set: &Settings, r: Step, tape: &mut [u32]) -> Step
     requires { ⌜ Ready (now s) r ⌝ }
-    ensures { λ q. ⌜ Reader itabFormat (now (s .entry)) r (now (tape .entry)) q (now (tape .exit)) ⌝ }
+    ensures { λ q. ⌜ Reader (itabFormat (settingsOf (now (set .entry)))) (now (s .entry)) r (now (tape .entry)) q (now (tape .exit)) ⌝ }
 {
     let iface_meta_id = fields::field_u32(s, r, tape);
-    itab_methods(s, iface_meta_id, tape)
+    itab_methods(s, set, iface_meta_id, tape)
 }
 
-pub fn itabs(s: &[u8], r: Step, tape: &mut [u32]) -> Step
+pub fn itabs(s: &[u8], set: &Settings, r: Step, tape: &mut [u32]) -> Step
     requires { ⌜ Ready (now s) r ⌝ }
-    ensures { λ q. ⌜ Reader itabList (now (s .entry)) r (now (tape .entry)) q (now (tape .exit)) ⌝ }
+    ensures { λ q. ⌜ Reader (itabList (settingsOf (now (set .entry)))) (now (s .entry)) r (now (tape .entry)) q (now (tape .exit)) ⌝ }
 {
     let Step::Taken(c) = r else {
         return r;
     };
-    let q = fields::number_count(s, c, sizes::ITAB, tape);
+    let q = fields::number_count(s, set, c, sizes::ITAB, tape);
     let Number::Got(n, d) = q else {
         return reader::refused(q);
     };
     let mut k = n;
     let mut here = Step::Taken(d);
     while 0 < k {
-        here = itab(s, here, tape);
+        here = itab(s, set, here, tape);
         let Step::Taken(_) = here else {
             return here;
         };
@@ -107,32 +109,32 @@ pub fn well_known(s: &[u8], r: Step, tape: &mut [u32]) -> Step
 
 // ---- globals, externs and single ids
 
-pub fn global(s: &[u8], r: Step, tape: &mut [u32]) -> Step
+pub fn global(s: &[u8], set: &Settings, r: Step, tape: &mut [u32]) -> Step
     requires { ⌜ Ready (now s) r ⌝ }
-    ensures { λ q. ⌜ Reader globalFormat (now (s .entry)) r (now (tape .entry)) q (now (tape .exit)) ⌝ }
+    ensures { λ q. ⌜ Reader (globalFormat (settingsOf (now (set .entry)))) (now (s .entry)) r (now (tape .entry)) q (now (tape .exit)) ⌝ }
 {
     let name = fields::field_str(s, r, tape);
     let slots = fields::field_u16(s, name, tape);
     let value_kind = fields::field_value_kind(s, slots, tape);
     let meta_id = fields::field_u32(s, value_kind, tape);
-    slots::slot_types(s, meta_id, tape)
+    slots::slot_types(s, set, meta_id, tape)
 }
 
-pub fn globals(s: &[u8], r: Step, tape: &mut [u32]) -> Step
+pub fn globals(s: &[u8], set: &Settings, r: Step, tape: &mut [u32]) -> Step
     requires { ⌜ Ready (now s) r ⌝ }
-    ensures { λ q. ⌜ Reader globalList (now (s .entry)) r (now (tape .entry)) q (now (tape .exit)) ⌝ }
+    ensures { λ q. ⌜ Reader (globalList (settingsOf (now (set .entry)))) (now (s .entry)) r (now (tape .entry)) q (now (tape .exit)) ⌝ }
 {
     let Step::Taken(c) = r else {
         return r;
     };
-    let q = fields::number_count(s, c, sizes::GLOBAL_DEF, tape);
+    let q = fields::number_count(s, set, c, sizes::GLOBAL_DEF, tape);
     let Number::Got(n, d) = q else {
         return reader::refused(q);
     };
     let mut k = n;
     let mut here = Step::Taken(d);
     while 0 < k {
-        here = global(s, here, tape);
+        here = global(s, set, here, tape);
         let Step::Taken(_) = here else {
             return here;
         };
@@ -165,30 +167,30 @@ pub fn island_init(s: &[u8], r: Step, tape: &mut [u32]) -> Step
 
 // ---- artifacts
 
-pub fn artifact(s: &[u8], r: Step, tape: &mut [u32]) -> Step
+pub fn artifact(s: &[u8], set: &Settings, r: Step, tape: &mut [u32]) -> Step
     requires { ⌜ Ready (now s) r ⌝ }
-    ensures { λ q. ⌜ Reader artifactFormat (now (s .entry)) r (now (tape .entry)) q (now (tape .exit)) ⌝ }
+    ensures { λ q. ⌜ Reader (artifactFormat (settingsOf (now (set .entry)))) (now (s .entry)) r (now (tape .entry)) q (now (tape .exit)) ⌝ }
 {
-    let name = fields::field_artifact_name(s, r, tape);
+    let name = fields::field_artifact_name(s, set, r, tape);
     let version = fields::field_u32(s, name, tape);
-    fields::field_artifact_payload(s, version, tape)
+    fields::field_artifact_payload(s, set, version, tape)
 }
 
-pub fn artifacts(s: &[u8], r: Step, tape: &mut [u32]) -> Step
+pub fn artifacts(s: &[u8], set: &Settings, r: Step, tape: &mut [u32]) -> Step
     requires { ⌜ Ready (now s) r ⌝ }
-    ensures { λ q. ⌜ Reader artifactList (now (s .entry)) r (now (tape .entry)) q (now (tape .exit)) ⌝ }
+    ensures { λ q. ⌜ Reader (artifactList (settingsOf (now (set .entry)))) (now (s .entry)) r (now (tape .entry)) q (now (tape .exit)) ⌝ }
 {
     let Step::Taken(c) = r else {
         return r;
     };
-    let q = fields::number_artifact_count(s, c, tape);
+    let q = fields::number_artifact_count(s, set, c, tape);
     let Number::Got(n, d) = q else {
         return reader::refused(q);
     };
     let mut k = n;
     let mut here = Step::Taken(d);
     while 0 < k {
-        here = artifact(s, here, tape);
+        here = artifact(s, set, here, tape);
         let Step::Taken(_) = here else {
             return here;
         };

@@ -3,7 +3,6 @@
 ghost use mathlib.Core.Path.{_≡_};
 ghost use Prim.Native.Nat.{_<_};
 ghost use mathlib.Core.List.{[], map};
-ghost use Rattle.vob24.specs.Settings.{settings};
 ghost use Rattle.vob24.specs.Leaves.{packedOk};
 ghost use Rattle.vob24.specs.Questions.{functionWrong, transferWords};
 ghost use Rattle.vob24.specs.Grammar.{transfer as transferFormat, transferred};
@@ -42,7 +41,7 @@ fn bad_word(c: Cursor, context: u64, i: usize, word: usize) -> Step
 // The entry numbered i, at p: its meta word, then its rttid word.
 fn transfer(s: &[u8], context: u64, i: usize, p: usize, c: Cursor) -> Step
     requires { ⌜ TransferAt (now s) context p ⌝ }
-    ensures { λ q. ⌜ Asks (transferAsks context i (valueAt (transferFormat settings) (now (s .entry)) p)) c q ⌝ }
+    ensures { λ q. ⌜ Asks (transferAsks context i (valueAt transferFormat (now (s .entry)) p)) c q ⌝ }
 {
     let meta = items::word_at(s, p);
     if packed_ok(meta) {
@@ -56,8 +55,8 @@ fn transfer(s: &[u8], context: u64, i: usize, p: usize, c: Cursor) -> Step
 }
 
 fn transfers(s: &[u8], context: u64, from: usize, n: usize, c: Cursor) -> Step
-    requires { ⌜ (Items (transferFormat settings) n (now s) from) × (context < 4) ⌝ }
-    ensures { λ q. ⌜ Asks (over (transferOver context) [] (itemsAt (transferFormat settings) n (now (s .entry)) from)) c q ⌝ }
+    requires { ⌜ (Items transferFormat n (now s) from) × (context < 4) ⌝ }
+    ensures { λ q. ⌜ Asks (over (transferOver context) [] (itemsAt transferFormat n (now (s .entry)) from)) c q ⌝ }
 {
     let mut p = from;
     let mut i = 0;
@@ -76,8 +75,8 @@ fn transfers(s: &[u8], context: u64, from: usize, n: usize, c: Cursor) -> Step
 
 // The words of the entries whose list was read at r, asked at r1; context is that of the meta word.
 pub fn transfer_words(s: &[u8], context: u64, r: Step, r1: Step) -> Step
-    requires { ⌜ (ListBehind (transferFormat settings) (now s) r r1) × (context < 4) ⌝ }
-    ensures { λ q. ⌜ ListAsked (transferFormat settings) (λ vs. transferWords context 0 (map (transferred settings) vs)) (now (s .entry)) r r1 q ⌝ }
+    requires { ⌜ (ListBehind transferFormat (now s) r r1) × (context < 4) ⌝ }
+    ensures { λ q. ⌜ ListAsked transferFormat (λ vs. transferWords context 0 (map transferred vs)) (now (s .entry)) r r1 q ⌝ }
 {
     let Step::Taken(d) = r1 else {
         return r1;

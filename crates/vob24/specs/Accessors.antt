@@ -25,35 +25,35 @@ unfolding Valid
 back {f} r = record { is = λ v p w. r (first v) .is (second v) (p + length (bytes f (first v))) (w .2) }
 
 module _ (set : Settings) where
-  pub field-name : Picks (g.structField set) (g.fieldName set) memberName
+  pub field-name : Picks g.structField g.fieldName memberName
   unfolding g.structField
   field-name = fore here
 
-  pub interface-method-name : Picks (g.interfaceMethod set) (g.methodName set) memberName
+  pub interface-method-name : Picks g.interfaceMethod g.methodName memberName
   unfolding g.interfaceMethod
   interface-method-name = fore here
 
-  pub method-name : Picks (g.method set) (g.methodName set) memberName
+  pub method-name : Picks g.method g.methodName memberName
   unfolding g.method
   method-name = fore here
 
-  pub runtime-method-name : Picks (g.runtimeMethod set) (g.methodName set) memberName
+  pub runtime-method-name : Picks g.runtimeMethod g.methodName memberName
   unfolding g.runtimeMethod
   runtime-method-name = fore here
 
-  pub identity-name : Picks (g.runtimeField set) (λ v. g.identity set v .1) memberName
+  pub identity-name : Picks g.runtimeField (λ v. g.identity v .1) memberName
   unfolding g.runtimeField
   identity-name = fore here
 
-  pub identity-package : Picks (g.runtimeField set) (λ v. g.identity set v .0) str
+  pub identity-package : Picks g.runtimeField (λ v. g.identity v .0) str
   unfolding g.runtimeField
   identity-package = back (λ _. back (λ _. back (λ _. back (λ _. here))))
 
-  pub transfer-meta : Picks (g.transfer set) (λ v. first v) u32
+  pub transfer-meta : Picks g.transfer (λ v. first v) u32
   unfolding g.transfer
   transfer-meta = fore here
 
-  pub transfer-rttid : Picks (g.transfer set) (λ v. first (second v)) u32
+  pub transfer-rttid : Picks g.transfer (λ v. first (second v)) u32
   unfolding g.transfer
   transfer-rttid = back (λ _. fore here)
 

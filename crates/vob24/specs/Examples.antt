@@ -97,7 +97,7 @@ unfolding out trace traceLeaf traceAsk field room guard bind pick little chain i
 slots-uneven = refl
 
 -- The entries of the inline functions share one limit, here 1.
-entries-over : out (trace (chain (Grammar.inlineFunction settings) (Grammar.stillLeft settings) 1 2) (four 0 ++ (four 1 ++ (replicate 12 0 ++ (four 1 ++ replicate 8 0)))) 0) ≡ stopped (record { number = Refusals.debugMetadataLimitExceeded; context = Refusals.inlineEntries; detail1 = 1; detail2 = 0 }) 24
+entries-over : out (trace (chain (Grammar.inlineFunction settings) Grammar.stillLeft 1 2) (four 0 ++ (four 1 ++ (replicate 12 0 ++ (four 1 ++ replicate 8 0)))) 0) ≡ stopped (record { number = Refusals.debugMetadataLimitExceeded; context = Refusals.inlineEntries; detail1 = 1; detail2 = 0 }) 24
 unfolding out trace traceLeaf field room guard bind pick little chain Grammar.inlineFunction Grammar.inlineEntry
 entries-over = refl
 

@@ -17,6 +17,120 @@ use Rattle.vob24.specs.Questions.{refuseIf, among, repeat, named, fieldK
 abbrev pub asking : List Ask → Format
 asking l = leaf (ask l)
 
+-- Records, questions and accessors that no setting touches.
+
+-- Structs. name, offset, slot_count, type_info, embedded, tag
+unfoldable pub structField : Format
+structField = memberName ▸ u16 ▸ u16 ▸ valueRttid ▸ bool ▸ optional str
+
+abbrev pub fieldName : Value → Value
+fieldName v = first v
+
+-- Interfaces. name, signature_rttid
+unfoldable pub interfaceMethod : Format
+interfaceMethod = memberName ▸ u32
+
+abbrev pub methodName : Value → Value
+methodName v = first v
+
+-- Named types. name, func_id, is_pointer_receiver, receiver_is_iface_boxed, signature_rttid
+unfoldable pub method : Format
+method = memberName ▸ u32 ▸ bool ▸ bool ▸ u32
+
+-- A method whose name is new among those before it: judged after the whole record.
+unfoldable pub newMethod : List (List ℕ) → Format
+newMethod seen = seq method (λ v. asking (refuseIf (among (content (methodName v)) seen) (repeat Refusals.duplicateNamedMethod 0 (methodName v))))
+
+-- the names so far, after one method more
+abbrev pub alsoSeen : List (List ℕ) → Value → List (List ℕ)
+alsoSeen seen v = content (methodName (first v)) ∷ seen
+
+-- Runtime types. name, typ, tag, embedded, pkg
+unfoldable pub runtimeField : Format
+runtimeField = memberName ▸ valueRttid ▸ str ▸ bool ▸ str
+
+-- package and name
+abbrev pub identity : Value → Identity
+identity v = (second (second (second (second v))), first v)
+
+-- name, sig
+unfoldable pub runtimeMethod : Format
+runtimeMethod = memberName ▸ valueRttid
+
+-- Well-known ids. error_named_type_id, error_iface_meta_id, error_ptr_rttid, error_struct_meta_id, error_field_offsets
+unfoldable pub errorTypes : Format
+errorTypes = optionalId ▸ optionalId ▸ optionalId ▸ optionalId ▸ optional (u16 ▸ u16)
+
+-- attr_object_iface_id, set_attr_object_iface_id, index_object_iface_id, set_index_object_iface_id, call_object_iface_id
+unfoldable pub objectInterfaces : Format
+objectInterfaces = optionalId ▸ optionalId ▸ optionalId ▸ optionalId ▸ optionalId
+
+-- Constants: Nil, Bool, Int, Float, String.
+abbrev pub constantVariants : List Format
+constantVariants = empty ∷ bool ∷ u64 ∷ u64 ∷ str ∷ []
+
+unfoldable pub constant : Format
+constant = choose (atMostBare 4 Refusals.invalidConstant) constantVariants
+
+-- Functions. Send (queue, value, elem_slots); Recv (destination, queue, elem_slots, has_ok)
+abbrev pub selectVariants : List Format
+selectVariants = (u16 ▸ u16 ▸ u16) ∷ (u16 ▸ u16 ▸ u16 ▸ bool) ∷ []
+
+unfoldable pub selectCase : Format
+selectCase = choose (atMostBare 1 Refusals.invalidInstructionMetadata) selectVariants
+
+-- "Metadata tag in 0..5 or 9..18"
+abbrev pub metadataTag : Rule
+metadataTag = record { test = λ n. pick (leb n 5) true (pick (leb 9 n) (leb n 18) false); why = λ n. wrong Refusals.invalidInstructionMetadata 0 }
+
+-- "assert kind 0 or 1"
+abbrev pub assertKind : Format
+assertKind = leaf (fixed byte (atMostBare 1 Refusals.invalidInstructionMetadata))
+
+-- op, flags, a, b, c
+unfoldable pub instruction : Format
+instruction = u8 ▸ u8 ▸ u16 ▸ u16 ▸ u16
+
+-- meta_raw, rttid_raw, slots
+unfoldable pub transfer : Format
+transfer = u32 ▸ u32 ▸ u16
+
+-- meta_raw and rttid_raw
+abbrev pub transferred : Value → ℕ × ℕ
+transferred v = (number (first v), number (first (second v)))
+
+-- name, param_count, param_slots
+unfoldable pub functionHead : Format
+functionHead = str ▸ u16 ▸ u16
+
+-- is_closure, error_ret_slot, has_defer
+unfoldable pub functionTraits : Format
+functionTraits = bool ▸ u32 ▸ bool
+
+-- "extern count 0? 25 HostCalls (d1), before that list's other questions"
+abbrev pub noHostCalls : Rule
+noHostCalls = record { test = λ n. eqb n 0; why = λ n. wrong Refusals.hostCalls n }
+
+-- Debug information. pc, file_id, line, col, len
+unfoldable pub location : Format
+location = sourceU32 ▸ sourceU32 ▸ sourceU32 ▸ sourceU32 ▸ sourceU32
+
+-- file_id, line, col, len
+unfoldable pub span : Format
+span = u32 ▸ u32 ▸ u32 ▸ u32
+
+-- parent, function_id, span
+unfoldable pub frame : Format
+frame = u32 ▸ u32 ▸ optional span
+
+-- pc, frame
+unfoldable pub inlineEntry : Format
+inlineEntry = u32 ▸ u32
+
+-- what is left after one function more
+abbrev pub stillLeft : ℕ → Value → ℕ
+stillLeft left v = left - counted (second v)
+
 module _ (set : Settings) where
   -- "A list costs count × its entry's size": a list of entries of the type numbered i.
   abbrev pub list : ℕ → Format → Format
@@ -25,13 +139,6 @@ module _ (set : Settings) where
   abbrev pub slotTypes : Format
   slotTypes = list of.SlotType slotType
 
-  -- Structs. name, offset, slot_count, type_info, embedded, tag
-  unfoldable pub structField : Format
-  structField = memberName ▸ u16 ▸ u16 ▸ valueRttid ▸ bool ▸ optional str
-
-  abbrev pub fieldName : Value → Value
-  fieldName v = first v
-
   -- "per struct, for fields not "_", (String, usize) each and then, name by name, its length"
   abbrev pub fieldIndex : List Value → List Ask
   fieldIndex names = pay Refusals.structFieldIndex (length (named names) * sizeOf set of.StringUsize) ∷ fieldKeys [] (named names)
@@ -39,13 +146,6 @@ module _ (set : Settings) where
   -- slot_types, fields
   unfoldable pub struct : Format
   struct = slotTypes ▸ seq (list of.FieldMeta structField) (λ fields. asking (fieldIndex (map fieldName (entries fields))))
-
-  -- Interfaces. name, signature_rttid
-  unfoldable pub interfaceMethod : Format
-  interfaceMethod = memberName ▸ u32
-
-  abbrev pub methodName : Value → Value
-  methodName v = first v
 
   -- "per interface list and runtime interface, names × 2 × &str"
   abbrev pub methodSet : List Value → List Ask
@@ -57,18 +157,6 @@ module _ (set : Settings) where
       str
       ▸ seq (list of.String memberName) (λ names. seq (list of.InterfaceMethodMeta interfaceMethod) (λ methods.
       asking (methodSet (entries names)) ▸ asking (methodSet (map methodName (entries methods)))))
-
-  -- Named types. name, func_id, is_pointer_receiver, receiver_is_iface_boxed, signature_rttid
-  unfoldable pub method : Format
-  method = memberName ▸ u32 ▸ bool ▸ bool ▸ u32
-
-  -- A method whose name is new among those before it: judged after the whole record.
-  unfoldable pub newMethod : List (List ℕ) → Format
-  newMethod seen = seq method (λ v. asking (refuseIf (among (content (methodName v)) seen) (repeat Refusals.duplicateNamedMethod 0 (methodName v))))
-
-  -- the names so far, after one method more
-  abbrev pub alsoSeen : List (List ℕ) → Value → List (List ℕ)
-  alsoSeen seen v = content (methodName (first v)) ∷ seen
 
   -- "methods × ((String, MethodInfo) + 3 × usize)"
   abbrev pub methodSize : ℕ
@@ -86,14 +174,6 @@ module _ (set : Settings) where
   unfoldable pub itab : Format
   itab = u32 ▸ list of.U32 u32
 
-  -- Runtime types. name, typ, tag, embedded, pkg
-  unfoldable pub runtimeField : Format
-  runtimeField = memberName ▸ valueRttid ▸ str ▸ bool ▸ str
-
-  -- package and name
-  abbrev pub identity : Value → Identity
-  identity v = (second (second (second (second v))), first v)
-
   -- "per runtime struct, all fields × 2 × (&str, &str)"
   abbrev pub fieldSet : List Identity → List Ask
   fieldSet xs = pay Refusals.runtimeStructFieldSet (length xs * (2 * sizeOf set of.StrStr)) ∷ newIdentities [] xs
@@ -101,10 +181,6 @@ module _ (set : Settings) where
   -- meta_id, fields
   unfoldable pub runtimeStruct : Format
   runtimeStruct = u32 ▸ seq (list of.StructField runtimeField) (λ fields. asking (fieldSet (map identity (entries fields))))
-
-  -- name, sig
-  unfoldable pub runtimeMethod : Format
-  runtimeMethod = memberName ▸ valueRttid
 
   -- meta_id, methods
   unfoldable pub runtimeInterface : Format
@@ -122,39 +198,9 @@ module _ (set : Settings) where
   unfoldable pub runtimeType : Format
   runtimeType = choose (atMost 12 Refusals.invalidRuntimeType) runtimeVariants
 
-  -- Well-known ids. error_named_type_id, error_iface_meta_id, error_ptr_rttid, error_struct_meta_id, error_field_offsets
-  unfoldable pub errorTypes : Format
-  errorTypes = optionalId ▸ optionalId ▸ optionalId ▸ optionalId ▸ optional (u16 ▸ u16)
-
-  -- attr_object_iface_id, set_attr_object_iface_id, index_object_iface_id, set_index_object_iface_id, call_object_iface_id
-  unfoldable pub objectInterfaces : Format
-  objectInterfaces = optionalId ▸ optionalId ▸ optionalId ▸ optionalId ▸ optionalId
-
-  -- Constants: Nil, Bool, Int, Float, String.
-  abbrev pub constantVariants : List Format
-  constantVariants = empty ∷ bool ∷ u64 ∷ u64 ∷ str ∷ []
-
-  unfoldable pub constant : Format
-  constant = choose (atMostBare 4 Refusals.invalidConstant) constantVariants
-
   -- name, slots, value_kind, meta_id, slot_types
   unfoldable pub global : Format
   global = str ▸ u16 ▸ valueKind ▸ u32 ▸ slotTypes
-
-  -- Functions. Send (queue, value, elem_slots); Recv (destination, queue, elem_slots, has_ok)
-  abbrev pub selectVariants : List Format
-  selectVariants = (u16 ▸ u16 ▸ u16) ∷ (u16 ▸ u16 ▸ u16 ▸ bool) ∷ []
-
-  unfoldable pub selectCase : Format
-  selectCase = choose (atMostBare 1 Refusals.invalidInstructionMetadata) selectVariants
-
-  -- "Metadata tag in 0..5 or 9..18"
-  abbrev pub metadataTag : Rule
-  metadataTag = record { test = λ n. pick (leb n 5) true (pick (leb 9 n) (leb n 18) false); why = λ n. wrong Refusals.invalidInstructionMetadata 0 }
-
-  -- "assert kind 0 or 1"
-  abbrev pub assertKind : Format
-  assertKind = leaf (fixed byte (atMostBare 1 Refusals.invalidInstructionMetadata))
 
   -- None, ElemLayout, MapGet, MapSet, MapDelete, LoopEnd, three tags that are not in use, PtrLayout, SlotLayout, CallLayout,
   -- CallExternLayout, QueueLayout, MapIterNext, IfaceAssertLayout, MapNew, CallIfaceLayout, SelectExecLayout
@@ -167,37 +213,17 @@ module _ (set : Settings) where
   unfoldable pub metadata : Format
   metadata = choose metadataTag metadataVariants
 
-  -- op, flags, a, b, c
-  unfoldable pub instruction : Format
-  instruction = u8 ▸ u8 ▸ u16 ▸ u16 ▸ u16
-
   -- code, instruction_metadata; their counts are compared after both
   unfoldable pub code : Format
   code = seq (list of.Instruction instruction) (λ instructions. seq (list of.InstructionMetadata metadata) (λ metadata. asking (sameCode (counted metadata) (counted instructions))))
-
-  -- meta_raw, rttid_raw, slots
-  unfoldable pub transfer : Format
-  transfer = u32 ▸ u32 ▸ u16
-
-  -- meta_raw and rttid_raw
-  abbrev pub transferred : Value → ℕ × ℕ
-  transferred v = (number (first v), number (first (second v)))
 
   -- "transfer words are judged after their whole list"; c is the context of the meta word
   unfoldable pub transfers : ℕ → Format
   transfers c = seq (list of.TransferType transfer) (λ v. asking (transferWords c 0 (map transferred (entries v))))
 
-  -- name, param_count, param_slots
-  unfoldable pub functionHead : Format
-  functionHead = str ▸ u16 ▸ u16
-
   -- ret_slots, ret_slot_types, recv_slots, heap_ret_gcref_count, heap_ret_gcref_start, heap_ret_slots
   unfoldable pub functionReturns : Format
   functionReturns = u16 ▸ slotTypes ▸ u16 ▸ u16 ▸ u16 ▸ list of.U16 u16
-
-  -- is_closure, error_ret_slot, has_defer
-  unfoldable pub functionTraits : Format
-  functionTraits = bool ▸ u32 ▸ bool
 
   -- code, instruction_metadata, capture_types, capture_slot_types, param_types; the slot count "last of all"
   unfoldable pub functionBody : ℕ → ℕ → Format
@@ -210,10 +236,6 @@ module _ (set : Settings) where
       ▸ seq u16 (λ locals. functionReturns ▸ functionTraits
       ▸ seq slotTypes (λ types. functionBody (counted types) (number locals)))
 
-  -- "extern count 0? 25 HostCalls (d1), before that list's other questions"
-  abbrev pub noHostCalls : Rule
-  noHostCalls = record { test = λ n. eqb n 0; why = λ n. wrong Refusals.hostCalls n }
-
   -- Artifacts. name, version, payload
   unfoldable pub artifact : Format
   artifact =
@@ -221,29 +243,9 @@ module _ (set : Settings) where
       ▸ u32
       ▸ leaf (payload (limit Refusals.moduleArtifactLimitExceeded Refusals.artifactPayload (set .artifactPayloadBytes)) Refusals.artifactPayload)
 
-  -- Debug information. pc, file_id, line, col, len
-  unfoldable pub location : Format
-  location = sourceU32 ▸ sourceU32 ▸ sourceU32 ▸ sourceU32 ▸ sourceU32
-
-  -- file_id, line, col, len
-  unfoldable pub span : Format
-  span = u32 ▸ u32 ▸ u32 ▸ u32
-
-  -- parent, function_id, span
-  unfoldable pub frame : Format
-  frame = u32 ▸ u32 ▸ optional span
-
-  -- pc, frame
-  unfoldable pub inlineEntry : Format
-  inlineEntry = u32 ▸ u32
-
   -- function_id, entries: at most as many as are left of the shared limit
   unfoldable pub inlineFunction : ℕ → Format
   inlineFunction left = u32 ▸ listOf (limit Refusals.debugMetadataLimitExceeded Refusals.inlineEntries left) (sizeOf set of.InlineSourceEntry) inlineEntry
-
-  -- what is left after one function more
-  abbrev pub stillLeft : ℕ → Value → ℕ
-  stillLeft left v = left - counted (second v)
 
   unfoldable pub inlineFrames : Format
   inlineFrames = listOf (limit Refusals.debugMetadataLimitExceeded Refusals.inlineFrames (set .inlineRecords)) (sizeOf set of.InlineSourceFrame) frame
@@ -266,11 +268,11 @@ section set n interfaces = list set of.InterfaceMeta (interface set)
 section set n namedTypes = list set of.NamedTypeMeta (namedType set)
 section set n itabs = list set of.Itab (itab set)
 section set n runtimeTypes = list set of.RuntimeType (runtimeType set)
-section set n wellKnown = errorTypes set ▸ objectInterfaces set
-section set n constants = list set of.Constant (constant set)
+section set n wellKnown = errorTypes ▸ objectInterfaces
+section set n constants = list set of.Constant constant
 section set n globals = list set of.GlobalDef (global set)
 section set n functions = list set of.FunctionDef (function set)
-section set n externs = leaf (count (noHostCalls set) 1 Refusals.vector 0)
+section set n externs = leaf (count noHostCalls 1 Refusals.vector 0)
 section set n entry = u32
 section set n islandInit = u32
 -- "Artifact count is never held against the bytes left."
@@ -278,7 +280,7 @@ section set n artifacts =
     seq (leaf (count (limit Refusals.moduleArtifactLimitExceeded Refusals.artifactCount (set .artifacts)) 0 Refusals.moduleArtifacts (sizeOf set of.ModuleArtifact)))
     (λ n. times (artifact set) (number n))
 section set n files = list set of.String str
-section set n functionLocations = list set of.FuncDebugInfo (list set of.DebugLoc (location set))
+section set n functionLocations = list set of.FuncDebugInfo (list set of.DebugLoc location)
 section set n inlineSources = inlineFrames set ▸ inlineFunctions set n
 
 -- The sections after the functions, by the number of functions.

@@ -193,7 +193,7 @@ module _ (set : Settings) where
   unfolding g.interface g.interfaceMethod
   sound-interface = search (sound, asking) depth 20
 
-  sound-newMethod : (seen : List (List ℕ)) → Sound (g.newMethod set seen)
+  sound-newMethod : (seen : List (List ℕ)) → Sound (g.newMethod seen)
   unfolding g.newMethod g.method
   sound-newMethod seen = search (sound, asking) depth 20
 
@@ -217,11 +217,11 @@ module _ (set : Settings) where
   unfolding g.runtimeType
   sound-runtimeType = search (sound-runtimeStruct, sound-runtimeInterface, sound) depth 40 fits 3000
 
-  sound-wellKnown : Sound (g.errorTypes set ▸ g.objectInterfaces set)
+  sound-wellKnown : Sound (g.errorTypes ▸ g.objectInterfaces)
   unfolding g.errorTypes g.objectInterfaces
   sound-wellKnown = search sound depth 20
 
-  sound-constant : Sound (g.constant set)
+  sound-constant : Sound g.constant
   unfolding g.constant
   sound-constant = search sound depth 20
 
@@ -229,7 +229,7 @@ module _ (set : Settings) where
   unfolding g.global
   sound-global = search sound depth 20
 
-  sound-selectCase : Sound (g.selectCase set)
+  sound-selectCase : Sound g.selectCase
   unfolding g.selectCase
   sound-selectCase = search sound depth 20
 

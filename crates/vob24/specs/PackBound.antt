@@ -118,15 +118,15 @@ module _ (set : Settings) (licensed : Licensed set) where
   level-slotTypes : {d : ℕ} → Level (suc d) (g.slotTypes set)
   level-slotTypes = search (levels, small)
 
-  level-field : {d : ℕ} → Level (suc d) (g.structField set)
+  level-field : {d : ℕ} → Level (suc d) g.structField
   unfolding g.structField
   level-field = search levels depth 20
 
-  least-field : AtLeast 1 (g.structField set)
+  least-field : AtLeast 1 g.structField
   unfolding g.structField
   least-field = search levels
 
-  field-weight : (v : Value) (p : ℕ) → Valid (g.structField set) v p → sizeOf set of.StringUsize + textCost (first v) ≤ 65536 * length (bytes (g.structField set) v)
+  field-weight : (v : Value) (p : ℕ) → Valid g.structField v p → sizeOf set of.StringUsize + textCost (first v) ≤ 65536 * length (bytes g.structField v)
   unfolding g.structField
   field-weight v p h = weight-under _ (textCost (first v)) _ (size-most licensed of.StringUsize) (name-under _ _ _ _ v)
 
@@ -134,14 +134,14 @@ module _ (set : Settings) (licensed : Licensed set) where
   unfolding g.struct chargesAsk
   level-struct = level-seq level-slotTypes (λ _. level-follow (λ v. g.fieldIndex set (map first (entries v))) (level-list (small of.FieldMeta) least-field level-field) under)
     where
-      under : (v : Value) (p : ℕ) → Valid (g.list set of.FieldMeta (g.structField set)) v p → chargesAsk (g.fieldIndex set (map first (entries v))) ≤ 65536 * length (bytes (g.list set of.FieldMeta (g.structField set)) v)
-      under v p h = index-under (sizeOf set of.StringUsize) (map first (entries v)) _ (omega (arith, sum-map (λ v. sizeOf set of.StringUsize + textCost v) first (entries v), entries-under free 1 Refusals.vector (sizeOf set of.FieldMeta) (g.structField set) (λ v. sizeOf set of.StringUsize + textCost (first v)) 65536 field-weight v p h))
+      under : (v : Value) (p : ℕ) → Valid (g.list set of.FieldMeta g.structField) v p → chargesAsk (g.fieldIndex set (map first (entries v))) ≤ 65536 * length (bytes (g.list set of.FieldMeta g.structField) v)
+      under v p h = index-under (sizeOf set of.StringUsize) (map first (entries v)) _ (omega (arith, sum-map (λ v. sizeOf set of.StringUsize + textCost v) first (entries v), entries-under free 1 Refusals.vector (sizeOf set of.FieldMeta) g.structField (λ v. sizeOf set of.StringUsize + textCost (first v)) 65536 field-weight v p h))
 
-  level-interfaceMethod : {d : ℕ} → Level (suc d) (g.interfaceMethod set)
+  level-interfaceMethod : {d : ℕ} → Level (suc d) g.interfaceMethod
   unfolding g.interfaceMethod
   level-interfaceMethod = search levels depth 20
 
-  least-interfaceMethod : AtLeast 1 (g.interfaceMethod set)
+  least-interfaceMethod : AtLeast 1 g.interfaceMethod
   unfolding g.interfaceMethod
   least-interfaceMethod = search levels
 
@@ -167,23 +167,23 @@ module _ (set : Settings) (licensed : Licensed set) where
       names : {d : ℕ} → Level (suc (suc d)) (g.list set of.String str)
       names = level-list (small of.String) (one-string _ _ _) level-string
 
-      least : AtLeast 1 (g.interfaceMethod set)
+      least : AtLeast 1 g.interfaceMethod
       least = least-interfaceMethod
 
-      methods : {d : ℕ} → Level (suc (suc d)) (g.list set of.InterfaceMethodMeta (g.interfaceMethod set))
+      methods : {d : ℕ} → Level (suc (suc d)) (g.list set of.InterfaceMethodMeta g.interfaceMethod)
       methods = level-list (small of.InterfaceMethodMeta) least level-interfaceMethod
 
       both : (a b : Value) → Rated (chargesAsk (g.methodSet set (entries a)) + chargesAsk (g.methodSet set (map first (entries b)))) (suc (suc d) * 65536) (g.asking (g.methodSet set (entries a)) ▸ g.asking (g.methodSet set (map first (entries b))))
       both a b = rated-up (omega arith) (omega arith) (rated-seq (chargesAsk (g.methodSet set (entries a))) (chargesAsk (g.methodSet set (map first (entries b)))) 0 (suc (suc d) * 65536) _ _ (λ _. chargesAsk (g.methodSet set (map first (entries b)))) (rated-ask _) (λ _. rated-ask _) (λ _ _ _. omega arith))
 
-      inner : (a : Value) → Rated (chargesAsk (g.methodSet set (entries a))) (suc (suc (suc d)) * 65536) (seq (g.list set of.InterfaceMethodMeta (g.interfaceMethod set)) (λ b. g.asking (g.methodSet set (entries a)) ▸ g.asking (g.methodSet set (map first (entries b)))))
-      inner a = rated-up (omega arith) (omega arith) (rated-seq 0 (chargesAsk (g.methodSet set (entries a))) 65536 (suc (suc d) * 65536) (g.list set of.InterfaceMethodMeta (g.interfaceMethod set)) _ (λ b. chargesAsk (g.methodSet set (entries a)) + chargesAsk (g.methodSet set (map first (entries b)))) (methods {d = d} .rated) (both a) (λ v p h. omega (arith, methods-under of.InterfaceMethodMeta (g.interfaceMethod set) least first v p h)))
+      inner : (a : Value) → Rated (chargesAsk (g.methodSet set (entries a))) (suc (suc (suc d)) * 65536) (seq (g.list set of.InterfaceMethodMeta g.interfaceMethod) (λ b. g.asking (g.methodSet set (entries a)) ▸ g.asking (g.methodSet set (map first (entries b)))))
+      inner a = rated-up (omega arith) (omega arith) (rated-seq 0 (chargesAsk (g.methodSet set (entries a))) 65536 (suc (suc d) * 65536) (g.list set of.InterfaceMethodMeta g.interfaceMethod) _ (λ b. chargesAsk (g.methodSet set (entries a)) + chargesAsk (g.methodSet set (map first (entries b)))) (methods {d = d} .rated) (both a) (λ v p h. omega (arith, methods-under of.InterfaceMethodMeta g.interfaceMethod least first v p h)))
 
-  level-newMethod : {d : ℕ} (seen : List (List ℕ)) → Level (suc d) (g.newMethod set seen)
+  level-newMethod : {d : ℕ} (seen : List (List ℕ)) → Level (suc d) (g.newMethod seen)
   unfolding g.newMethod g.method
   level-newMethod seen = level-seq (search levels depth 20) (λ v. level-quiet (if-free _ _))
 
-  least-newMethod : (seen : List (List ℕ)) → AtLeast 1 (g.newMethod set seen)
+  least-newMethod : (seen : List (List ℕ)) → AtLeast 1 (g.newMethod seen)
   unfolding g.newMethod g.method
   least-newMethod seen = search levels depth 20
 
@@ -191,39 +191,39 @@ module _ (set : Settings) (licensed : Licensed set) where
   unfolding g.namedType g.methods
   level-namedType =
       level-seq level-string (λ _. level-seq level-fixed (λ _. level-seq level-fixed (λ _.
-      level-chained (g.alsoSeen set) [] (omega arith) (omega (arith, size-most licensed of.StringMethodInfo, size-most licensed of.Usize)) least-newMethod level-newMethod)))
+      level-chained g.alsoSeen [] (omega arith) (omega (arith, size-most licensed of.StringMethodInfo, size-most licensed of.Usize)) least-newMethod level-newMethod)))
 
   level-itab : {d : ℕ} → Level (suc d) (g.itab set)
   unfolding g.itab
   level-itab = search (levels, small) depth 20
 
-  level-runtimeField : {d : ℕ} → Level (suc d) (g.runtimeField set)
+  level-runtimeField : {d : ℕ} → Level (suc d) g.runtimeField
   unfolding g.runtimeField
   level-runtimeField = search levels depth 20
 
-  least-runtimeField : AtLeast 1 (g.runtimeField set)
+  least-runtimeField : AtLeast 1 g.runtimeField
   unfolding g.runtimeField
   least-runtimeField = search levels
 
   level-runtimeStruct : {d : ℕ} → Level (suc (suc (suc d))) (g.runtimeStruct set)
   unfolding g.runtimeStruct chargesAsk
-  level-runtimeStruct = level-seq level-fixed (λ _. level-follow (λ v. g.fieldSet set (map (g.identity set) (entries v))) (level-list (small of.StructField) least-runtimeField level-runtimeField) under)
+  level-runtimeStruct = level-seq level-fixed (λ _. level-follow (λ v. g.fieldSet set (map g.identity (entries v))) (level-list (small of.StructField) least-runtimeField level-runtimeField) under)
     where
-      under : (v : Value) (p : ℕ) → Valid (g.list set of.StructField (g.runtimeField set)) v p → chargesAsk (g.fieldSet set (map (g.identity set) (entries v))) ≤ 65536 * length (bytes (g.list set of.StructField (g.runtimeField set)) v)
+      under : (v : Value) (p : ℕ) → Valid (g.list set of.StructField g.runtimeField) v p → chargesAsk (g.fieldSet set (map g.identity (entries v))) ≤ 65536 * length (bytes (g.list set of.StructField g.runtimeField) v)
       under v p w =
-          omega (arith, identities-free [] (map (g.identity set) (entries v)), set-under (length (map (g.identity set) (entries v))) (sizeOf set of.StrStr) (length (bytes (g.list set of.StructField (g.runtimeField set)) v)) (size-most licensed of.StrStr) (omega (arith, length-map (g.identity set) (entries v), length-items (counted v) (second v), counted-under free 1 Refusals.vector (sizeOf set of.StructField) (g.runtimeField set) least-runtimeField v p w)))
+          omega (arith, identities-free [] (map g.identity (entries v)), set-under (length (map g.identity (entries v))) (sizeOf set of.StrStr) (length (bytes (g.list set of.StructField g.runtimeField) v)) (size-most licensed of.StrStr) (omega (arith, length-map g.identity (entries v), length-items (counted v) (second v), counted-under free 1 Refusals.vector (sizeOf set of.StructField) g.runtimeField least-runtimeField v p w)))
 
-  level-runtimeMethod : {d : ℕ} → Level (suc d) (g.runtimeMethod set)
+  level-runtimeMethod : {d : ℕ} → Level (suc d) g.runtimeMethod
   unfolding g.runtimeMethod
   level-runtimeMethod = search levels depth 20
 
-  least-runtimeMethod : AtLeast 1 (g.runtimeMethod set)
+  least-runtimeMethod : AtLeast 1 g.runtimeMethod
   unfolding g.runtimeMethod
   least-runtimeMethod = search levels
 
   level-runtimeInterface : {d : ℕ} → Level (suc (suc (suc d))) (g.runtimeInterface set)
   unfolding g.runtimeInterface
-  level-runtimeInterface = level-seq level-fixed (λ _. level-follow (λ v. g.methodSet set (map first (entries v))) (level-list (small of.InterfaceMethod) least-runtimeMethod level-runtimeMethod) (methods-under of.InterfaceMethod (g.runtimeMethod set) least-runtimeMethod first))
+  level-runtimeInterface = level-seq level-fixed (λ _. level-follow (λ v. g.methodSet set (map first (entries v))) (level-list (small of.InterfaceMethod) least-runtimeMethod level-runtimeMethod) (methods-under of.InterfaceMethod g.runtimeMethod least-runtimeMethod first))
 
   level-runtimeType : {d : ℕ} → Level (suc (suc (suc d))) (g.runtimeType set)
   unfolding g.runtimeType
@@ -233,7 +233,7 @@ module _ (set : Settings) (licensed : Licensed set) where
   unfolding g.runtimeType
   least-runtimeType = search levels
 
-  level-constant : {d : ℕ} → Level (suc d) (g.constant set)
+  level-constant : {d : ℕ} → Level (suc d) g.constant
   unfolding g.constant
   level-constant = search levels depth 20
 
@@ -281,7 +281,7 @@ module _ (set : Settings) (licensed : Licensed set) where
   level-inlineSources : {d : ℕ} (n : ℕ) → Level (suc (suc d)) (g.inlineFrames set ▸ g.inlineFunctions set n)
   unfolding g.inlineFrames g.inlineFunctions g.frame g.span
   level-inlineSources n =
-      level-seq (search (levels, small) depth 30) (λ _. level-chained (g.stillLeft set) (set .inlineRecords) (omega arith) (small of.InlineFunctionSources) least-inlineFunction level-inlineFunction)
+      level-seq (search (levels, small) depth 30) (λ _. level-chained g.stillLeft (set .inlineRecords) (omega arith) (small of.InlineFunctionSources) least-inlineFunction level-inlineFunction)
 
   level-artifact : {d : ℕ} → Level (suc d) (g.artifact set)
   unfolding g.artifact
@@ -291,15 +291,15 @@ module _ (set : Settings) (licensed : Licensed set) where
   few : (n : ℕ) → T (leb n (set .artifacts)) → n * sizeOf set of.ModuleArtifact ≤ 4 * (suc zero * 65536)
   few n t = let h = leb→le n (set .artifacts) t in omega (arith, mul-le-mul-left n (size-most licensed of.ModuleArtifact), licensed .artifacts)
 
-  least-location : AtLeast 1 (g.location set)
+  least-location : AtLeast 1 g.location
   unfolding g.location
   least-location = search levels
 
-  level-location : {d : ℕ} → Level d (g.location set)
+  level-location : {d : ℕ} → Level d g.location
   unfolding g.location
   level-location = search levels depth 20
 
-  level-wellKnown : {d : ℕ} → Level d (g.errorTypes set ▸ g.objectInterfaces set)
+  level-wellKnown : {d : ℕ} → Level d (g.errorTypes ▸ g.objectInterfaces)
   unfolding g.errorTypes g.objectInterfaces
   level-wellKnown = search levels depth 20
 

@@ -148,7 +148,7 @@ module _ (set : Settings) where
   slotTypes-costs : Costs (g.slotTypes set) (cost.slotTypesCost set)
   slotTypes-costs = list-costs fixed-costs
 
-  structField-costs : Costs (g.structField set) (cost.structFieldCost set)
+  structField-costs : Costs g.structField (cost.structFieldCost set)
   unfolding charges chargesLeaf g.structField cost.structFieldCost
   structField-costs =
       let tag : Costs (optional str) (optionalCost textCost) = variant-costs (also empty-costs (also text-costs done)) in
@@ -157,10 +157,10 @@ module _ (set : Settings) where
   struct-costs : Costs (g.struct set) (cost.structCost set)
   unfolding charges chargesLeaf chargesAsk g.struct cost.structCost
   struct-costs =
-      let fields : Costs (g.list set of.FieldMeta (g.structField set)) (listCost (sizeOf set of.FieldMeta) (cost.structFieldCost set)) = list-costs structField-costs in
+      let fields : Costs (g.list set of.FieldMeta g.structField) (listCost (sizeOf set of.FieldMeta) (cost.structFieldCost set)) = list-costs structField-costs in
       record { is = λ v. omega (arith, slotTypes-costs .is (first v), fields .is (first (second v)), keys-cost [] (Questions.named (map first (entries (first (second v)))))) }
 
-  interfaceMethod-costs : Costs (g.interfaceMethod set) (cost.interfaceMethodCost set)
+  interfaceMethod-costs : Costs g.interfaceMethod (cost.interfaceMethodCost set)
   unfolding charges chargesLeaf g.interfaceMethod cost.interfaceMethodCost
   interfaceMethod-costs = record { is = λ v. omega arith }
 
@@ -168,7 +168,7 @@ module _ (set : Settings) where
   unfolding charges chargesLeaf chargesAsk g.interface cost.interfaceCost
   interface-costs =
       let names : Costs (g.list set of.String str) (listCost (sizeOf set of.String) textCost) = list-costs text-costs in
-      let methods : Costs (g.list set of.InterfaceMethodMeta (g.interfaceMethod set)) (listCost (sizeOf set of.InterfaceMethodMeta) (cost.interfaceMethodCost set)) = list-costs interfaceMethod-costs in
+      let methods : Costs (g.list set of.InterfaceMethodMeta g.interfaceMethod) (listCost (sizeOf set of.InterfaceMethodMeta) (cost.interfaceMethodCost set)) = list-costs interfaceMethod-costs in
       record {
         is = λ v.
             let a = first (second v) in
@@ -176,14 +176,14 @@ module _ (set : Settings) where
             omega (arith, names .is a, methods .is b, names-free [] (entries a), names-free [] (map first (entries b)), names-cost (counted a) (second a) (sizeOf set of.Str), set-cost (counted b) (second b) first (sizeOf set of.Str));
       }
 
-  newMethod-costs : (seen : List (List ℕ)) → Costs (g.newMethod set seen) (cost.methodCost set)
+  newMethod-costs : (seen : List (List ℕ)) → Costs (g.newMethod seen) (cost.methodCost set)
   unfolding charges chargesLeaf chargesAsk g.newMethod g.method cost.methodCost
   newMethod-costs seen = record { is = λ v. omega (arith, if-free (Questions.among (content (first (first v))) seen) (Questions.repeat Refusals.duplicateNamedMethod 0 (first (first v)))) }
 
   namedType-costs : Costs (g.namedType set) (cost.namedTypeCost set)
   unfolding charges chargesLeaf g.namedType g.methods cost.namedTypeCost
   namedType-costs =
-      let methods : Costs (seq (leaf (count free 14 Refusals.namedMethodMap (g.methodSize set))) (λ n. chain (g.newMethod set) (g.alsoSeen set) [] (number n))) (listCost (g.methodSize set) (cost.methodCost set)) = chained-costs (g.alsoSeen set) [] newMethod-costs in
+      let methods : Costs (seq (leaf (count free 14 Refusals.namedMethodMap (g.methodSize set))) (λ n. chain g.newMethod g.alsoSeen [] (number n))) (listCost (g.methodSize set) (cost.methodCost set)) = chained-costs g.alsoSeen [] newMethod-costs in
       record { is = λ v. omega (arith, methods .is (second (second (second v)))) }
 
   itab-costs : Costs (g.itab set) (cost.itabCost set)
@@ -192,28 +192,28 @@ module _ (set : Settings) where
       let methods : Costs (g.list set of.U32 u32) (listCost (sizeOf set of.U32) nothing) = list-costs fixed-costs in
       record { is = λ v. omega (arith, methods .is (second v)) }
 
-  runtimeField-costs : Costs (g.runtimeField set) (cost.runtimeFieldCost set)
+  runtimeField-costs : Costs g.runtimeField (cost.runtimeFieldCost set)
   unfolding charges chargesLeaf g.runtimeField cost.runtimeFieldCost
   runtimeField-costs = record { is = λ v. omega arith }
 
   runtimeStruct-costs : Costs (g.runtimeStruct set) (cost.runtimeStructCost set)
   unfolding charges chargesLeaf chargesAsk g.runtimeStruct cost.runtimeStructCost
   runtimeStruct-costs =
-      let fields : Costs (g.list set of.StructField (g.runtimeField set)) (listCost (sizeOf set of.StructField) (cost.runtimeFieldCost set)) = list-costs runtimeField-costs in
+      let fields : Costs (g.list set of.StructField g.runtimeField) (listCost (sizeOf set of.StructField) (cost.runtimeFieldCost set)) = list-costs runtimeField-costs in
       record {
         is = λ v.
             let a = first (second v) in
-            omega (arith, fields .is a, identities-free [] (map (g.identity set) (entries a)), set-cost (counted a) (second a) (g.identity set) (sizeOf set of.StrStr));
+            omega (arith, fields .is a, identities-free [] (map g.identity (entries a)), set-cost (counted a) (second a) g.identity (sizeOf set of.StrStr));
       }
 
-  runtimeMethod-costs : Costs (g.runtimeMethod set) (cost.interfaceMethodCost set)
+  runtimeMethod-costs : Costs g.runtimeMethod (cost.interfaceMethodCost set)
   unfolding charges chargesLeaf g.runtimeMethod cost.interfaceMethodCost
   runtimeMethod-costs = record { is = λ v. omega arith }
 
   runtimeInterface-costs : Costs (g.runtimeInterface set) (cost.runtimeInterfaceCost set)
   unfolding charges chargesLeaf chargesAsk g.runtimeInterface cost.runtimeInterfaceCost
   runtimeInterface-costs =
-      let methods : Costs (g.list set of.InterfaceMethod (g.runtimeMethod set)) (listCost (sizeOf set of.InterfaceMethod) (cost.interfaceMethodCost set)) = list-costs runtimeMethod-costs in
+      let methods : Costs (g.list set of.InterfaceMethod g.runtimeMethod) (listCost (sizeOf set of.InterfaceMethod) (cost.interfaceMethodCost set)) = list-costs runtimeMethod-costs in
       record {
         is = λ v.
             let a = first (second v) in
@@ -234,7 +234,7 @@ module _ (set : Settings) where
       (also fixed-costs (also two-fixed (also fixed-costs (also two-fixed (also fixed-costs (also two-fixed (also two-fixed (also func-costs (also runtimeStruct-costs (also runtimeInterface-costs
       (also rttids-costs (also two-fixed (also empty-costs done)))))))))))))
 
-  constant-costs : Costs (g.constant set) (cost.constantCost set)
+  constant-costs : Costs g.constant (cost.constantCost set)
   unfolding g.constant cost.constantCost
   constant-costs = variant-costs (also empty-costs (also fixed-costs (also fixed-costs (also fixed-costs (also text-costs done)))))
 
@@ -259,7 +259,7 @@ module _ (set : Settings) where
   unfolding charges chargesLeaf
   slotLayout-costs = record { is = λ v. omega (arith, slotTypes-costs .is (second v)) }
 
-  ifaceAssert-costs : Costs (g.assertKind set ▸ u32 ▸ g.slotTypes set) (λ v. cost.slotTypesCost set (second (second v)))
+  ifaceAssert-costs : Costs (g.assertKind ▸ u32 ▸ g.slotTypes set) (λ v. cost.slotTypesCost set (second (second v)))
   unfolding charges chargesLeaf
   ifaceAssert-costs = record { is = λ v. omega (arith, slotTypes-costs .is (second (second v))) }
 
@@ -267,7 +267,7 @@ module _ (set : Settings) where
   unfolding charges chargesLeaf
   callIface-costs = record { is = λ v. omega (arith, layouts-costs .is (second (second v))) }
 
-  selectCase-costs : Costs (g.selectCase set) nothing
+  selectCase-costs : Costs g.selectCase nothing
   unfolding g.selectCase
   selectCase-costs =
       free-variant
@@ -277,32 +277,32 @@ module _ (set : Settings) where
   metadata-costs : Costs (g.metadata set) (cost.metadataCost set)
   unfolding g.metadata cost.metadataCost
   metadata-costs =
-      let cases : Costs (g.list set of.SelectCaseLayout (g.selectCase set)) (listCost (sizeOf set of.SelectCaseLayout) nothing) = list-costs selectCase-costs in
+      let cases : Costs (g.list set of.SelectCaseLayout g.selectCase) (listCost (sizeOf set of.SelectCaseLayout) nothing) = list-costs selectCase-costs in
       variant-costs
       (also empty-costs (also elemLayout-costs (also mapGet-costs (also layouts-costs (also slotTypes-costs (also fixed-costs (also empty-costs (also empty-costs (also empty-costs
       (also slotTypes-costs (also slotLayout-costs (also layouts-costs (also layouts-costs (also slotTypes-costs (also layouts-costs (also ifaceAssert-costs
       (also layouts-costs (also callIface-costs (also cases done)))))))))))))))))))
 
-  instruction-costs : Costs (g.instruction set) nothing
+  instruction-costs : Costs g.instruction nothing
   unfolding g.instruction
   instruction-costs = free-seq fixed-costs (λ _. free-seq fixed-costs (λ _. free-seq fixed-costs (λ _. two-fixed)))
 
   code-costs : Costs (g.code set) (cost.codeCost set)
   unfolding charges chargesLeaf g.code cost.codeCost
   code-costs =
-      let instructions : Costs (g.list set of.Instruction (g.instruction set)) (listCost (sizeOf set of.Instruction) nothing) = list-costs instruction-costs in
+      let instructions : Costs (g.list set of.Instruction g.instruction) (listCost (sizeOf set of.Instruction) nothing) = list-costs instruction-costs in
       let metadata : Costs (g.list set of.InstructionMetadata (g.metadata set)) (listCost (sizeOf set of.InstructionMetadata) (cost.metadataCost set)) = list-costs metadata-costs in
       record { is = λ v. omega (arith, instructions .is (first v), metadata .is (first (second v)), agree-free (eqb (counted (first (second v))) (counted (first v))) (wrong Refusals.invalidInstructionMetadata 0)) }
 
-  transfer-costs : Costs (g.transfer set) nothing
+  transfer-costs : Costs g.transfer nothing
   unfolding g.transfer
   transfer-costs = free-seq fixed-costs (λ _. two-fixed)
 
   transfers-costs : (c : ℕ) → Costs (g.transfers set c) (λ v. cost.transfersCost set (first v))
   unfolding charges chargesLeaf g.transfers
   transfers-costs c =
-      let entries′ : Costs (g.list set of.TransferType (g.transfer set)) (cost.transfersCost set) = list-costs transfer-costs in
-      record { is = λ v. omega (arith, entries′ .is (first v), transfers-free c 0 (map (g.transferred set) (entries (first v)))) }
+      let entries′ : Costs (g.list set of.TransferType g.transfer) (cost.transfersCost set) = list-costs transfer-costs in
+      record { is = λ v. omega (arith, entries′ .is (first v), transfers-free c 0 (map g.transferred (entries (first v)))) }
 
   functionBody-costs : (types locals : ℕ) (v : Value) → charges (g.functionBody set types locals) v ≡
       cost.codeCost set (first v) + cost.transfersCost set (first (first (second v))) + cost.slotTypesCost set (first (second (second v))) + cost.transfersCost set (first (first (second (second (second v)))))
@@ -341,36 +341,36 @@ module _ (set : Settings) where
   unfolding charges chargesLeaf g.artifact cost.artifactCost
   artifact-costs = record { is = λ v. omega arith }
 
-  location-costs : Costs (g.location set) nothing
+  location-costs : Costs g.location nothing
   unfolding g.location
   location-costs = free-seq packed-costs (λ _. free-seq packed-costs (λ _. free-seq packed-costs (λ _. free-seq packed-costs (λ _. packed-costs))))
 
-  frame-costs : Costs (g.frame set) nothing
+  frame-costs : Costs g.frame nothing
   unfolding g.frame g.span
   frame-costs = free-seq fixed-costs (λ _. free-seq fixed-costs (λ _. free-variant empty-costs (free-seq fixed-costs (λ _. free-seq fixed-costs (λ _. two-fixed)))))
 
-  inlineEntry-costs : Costs (g.inlineEntry set) nothing
+  inlineEntry-costs : Costs g.inlineEntry nothing
   unfolding g.inlineEntry
   inlineEntry-costs = two-fixed
 
   inlineFunction-costs : (left : ℕ) → Costs (g.inlineFunction set left) (cost.inlineFunctionCost set)
   unfolding charges chargesLeaf g.inlineFunction cost.inlineFunctionCost
   inlineFunction-costs left =
-      let inlined : Costs (listOf (limit Refusals.debugMetadataLimitExceeded Refusals.inlineEntries left) (sizeOf set of.InlineSourceEntry) (g.inlineEntry set)) (listCost (sizeOf set of.InlineSourceEntry) nothing) = list-costs inlineEntry-costs in
+      let inlined : Costs (listOf (limit Refusals.debugMetadataLimitExceeded Refusals.inlineEntries left) (sizeOf set of.InlineSourceEntry) g.inlineEntry) (listCost (sizeOf set of.InlineSourceEntry) nothing) = list-costs inlineEntry-costs in
       record { is = λ v. omega (arith, inlined .is (second v)) }
 
   inlineSources-costs : (n : ℕ) → Costs (g.inlineFrames set ▸ g.inlineFunctions set n) (cost.inlineSourcesCost set)
   unfolding charges g.inlineFrames g.inlineFunctions cost.inlineSourcesCost
   inlineSources-costs n =
-      let frames : Costs (listOf (limit Refusals.debugMetadataLimitExceeded Refusals.inlineFrames (set .inlineRecords)) (sizeOf set of.InlineSourceFrame) (g.frame set)) (listCost (sizeOf set of.InlineSourceFrame) nothing) = list-costs frame-costs in
-      let functions′ : Costs (seq (leaf (count (limit Refusals.debugMetadataLimitExceeded Refusals.inlineFunctions (min n (set .inlineRecords))) 1 Refusals.vector (sizeOf set of.InlineFunctionSources))) (λ n. chain (g.inlineFunction set) (g.stillLeft set) (set .inlineRecords) (number n))) (listCost (sizeOf set of.InlineFunctionSources) (cost.inlineFunctionCost set)) = chained-costs (g.stillLeft set) (set .inlineRecords) inlineFunction-costs in
+      let frames : Costs (listOf (limit Refusals.debugMetadataLimitExceeded Refusals.inlineFrames (set .inlineRecords)) (sizeOf set of.InlineSourceFrame) g.frame) (listCost (sizeOf set of.InlineSourceFrame) nothing) = list-costs frame-costs in
+      let functions′ : Costs (seq (leaf (count (limit Refusals.debugMetadataLimitExceeded Refusals.inlineFunctions (min n (set .inlineRecords))) 1 Refusals.vector (sizeOf set of.InlineFunctionSources))) (λ n. chain (g.inlineFunction set) g.stillLeft (set .inlineRecords) (number n))) (listCost (sizeOf set of.InlineFunctionSources) (cost.inlineFunctionCost set)) = chained-costs g.stillLeft (set .inlineRecords) inlineFunction-costs in
       record { is = λ v. omega (arith, frames .is (first v), functions′ .is (second v)) }
 
-  externs-costs : Costs (leaf (count (g.noHostCalls set) 1 Refusals.vector 0)) nothing
+  externs-costs : Costs (leaf (count g.noHostCalls 1 Refusals.vector 0)) nothing
   unfolding charges chargesLeaf
   externs-costs = record { is = λ v. omega arith }
 
-  wellKnown-costs : Costs (g.errorTypes set ▸ g.objectInterfaces set) nothing
+  wellKnown-costs : Costs (g.errorTypes ▸ g.objectInterfaces) nothing
   unfolding g.errorTypes g.objectInterfaces
   wellKnown-costs =
       free-seq

@@ -19,7 +19,7 @@ closed-choose r fs h = closed-seq _ _ (closed-fixed byte r) (λ v. closed-get h 
 
 module _ (set : Settings) where
   -- a named method takes 14 bytes at the least
-  least-method : (seen : List (List ℕ)) → AtLeast 14 (g.newMethod set seen)
+  least-method : (seen : List (List ℕ)) → AtLeast 14 (g.newMethod seen)
   unfolding g.newMethod g.method
   least-method seen =
       least-fore 14 _ _
@@ -56,11 +56,11 @@ module _ (set : Settings) where
   unfolding g.runtimeType
   closed-runtimeType = search (closed-runtimeStruct, closed-runtimeInterface, closed, closed-choose) depth 40 fits 3000
 
-  closed-wellKnown : Closed (g.errorTypes set ▸ g.objectInterfaces set)
+  closed-wellKnown : Closed (g.errorTypes ▸ g.objectInterfaces)
   unfolding g.errorTypes g.objectInterfaces
   closed-wellKnown = search (closed, closed-choose) depth 20
 
-  closed-constant : Closed (g.constant set)
+  closed-constant : Closed g.constant
   unfolding g.constant
   closed-constant = search (closed, closed-choose) depth 20
 
@@ -88,7 +88,7 @@ module _ (set : Settings) where
   unfolding g.function g.functionHead g.functionReturns g.functionTraits
   closed-function = search (closed-body, closed-slotTypes, closed) depth 40
 
-  closed-externs : Closed (leaf (count (g.noHostCalls set) 1 Refusals.vector 0))
+  closed-externs : Closed (leaf (count g.noHostCalls 1 Refusals.vector 0))
   unfolding Closed ahead aheadLeaf Valid
   closed-externs v p h = omega (arith, eqb→eq (number v) 0 (h .2))
 
@@ -96,7 +96,7 @@ module _ (set : Settings) where
   unfolding g.artifact
   closed-artifact = search closed depth 20
 
-  closed-location : Closed (g.location set)
+  closed-location : Closed g.location
   unfolding g.location
   closed-location = search closed depth 20
 

@@ -1,8 +1,8 @@
 -- What a reading is set to: the sizes that lists are charged by, and the limits.
-use Prim.Native.Nat.{ℕ, zero, suc, _≤_}
+use Prim.Native.Nat.{ℕ, zero, suc, _+_, _*_, _≤_}
 use mathlib.Core.Path.{_≡_}
 use mathlib.Core.List.{List, [], _∷_}
-use lib.ListN.{getD, length}
+use lib.ListN.{getD, length, take}
 
 -- "the 32 sizes, in order of first use in 000": the entries' types, numbered from 1 along the reading.
 abbrev pub StructMeta : ℕ
@@ -125,6 +125,17 @@ pub record Settings : Type 0 where
 -- The settings of the Rust.
 abbrev pub settings : Settings
 settings = record { sizes = measured; artifacts = 64; artifactNameBytes = 128; artifactPayloadBytes = 16777216; inlineRecords = 131072 }
+
+-- The settings that an array of numbers stands for: the sizes; then the limits, where one above 65,535 takes two, low first.
+unfoldable pub settingsOf : List ℕ → Settings
+settingsOf l =
+    record {
+      sizes = take 32 l;
+      artifacts = getD l 32 0;
+      artifactNameBytes = getD l 33 0;
+      artifactPayloadBytes = getD l 34 0 + 65536 * getD l 35 0;
+      inlineRecords = getD l 36 0 + 65536 * getD l 37 0;
+    }
 
 -- The size numbered i; 0 where there is none.
 abbrev sizeAt : List ℕ → ℕ → ℕ

@@ -1,13 +1,14 @@
 -- The measured sizes are 32, each in 1..4096; so are those of any licensed settings.
 use Prim.Native.Nat.{ℕ, zero, suc, _-_, _≤_, _<_}
-use mathlib.Core.Path.{_≡_, refl}
+use mathlib.Core.Path.{_≡_, refl, sym, _∙_}
 use mathlib.Core.List.{List, [], _∷_}
 use mathlib.Core.Bool.{Bool, true, false}
 use native.Mathlib.Omega.{arith}
 use lib.Dec.{T, leb, leb→le}
-use lib.ListN.{getD, length}
+use lib.ListN.{getD, length, length-take}
+use lib.Seq.{getD-take}
 use Rattle.format.specs.Trace.{pick}
-use Rattle.vob24.specs.Settings.{Settings, settings, measured, sizeOf, AllWithin, done, also, Licensed}
+use Rattle.vob24.specs.Settings.{Settings, settings, measured, settingsOf, sizeOf, AllWithin, done, also, Licensed}
 
 -- one computed test over the whole table
 abbrev within? : List ℕ → Bool
@@ -76,3 +77,15 @@ pub size-at : (set : Settings) (i : ℕ) → 1 ≤ i → getD (set .sizes) (i - 
 unfolding sizeOf
 size-at set zero h = absurd (omega arith)
 size-at set (suc i) h = let e : suc i - 1 ≡ i = omega arith in rw e
+
+-- of settings that stand in an array
+pub array-below : (l : List ℕ) (i : ℕ) → i < 1 → 0 ≡ sizeOf (settingsOf l) i
+array-below l i h = sym (size-below (settingsOf l) i h)
+
+pub array-past : (l : List ℕ) (i : ℕ) → 32 < i → 0 ≡ sizeOf (settingsOf l) i
+unfolding settingsOf
+array-past l i h = sym (size-past (settingsOf l) i (omega (arith, length-take 32 l)))
+
+pub array-at : (l : List ℕ) (i : ℕ) → 1 ≤ i → i ≤ 32 → getD l (i - 1) 0 ≡ sizeOf (settingsOf l) i
+unfolding settingsOf
+array-at l i h k = let j : i - 1 < 32 = omega arith in sym (getD-take 32 l (i - 1) 0 j) ∙ size-at (settingsOf l) i h

@@ -1,11 +1,18 @@
 // The VOB 24 rule pack: its grammar, its definitions of text, packed numbers, record, cost and calls, and their theorems, in specs/.
-// The code here is the table of sizes that every charge reads; it ports the `size_of` terms of serialize.rs.
+// The code here is the table of sizes and limits that every charge reads; it ports the `size_of` terms and the limits of serialize.rs.
 ghost use mathlib.Core.Path.{_≡_};
-ghost use Prim.Native.Nat.{_≤_};
-ghost use Rattle.vob24.specs.Settings.{settings, sizeOf};
+ghost use Prim.Native.Nat.{_<_};
+ghost use Rattle.vob24.specs.Settings.{settingsOf, sizeOf};
 
-// `size_of` on the pinned 64-bit compiler, in order of first use along the reading: StructMeta to InlineSourceEntry.
-const SIZES: [u64; 32] = [
+mod limits;
+
+// What a reading is set to: the 32 sizes, and behind them the limits, at the indexes that `limits` names (`settingsOf` in
+// specs/Settings.antt). Readers take it as `&Settings`. An entry is below 65,536 by its type, so that no count times a size wraps.
+pub type Settings = [u16; 38];
+
+// What the Rust is set to: `size_of` on the pinned 64-bit compiler, in order of first use along the reading (StructMeta to
+// InlineSourceEntry); then its limits.
+pub const MEASURED: [u16; 38] = [
     96,
     1,
     64,
@@ -38,11 +45,23 @@ const SIZES: [u64; 32] = [
     28,
     32,
     8,
+    64,
+    128,
+    0,
+    256,
+    0,
+    2,
 ];
 
+fn wide(n: u16) -> u64
+    ensures { λ q. ⌜ (q ≡ n) × (q < 65536) ⌝ }
+{
+    n as u64
+}
+
 // The size numbered i from 1 on; 0 where there is none.
-pub fn size(i: usize) -> u64
-    ensures { λ q. ⌜ (q ≡ sizeOf settings i) × (q ≤ 4096) ⌝ }
+pub fn size(set: &Settings, i: usize) -> u64
+    ensures { λ q. ⌜ (q ≡ sizeOf (settingsOf (now (set .entry))) i) × (q < 65536) ⌝ }
 {
     if i < 1 {
         return 0;
@@ -50,5 +69,31 @@ pub fn size(i: usize) -> u64
     if 32 < i {
         return 0;
     }
-    SIZES[i - 1]
+    let k = i - 1;
+    wide(set[k])
+}
+
+pub fn artifacts(set: &Settings) -> u64
+    ensures { λ q. ⌜ q ≡ settingsOf (now (set .entry)) .artifacts ⌝ }
+{
+    wide(set[limits::ARTIFACTS])
+}
+
+pub fn artifact_name_bytes(set: &Settings) -> u64
+    ensures { λ q. ⌜ q ≡ settingsOf (now (set .entry)) .artifactNameBytes ⌝ }
+{
+    wide(set[limits::ARTIFACT_NAME_BYTES])
+}
+
+pub fn artifact_payload_bytes(set: &Settings) -> u64
+    ensures { λ q. ⌜ q ≡ settingsOf (now (set .entry)) .artifactPayloadBytes ⌝ }
+{
+    wide(set[limits::ARTIFACT_PAYLOAD_BYTES])
+        + 65536 * wide(set[limits::ARTIFACT_PAYLOAD_BYTES_HIGH])
+}
+
+pub fn inline_records(set: &Settings) -> u64
+    ensures { λ q. ⌜ q ≡ settingsOf (now (set .entry)) .inlineRecords ⌝ }
+{
+    wide(set[limits::INLINE_RECORDS]) + 65536 * wide(set[limits::INLINE_RECORDS_HIGH])
 }

@@ -2,16 +2,17 @@ use Rattle.vob24.specs.Grammar.{inlineFrames}
 use borrow.Author.Needs.{needs}
 use Rattle.reader.proofs.Reading.{reading}
 use Rattle.reader.proofs.Laws.{Turns}
-use Rattle.reader.proofs.Parts.{list-done, list-refused}
+use Rattle.reader.proofs.Parts.{partNot, list-done, list-refused}
 use Rattle.debug_info.specs.DebugInfo.{frameFormat}
+use Rattle.debug_info.proofs.Laws.{frames-at}
 use Rattle.debug_info.proofs.inline_frames.Statement.{statement}
 use Rattle.debug_info.proofs.inline_frames.Tie as tie
 
 abbrev Inv-loop : tie.InvT-loop
-Inv-loop s tape₀ n k₀ here₀ tape k here = Turns frameFormat s tape₀ here₀ k₀ tape here k
+Inv-loop s set tape₀ most n k₀ here₀ tape k here = Turns frameFormat s tape₀ here₀ k₀ tape here k
 
 abbrev μ-loop : tie.MeasureT-loop
-μ-loop s tape₀ n k₀ here₀ tape k here = k
+μ-loop s set tape₀ most n k₀ here₀ tape k here = k
 
 enum-known-r : tie.Need-enum-known-r Inv-loop μ-loop
 enum-known-r c = search (needs, reading)
@@ -21,6 +22,9 @@ enum-told c = search (needs, reading)
 
 returns : tie.Need-returns Inv-loop μ-loop
 returns c = search (needs, reading)
+
+inline-records-requires : tie.Need-inline-records-requires Inv-loop μ-loop
+inline-records-requires c κs = search (needs, reading)
 
 number-debug-count-requires : tie.Need-number-debug-count-requires Inv-loop μ-loop
 number-debug-count-requires c κs = search (needs, reading)
@@ -39,7 +43,7 @@ same-length c = search (needs, reading)
 
 returns-2 : tie.Need-returns-2 Inv-loop μ-loop
 unfolding inlineFrames
-returns-2 c = search (needs, reading)
+returns-2 c = partNot ((c .before .before .before .before .before .before .before .before .before .r) .given .1) ((c .before .enum-told2) .given .1) ((c .refused) .ensures) (frames-at _ ((c .before .before .before .before .before .before .before .inline-records) .ensures) ((c .before .before .before .before .before .number-debug-count) .ensures))
 
 loop-holds : tie.Need-loop-holds Inv-loop μ-loop
 loop-holds c = search (needs, reading)
@@ -58,7 +62,7 @@ same-length-2 c = search (needs, reading)
 
 returns-3 : tie.Need-returns-3 Inv-loop μ-loop
 unfolding inlineFrames
-returns-3 c = list-refused ((c .before .before .before .before .before .before .before .before .before .before .before .before .before .before .before .before .r) .given .1) ((c .before .before .before .before .before .before .before .before .before .q) .given .1) ((c .before .before .before .before .before .before .before .before .before .before .before .before .before .number-debug-count) .ensures) ((c .before .before .before .before .before .before .loop-test) .taken) ((c .before .before .before .before .before .before .before .loop) .inv) ((c .before .before .before .before .inline-frame) .ensures) ((c .enum-told4) .given .1)
+returns-3 c = list-refused ((c .before .before .before .before .before .before .before .before .before .before .before .before .before .before .before .before .before .r) .given .1) ((c .before .before .before .before .before .before .before .before .before .q) .given .1) (frames-at _ ((c .before .before .before .before .before .before .before .before .before .before .before .before .before .before .before .inline-records) .ensures) ((c .before .before .before .before .before .before .before .before .before .before .before .before .before .number-debug-count) .ensures)) ((c .before .before .before .before .before .before .loop-test) .taken) ((c .before .before .before .before .before .before .before .loop) .inv) ((c .before .before .before .before .inline-frame) .ensures) ((c .enum-told4) .given .1)
 
 sub-k : tie.Need-sub-k Inv-loop μ-loop
 sub-k c = search (needs, reading)
@@ -74,7 +78,7 @@ same-length-3 c = search (needs, reading)
 
 returns-4 : tie.Need-returns-4 Inv-loop μ-loop
 unfolding inlineFrames
-returns-4 c = list-done ((c .before .before .before .before .before .before .before .before .before .before .r) .given .1) ((c .before .before .before .q) .given .1) ((c .before .before .before .before .before .before .before .number-debug-count) .ensures) ((c .loop-test) .left) ((c .before .loop) .inv)
+returns-4 c = list-done ((c .before .before .before .before .before .before .before .before .before .before .before .r) .given .1) ((c .before .before .before .q) .given .1) (frames-at _ ((c .before .before .before .before .before .before .before .before .before .inline-records) .ensures) ((c .before .before .before .before .before .before .before .number-debug-count) .ensures)) ((c .loop-test) .left) ((c .before .loop) .inv)
 
 pub inline-frames-spec : {M : Type 1} → statement M
 inline-frames-spec =
@@ -85,6 +89,7 @@ inline-frames-spec =
     enum-known-r
     enum-told
     returns
+    inline-records-requires
     number-debug-count-requires
     enum-known-q
     enum-told-2

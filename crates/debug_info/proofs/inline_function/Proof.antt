@@ -7,10 +7,10 @@ use Rattle.debug_info.proofs.inline_function.Statement.{statement}
 use Rattle.debug_info.proofs.inline_function.Tie as tie
 
 abbrev Inv-loop : tie.InvT-loop
-Inv-loop s left tape₀ n k₀ here₀ tape k here = Turns entryFormat s tape₀ here₀ k₀ tape here k
+Inv-loop s set left tape₀ n k₀ here₀ tape k here = Turns entryFormat s tape₀ here₀ k₀ tape here k
 
 abbrev μ-loop : tie.MeasureT-loop
-μ-loop s left tape₀ n k₀ here₀ tape k here = k
+μ-loop s set left tape₀ n k₀ here₀ tape k here = k
 
 number-u32-requires : tie.Need-number-u32-requires Inv-loop μ-loop
 number-u32-requires c κs = search (needs, reading, sharing)

@@ -1,15 +1,15 @@
 use borrow.Author.Needs.{needs}
 use Rattle.reader.proofs.Reading.{reading}
-use Rattle.debug_info.proofs.Laws.{sharing}
-use Rattle.debug_info.proofs.Laws.{Sharing, function-most}
+use Rattle.vob24.specs.Settings.{settingsOf}
+use Rattle.debug_info.proofs.Laws.{sharing, Sharing, function-most}
 use Rattle.debug_info.proofs.inline_functions.Statement.{statement}
 use Rattle.debug_info.proofs.inline_functions.Tie as tie
 
 abbrev Inv-loop : tie.InvT-loop
-Inv-loop s functions tape₀ most n k₀ here₀ left₀ tape k here left = Sharing s tape₀ here₀ left₀ k₀ tape here left k
+Inv-loop s set functions tape₀ all most n k₀ here₀ left₀ tape k here left = Sharing (settingsOf set) s tape₀ here₀ left₀ k₀ tape here left k
 
 abbrev μ-loop : tie.MeasureT-loop
-μ-loop s functions tape₀ most n k₀ here₀ left₀ tape k here left = k
+μ-loop s set functions tape₀ all most n k₀ here₀ left₀ tape k here left = k
 
 enum-known-r : tie.Need-enum-known-r Inv-loop μ-loop
 enum-known-r c = search (needs, reading, sharing)
@@ -19,6 +19,9 @@ enum-told c = search (needs, reading, sharing)
 
 returns : tie.Need-returns Inv-loop μ-loop
 returns c = search (needs, reading, sharing)
+
+inline-records-requires : tie.Need-inline-records-requires Inv-loop μ-loop
+inline-records-requires c κs = search (needs, reading, sharing)
 
 smaller-requires : tie.Need-smaller-requires Inv-loop μ-loop
 smaller-requires c κs = search (needs, reading, sharing)
@@ -63,7 +66,7 @@ returns-3 : tie.Need-returns-3 Inv-loop μ-loop
 returns-3 c = search (needs, reading, sharing)
 
 sub-left : tie.Need-sub-left Inv-loop μ-loop
-sub-left c = function-most ((c .before .p) .given .1) ((c .before .before .before .before .before .inline-function) .ensures)
+sub-left c = function-most _ ((c .before .p) .given .1) ((c .before .before .before .before .before .inline-function) .ensures)
 
 sub-k : tie.Need-sub-k Inv-loop μ-loop
 sub-k c = search (needs, reading, sharing)
@@ -89,6 +92,7 @@ inline-functions-spec =
     enum-known-r
     enum-told
     returns
+    inline-records-requires
     smaller-requires
     number-debug-count-requires
     enum-known-q

@@ -1,13 +1,14 @@
 use Prim.Native.Nat.{min}
 use mathlib.Core.Path.{refl}
 use Rattle.vob24.specs.Settings as of
-use Rattle.vob24.specs.Settings.{settings}
+use Rattle.vob24.specs.Settings.{settingsOf}
 use Rattle.vob24.specs.Leaves.{str}
 use Rattle.vob24.specs.Grammar.{section, list, artifact, location, frame, inlineFunction, stillLeft, inlineFrames, inlineFunctions}
 use Rattle.reader.proofs.Laws.{fieldThen, at-step, at-refused, ready-at}
 use Rattle.empty_lists.proofs.Laws.{emptyFirst, emptySecond, emptyThird, emptyFourth, emptyFifth}
 use Rattle.deserialize.proofs.Laws.{within-any}
 use borrow.Author.Needs.{needs}
+use denote.Ref.{now}
 use Rattle.deserialize.proofs.artifacts_on.Statement.{statement}
 use Rattle.deserialize.proofs.artifacts_on.Tie as tie
 
@@ -31,7 +32,7 @@ same-length c = search needs
 
 returns-2 : tie.Need-returns-2
 unfolding section inlineFrames inlineFunctions
-returns-2 c = at-step ((c .before .before .before .before .before .before .before .r) .given .1) (fieldThen (emptyFirst (ready-at ((c .before .before .before .before .before .before .before .r) .given .1) (c .before .before .before .before .before .before .before .before .before .before .before .pre)) ((c .before .before .before .before .before .five-at) .ensures ((c .before .before .before .before .if1) .taken)) ((c .before .before .past-five) .ensures) (artifact settings) refl) (λ _. fieldThen (emptySecond (ready-at ((c .before .before .before .before .before .before .before .r) .given .1) (c .before .before .before .before .before .before .before .before .before .before .before .pre)) ((c .before .before .before .before .before .five-at) .ensures ((c .before .before .before .before .if1) .taken)) ((c .before .before .past-five) .ensures) str refl) (λ _. fieldThen (emptyThird (ready-at ((c .before .before .before .before .before .before .before .r) .given .1) (c .before .before .before .before .before .before .before .before .before .before .before .pre)) ((c .before .before .before .before .before .five-at) .ensures ((c .before .before .before .before .if1) .taken)) ((c .before .before .past-five) .ensures) (list settings of.DebugLoc (location settings)) refl) (λ _. fieldThen (emptyFourth (ready-at ((c .before .before .before .before .before .before .before .r) .given .1) (c .before .before .before .before .before .before .before .before .before .before .before .pre)) ((c .before .before .before .before .before .five-at) .ensures ((c .before .before .before .before .if1) .taken)) ((c .before .before .past-five) .ensures) (frame settings) refl) (λ _. emptyFifth (ready-at ((c .before .before .before .before .before .before .before .r) .given .1) (c .before .before .before .before .before .before .before .before .before .before .before .pre)) ((c .before .before .before .before .before .five-at) .ensures ((c .before .before .before .before .if1) .taken)) ((c .before .before .past-five) .ensures) (inlineFunction settings) (stillLeft settings) (settings .inlineRecords) (within-any (min ((c .before .before .before .before .before .before .before .before .before .before .before .args) .functions) (settings .inlineRecords))))))))
+returns-2 c = let set = settingsOf (now (c .before .before .before .before .before .before .before .before .before .before .before .args .set)) in at-step ((c .before .before .before .before .before .before .before .r) .given .1) (fieldThen (emptyFirst (ready-at ((c .before .before .before .before .before .before .before .r) .given .1) (c .before .before .before .before .before .before .before .before .before .before .before .pre)) ((c .before .before .before .before .before .five-at) .ensures ((c .before .before .before .before .if1) .taken)) ((c .before .before .past-five) .ensures) (artifact set) (within-any (set .artifacts))) (λ _. fieldThen (emptySecond (ready-at ((c .before .before .before .before .before .before .before .r) .given .1) (c .before .before .before .before .before .before .before .before .before .before .before .pre)) ((c .before .before .before .before .before .five-at) .ensures ((c .before .before .before .before .if1) .taken)) ((c .before .before .past-five) .ensures) str refl) (λ _. fieldThen (emptyThird (ready-at ((c .before .before .before .before .before .before .before .r) .given .1) (c .before .before .before .before .before .before .before .before .before .before .before .pre)) ((c .before .before .before .before .before .five-at) .ensures ((c .before .before .before .before .if1) .taken)) ((c .before .before .past-five) .ensures) (list set of.DebugLoc location) refl) (λ _. fieldThen (emptyFourth (ready-at ((c .before .before .before .before .before .before .before .r) .given .1) (c .before .before .before .before .before .before .before .before .before .before .before .pre)) ((c .before .before .before .before .before .five-at) .ensures ((c .before .before .before .before .if1) .taken)) ((c .before .before .past-five) .ensures) frame (within-any (set .inlineRecords))) (λ _. emptyFifth (ready-at ((c .before .before .before .before .before .before .before .r) .given .1) (c .before .before .before .before .before .before .before .before .before .before .before .pre)) ((c .before .before .before .before .before .five-at) .ensures ((c .before .before .before .before .if1) .taken)) ((c .before .before .past-five) .ensures) (inlineFunction set) stillLeft (set .inlineRecords) (within-any (min ((c .before .before .before .before .before .before .before .before .before .before .before .args) .functions) (set .inlineRecords))))))))
 
 artifacts-requires : tie.Need-artifacts-requires
 artifacts-requires c κs = ready-at ((c .before .before .before .before .r) .given .1) (c .before .before .before .before .before .before .before .before .pre)

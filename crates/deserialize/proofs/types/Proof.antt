@@ -1,11 +1,12 @@
 use mathlib.Core.Path.{refl}
-use Rattle.vob24.specs.Settings.{settings}
+use Rattle.vob24.specs.Settings.{settingsOf}
 use Rattle.vob24.specs.Grammar.{section, struct, interface, namedType, itab, runtimeType}
 use Rattle.reader.proofs.Laws.{ready-at}
 use Rattle.second_pass.proofs.Laws.{granted-at, granted-first, granted-next}
 use Rattle.empty_lists.proofs.Laws.{emptyFirst, emptySecond, emptyThird, emptyFourth, emptyFifth}
 use Rattle.deserialize.proofs.Laws.{comes-not, comes-at, comes-last, comes-next}
 use borrow.Author.Needs.{needs}
+use denote.Ref.{now}
 use Rattle.deserialize.proofs.types.Statement.{statement}
 use Rattle.deserialize.proofs.types.Tie as tie
 
@@ -29,7 +30,7 @@ same-length c = search needs
 
 returns-2 : tie.Need-returns-2
 unfolding section
-returns-2 c = comes-at ((c .before .before .before .before .before .before .before .r) .given .1) (comes-next (emptyFirst (ready-at ((c .before .before .before .before .before .before .before .r) .given .1) ((c .before .before .before .before .before .before .before .before .before .before .before .pre) .0)) ((c .before .before .before .before .before .five-at) .ensures ((c .before .before .before .before .if1) .taken)) ((c .before .before .past-five) .ensures) (struct settings) refl) (comes-next (emptySecond (ready-at ((c .before .before .before .before .before .before .before .r) .given .1) ((c .before .before .before .before .before .before .before .before .before .before .before .pre) .0)) ((c .before .before .before .before .before .five-at) .ensures ((c .before .before .before .before .if1) .taken)) ((c .before .before .past-five) .ensures) (interface settings) refl) (comes-next (emptyThird (ready-at ((c .before .before .before .before .before .before .before .r) .given .1) ((c .before .before .before .before .before .before .before .before .before .before .before .pre) .0)) ((c .before .before .before .before .before .five-at) .ensures ((c .before .before .before .before .if1) .taken)) ((c .before .before .past-five) .ensures) (namedType settings) refl) (comes-next (emptyFourth (ready-at ((c .before .before .before .before .before .before .before .r) .given .1) ((c .before .before .before .before .before .before .before .before .before .before .before .pre) .0)) ((c .before .before .before .before .before .five-at) .ensures ((c .before .before .before .before .if1) .taken)) ((c .before .before .past-five) .ensures) (itab settings) refl) (comes-last (emptyFifth (ready-at ((c .before .before .before .before .before .before .before .r) .given .1) ((c .before .before .before .before .before .before .before .before .before .before .before .pre) .0)) ((c .before .before .before .before .before .five-at) .ensures ((c .before .before .before .before .if1) .taken)) ((c .before .before .past-five) .ensures) {S = Unit {0}} (λ _. runtimeType settings) (λ _ _. tt) tt refl))))))
+returns-2 c = let set = settingsOf (now (c .before .before .before .before .before .before .before .before .before .before .before .args .set)) in comes-at ((c .before .before .before .before .before .before .before .r) .given .1) (comes-next (emptyFirst (ready-at ((c .before .before .before .before .before .before .before .r) .given .1) ((c .before .before .before .before .before .before .before .before .before .before .before .pre) .0)) ((c .before .before .before .before .before .five-at) .ensures ((c .before .before .before .before .if1) .taken)) ((c .before .before .past-five) .ensures) (struct set) refl) (comes-next (emptySecond (ready-at ((c .before .before .before .before .before .before .before .r) .given .1) ((c .before .before .before .before .before .before .before .before .before .before .before .pre) .0)) ((c .before .before .before .before .before .five-at) .ensures ((c .before .before .before .before .if1) .taken)) ((c .before .before .past-five) .ensures) (interface set) refl) (comes-next (emptyThird (ready-at ((c .before .before .before .before .before .before .before .r) .given .1) ((c .before .before .before .before .before .before .before .before .before .before .before .pre) .0)) ((c .before .before .before .before .before .five-at) .ensures ((c .before .before .before .before .if1) .taken)) ((c .before .before .past-five) .ensures) (namedType set) refl) (comes-next (emptyFourth (ready-at ((c .before .before .before .before .before .before .before .r) .given .1) ((c .before .before .before .before .before .before .before .before .before .before .before .pre) .0)) ((c .before .before .before .before .before .five-at) .ensures ((c .before .before .before .before .if1) .taken)) ((c .before .before .past-five) .ensures) (itab set) refl) (comes-last (emptyFifth (ready-at ((c .before .before .before .before .before .before .before .r) .given .1) ((c .before .before .before .before .before .before .before .before .before .before .before .pre) .0)) ((c .before .before .before .before .before .five-at) .ensures ((c .before .before .before .before .if1) .taken)) ((c .before .before .past-five) .ensures) {S = Unit {0}} (λ _. runtimeType set) (λ _ _. tt) tt refl))))))
 
 structs-requires : tie.Need-structs-requires
 unfolding section

@@ -13,6 +13,9 @@ enum-told c = search needs
 returns : tie.Need-returns
 returns c = search (needs, reading, keeping)
 
+artifact-name-bytes-requires : tie.Need-artifact-name-bytes-requires
+artifact-name-bytes-requires c κs = search needs
+
 read-artifact-string-requires : tie.Need-read-artifact-string-requires
 read-artifact-string-requires c κs = search (needs, reading, keeping)
 
@@ -26,7 +29,7 @@ refused-text-requires : tie.Need-refused-text-requires
 refused-text-requires c κs = search needs
 
 returns-2 : tie.Need-returns-2
-returns-2 c = search (needs, reading, keeping)
+returns-2 c = rw (← (c .before .before .before .before .artifact-name-bytes) .ensures) (search (needs, reading, keeping))
 
 keep-pair-requires : tie.Need-keep-pair-requires
 keep-pair-requires c κs = search (needs, reading, keeping)
@@ -35,7 +38,7 @@ same-length : tie.Need-same-length
 same-length c = search needs
 
 returns-3 : tie.Need-returns-3
-returns-3 c = search (needs, reading, keeping)
+returns-3 c = rw (← (c .before .before .before .before .before .before .before .before .artifact-name-bytes) .ensures) (search (needs, reading, keeping))
 
 pub field-artifact-name-spec : {M : Type 1} → statement M
 field-artifact-name-spec =
@@ -44,6 +47,7 @@ field-artifact-name-spec =
     enum-known-r
     enum-told
     returns
+    artifact-name-bytes-requires
     read-artifact-string-requires
     enum-known-q
     enum-told-2

@@ -13,6 +13,9 @@ enum-told c = search needs
 returns : tie.Need-returns
 returns c = search (needs, reading, keeping)
 
+artifact-payload-bytes-requires : tie.Need-artifact-payload-bytes-requires
+artifact-payload-bytes-requires c κs = search needs
+
 read-artifact-bytes-requires : tie.Need-read-artifact-bytes-requires
 read-artifact-bytes-requires c κs = search (needs, reading, keeping)
 
@@ -26,7 +29,7 @@ refused-payload-requires : tie.Need-refused-payload-requires
 refused-payload-requires c κs = search needs
 
 returns-2 : tie.Need-returns-2
-returns-2 c = search (needs, reading, keeping)
+returns-2 c = rw (← (c .before .before .before .before .artifact-payload-bytes) .ensures) (search (needs, reading, keeping))
 
 keep-pair-requires : tie.Need-keep-pair-requires
 keep-pair-requires c κs = search (needs, reading, keeping)
@@ -35,7 +38,7 @@ same-length : tie.Need-same-length
 same-length c = search needs
 
 returns-3 : tie.Need-returns-3
-returns-3 c = search (needs, reading, keeping)
+returns-3 c = rw (← (c .before .before .before .before .before .before .before .before .artifact-payload-bytes) .ensures) (search (needs, reading, keeping))
 
 pub field-artifact-payload-spec : {M : Type 1} → statement M
 field-artifact-payload-spec =
@@ -44,6 +47,7 @@ field-artifact-payload-spec =
     enum-known-r
     enum-told
     returns
+    artifact-payload-bytes-requires
     read-artifact-bytes-requires
     enum-known-q
     enum-told-2

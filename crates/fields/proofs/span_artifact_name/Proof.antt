@@ -4,6 +4,9 @@ use borrow.Author.Needs.{needs}
 use Rattle.fields.proofs.span_artifact_name.Statement.{statement}
 use Rattle.fields.proofs.span_artifact_name.Tie as tie
 
+artifact-name-bytes-requires : tie.Need-artifact-name-bytes-requires
+artifact-name-bytes-requires c κs = search needs
+
 read-artifact-string-requires : tie.Need-read-artifact-string-requires
 read-artifact-string-requires c κs = search needs
 
@@ -17,7 +20,7 @@ span-requires : tie.Need-span-requires
 span-requires c κs = search needs
 
 returns : tie.Need-returns
-returns c = search (needs, reading, keeping)
+returns c = rw (← (c .before .before .before .before .artifact-name-bytes) .ensures) (search (needs, reading, keeping))
 
 keep-pair-requires : tie.Need-keep-pair-requires
 keep-pair-requires c κs = search (needs, reading, keeping)
@@ -26,12 +29,13 @@ same-length : tie.Need-same-length
 same-length c = search needs
 
 returns-2 : tie.Need-returns-2
-returns-2 c = search (needs, reading, keeping)
+returns-2 c = rw (← (c .before .before .before .before .before .before .before .before .artifact-name-bytes) .ensures) (search (needs, reading, keeping))
 
 pub span-artifact-name-spec : {M : Type 1} → statement M
 span-artifact-name-spec =
     tie.close
     (tie.spec
+    artifact-name-bytes-requires
     read-artifact-string-requires
     enum-known-q
     enum-told

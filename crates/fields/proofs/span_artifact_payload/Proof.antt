@@ -4,6 +4,9 @@ use borrow.Author.Needs.{needs}
 use Rattle.fields.proofs.span_artifact_payload.Statement.{statement}
 use Rattle.fields.proofs.span_artifact_payload.Tie as tie
 
+artifact-payload-bytes-requires : tie.Need-artifact-payload-bytes-requires
+artifact-payload-bytes-requires c κs = search needs
+
 read-artifact-bytes-requires : tie.Need-read-artifact-bytes-requires
 read-artifact-bytes-requires c κs = search needs
 
@@ -14,7 +17,7 @@ enum-told : tie.Need-enum-told
 enum-told c = search needs
 
 returns : tie.Need-returns
-returns c = search (needs, reading, keeping)
+returns c = rw (← (c .before .before .before .artifact-payload-bytes) .ensures) (search (needs, reading, keeping))
 
 keep-pair-requires : tie.Need-keep-pair-requires
 keep-pair-requires c κs = search (needs, reading, keeping)
@@ -23,12 +26,13 @@ same-length : tie.Need-same-length
 same-length c = search needs
 
 returns-2 : tie.Need-returns-2
-returns-2 c = search (needs, reading, keeping)
+returns-2 c = rw (← (c .before .before .before .before .before .before .before .before .artifact-payload-bytes) .ensures) (search (needs, reading, keeping))
 
 pub span-artifact-payload-spec : {M : Type 1} → statement M
 span-artifact-payload-spec =
     tie.close
     (tie.spec
+    artifact-payload-bytes-requires
     read-artifact-bytes-requires
     enum-known-q
     enum-told

@@ -1,3 +1,5 @@
+use denote.Ref.{now}
+use Rattle.vob24.specs.Settings.{settingsOf}
 use Rattle.vob24.specs.Refusals.{invalidInstructionMetadata}
 use Rattle.format.specs.Trace.{wrong}
 use Rattle.vob24.specs.Grammar.{code}
@@ -57,7 +59,7 @@ same-length-2 c = search needs
 
 returns-3 : tie.Need-returns-3
 unfolding code
-returns-3 c = at-step ((c .before .before .before .before .before .before .before .before .before .before .before .before .before .before .before .r) .given .1) (numberThen (λ m. seq metadataList (λ v. leaf (ask (sameCode (counted v) m)))) ((c .before .before .before .before .before .before .before .before .p) .given .1) ((c .before .before .before .before .before .before .before .before .before .before .before .before .number-instructions) .ensures) (numberNot _ ((c .before .enum-told3) .given .1) ((c .refused2) .ensures) ((c .before .before .before .before .before .number-instruction-metadata) .ensures)))
+returns-3 c = at-step ((c .before .before .before .before .before .before .before .before .before .before .before .before .before .before .before .r) .given .1) (numberThen (λ m. seq (metadataList (settingsOf (now (c .before .before .before .before .before .before .before .before .before .before .before .before .before .before .before .before .before .before .before .args .set)))) (λ v. leaf (ask (sameCode (counted v) m)))) ((c .before .before .before .before .before .before .before .before .p) .given .1) ((c .before .before .before .before .before .before .before .before .before .before .before .before .number-instructions) .ensures) (numberNot _ ((c .before .enum-told3) .given .1) ((c .refused2) .ensures) ((c .before .before .before .before .before .number-instruction-metadata) .ensures)))
 
 refuse-requires : tie.Need-refuse-requires
 refuse-requires c κs = search needs
@@ -67,14 +69,14 @@ same-length-3 c = search needs
 
 returns-4 : tie.Need-returns-4
 unfolding code
-returns-4 c = at-step ((c .before .before .before .before .before .before .before .before .before .before .before .before .before .before .before .before .before .r) .given .1) (numberThen (λ m. seq metadataList (λ v. leaf (ask (sameCode (counted v) m)))) ((c .before .before .before .before .before .before .before .before .before .before .p) .given .1) ((c .before .before .before .before .before .before .before .before .before .before .before .before .before .before .number-instructions) .ensures) (numberThen (λ n. leaf (ask (sameCode n ((c .before .before .before .before .before .before .before .before .before .before .p) .given .0 .0)))) ((c .before .before .before .q) .given .1) ((c .before .before .before .before .before .before .before .number-instruction-metadata) .ensures) (differ ((c .before .before .before .q) .given .0 .0) ((c .before .before .before .before .before .before .before .before .before .before .p) .given .0 .0) (wrong invalidInstructionMetadata 0) (got-ready ((c .before .before .before .q) .given .1) ((c .before .before .before .before .before .before .before .number-instruction-metadata) .ensures)) ((c .before .if1) .taken) ((c .refuse) .ensures))))
+returns-4 c = at-step ((c .before .before .before .before .before .before .before .before .before .before .before .before .before .before .before .before .before .r) .given .1) (numberThen (λ m. seq (metadataList (settingsOf (now (c .before .before .before .before .before .before .before .before .before .before .before .before .before .before .before .before .before .before .before .before .before .args .set)))) (λ v. leaf (ask (sameCode (counted v) m)))) ((c .before .before .before .before .before .before .before .before .before .before .p) .given .1) ((c .before .before .before .before .before .before .before .before .before .before .before .before .before .before .number-instructions) .ensures) (numberThen (λ n. leaf (ask (sameCode n ((c .before .before .before .before .before .before .before .before .before .before .p) .given .0 .0)))) ((c .before .before .before .q) .given .1) ((c .before .before .before .before .before .before .before .number-instruction-metadata) .ensures) (differ ((c .before .before .before .q) .given .0 .0) ((c .before .before .before .before .before .before .before .before .before .before .p) .given .0 .0) (wrong invalidInstructionMetadata 0) (got-ready ((c .before .before .before .q) .given .1) ((c .before .before .before .before .before .before .before .number-instruction-metadata) .ensures)) ((c .before .if1) .taken) ((c .refuse) .ensures))))
 
 same-length-4 : tie.Need-same-length-4
 same-length-4 c = search needs
 
 returns-5 : tie.Need-returns-5
 unfolding code
-returns-5 c = at-step ((c .before .before .before .before .before .before .before .before .before .before .before .before .before .before .before .before .r) .given .1) (numberThen (λ m. seq metadataList (λ v. leaf (ask (sameCode (counted v) m)))) ((c .before .before .before .before .before .before .before .before .before .p) .given .1) ((c .before .before .before .before .before .before .before .before .before .before .before .before .before .number-instructions) .ensures) (numberThen (λ n. leaf (ask (sameCode n ((c .before .before .before .before .before .before .before .before .before .p) .given .0 .0)))) ((c .before .before .q) .given .1) ((c .before .before .before .before .before .before .number-instruction-metadata) .ensures) (agree ((c .before .before .q) .given .0 .0) ((c .before .before .before .before .before .before .before .before .before .p) .given .0 .0) (wrong invalidInstructionMetadata 0) (got-ready ((c .before .before .q) .given .1) ((c .before .before .before .before .before .before .number-instruction-metadata) .ensures)) ((c .if1) .left))))
+returns-5 c = at-step ((c .before .before .before .before .before .before .before .before .before .before .before .before .before .before .before .before .r) .given .1) (numberThen (λ m. seq (metadataList (settingsOf (now (c .before .before .before .before .before .before .before .before .before .before .before .before .before .before .before .before .before .before .before .before .args .set)))) (λ v. leaf (ask (sameCode (counted v) m)))) ((c .before .before .before .before .before .before .before .before .before .p) .given .1) ((c .before .before .before .before .before .before .before .before .before .before .before .before .before .number-instructions) .ensures) (numberThen (λ n. leaf (ask (sameCode n ((c .before .before .before .before .before .before .before .before .before .p) .given .0 .0)))) ((c .before .before .q) .given .1) ((c .before .before .before .before .before .before .number-instruction-metadata) .ensures) (agree ((c .before .before .q) .given .0 .0) ((c .before .before .before .before .before .before .before .before .before .p) .given .0 .0) (wrong invalidInstructionMetadata 0) (got-ready ((c .before .before .q) .given .1) ((c .before .before .before .before .before .before .number-instruction-metadata) .ensures)) ((c .if1) .left))))
 
 pub code-spec : {M : Type 1} → statement M
 code-spec =

@@ -1,3 +1,5 @@
+use denote.Ref.{now}
+use Rattle.vob24.specs.Settings.{settingsOf}
 use Rattle.vob24.specs.Grammar.{function}
 use Rattle.format.specs.Format.{_▸_}
 use Rattle.functions.specs.Formats.{functionReturns, functionTraits, functionSlots}
@@ -56,7 +58,7 @@ same-length-3 c = search needs
 
 returns-3 : tie.Need-returns-3
 unfolding function
-returns-3 c = fieldThen ((c .before .before .before .before .before .before .before .before .before .before .before .before .before .before .before .before .before .before .before .before .before .before .before .before .function-head) .ensures) λ _. at-step ((c .before .before .before .before .before .before .before .before .before .before .before .before .before .before .before .before .before .before .before .before .head) .given .1) (numberThen (λ locals. functionReturns ▸ functionTraits ▸ functionSlots locals) ((c .before .before .before .before .before .before .before .before .before .before .before .before .before .q) .given .1) ((c .before .before .before .before .before .before .before .before .before .before .before .before .before .before .before .before .before .number-u16) .ensures) (fieldThen ((c .before .before .before .before .before .before .before .before .before .before .function-returns) .ensures) λ _. fieldThen ((c .before .before .before .before .before .before .function-traits) .ensures) λ _. (c .before .before .function-slots) .ensures))
+returns-3 c = fieldThen ((c .before .before .before .before .before .before .before .before .before .before .before .before .before .before .before .before .before .before .before .before .before .before .before .before .function-head) .ensures) λ _. at-step ((c .before .before .before .before .before .before .before .before .before .before .before .before .before .before .before .before .before .before .before .before .head) .given .1) (numberThen (λ locals. (functionReturns (settingsOf (now (c .before .before .before .before .before .before .before .before .before .before .before .before .before .before .before .before .before .before .before .before .before .before .before .before .before .before .before .before .args .set)))) ▸ functionTraits ▸ (functionSlots (settingsOf (now (c .before .before .before .before .before .before .before .before .before .before .before .before .before .before .before .before .before .before .before .before .before .before .before .before .before .before .before .before .args .set)))) locals) ((c .before .before .before .before .before .before .before .before .before .before .before .before .before .q) .given .1) ((c .before .before .before .before .before .before .before .before .before .before .before .before .before .before .before .before .before .number-u16) .ensures) (fieldThen ((c .before .before .before .before .before .before .before .before .before .before .function-returns) .ensures) λ _. fieldThen ((c .before .before .before .before .before .before .function-traits) .ensures) λ _. (c .before .before .function-slots) .ensures))
 
 pub function-spec : {M : Type 1} → statement M
 function-spec =

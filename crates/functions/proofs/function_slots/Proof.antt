@@ -1,3 +1,5 @@
+use denote.Ref.{now}
+use Rattle.vob24.specs.Settings.{settingsOf}
 use Rattle.functions.specs.Formats.{functionBody}
 use Rattle.reader.proofs.Parts.{partNot}
 use Rattle.reader.proofs.Laws.{at-step, at-refused, ready-at, got-ready, numberThen}
@@ -39,7 +41,7 @@ same-length-2 : tie.Need-same-length-2
 same-length-2 c = search needs
 
 returns-3 : tie.Need-returns-3
-returns-3 c = at-step ((c .before .before .before .before .before .before .before .before .before .before .before .before .r) .given .1) (numberThen (λ types. functionBody types ((c .before .before .before .before .before .before .before .before .before .before .before .before .before .before .before .before .args) .locals)) ((c .before .before .before .before .before .q) .given .1) ((c .before .before .before .before .before .before .before .before .before .number-slot-types) .ensures) ((c .before .before .function-body) .ensures))
+returns-3 c = at-step ((c .before .before .before .before .before .before .before .before .before .before .before .before .r) .given .1) (numberThen (λ types. (functionBody (settingsOf (now (c .before .before .before .before .before .before .before .before .before .before .before .before .before .before .before .before .args .set)))) types ((c .before .before .before .before .before .before .before .before .before .before .before .before .before .before .before .before .args) .locals)) ((c .before .before .before .before .before .q) .given .1) ((c .before .before .before .before .before .before .before .before .before .number-slot-types) .ensures) ((c .before .before .function-body) .ensures))
 
 pub function-slots-spec : {M : Type 1} → statement M
 function-slots-spec =

@@ -1,5 +1,6 @@
 use borrow.Author.Needs.{needs}
-use Rattle.vob24.specs.Settings.{settings}
+use Rattle.vob24.specs.Settings.{settingsOf}
+use denote.Ref.{now}
 use Rattle.vob24.specs.Grammar.{interface as interfaceRecord, methodSet}
 use Rattle.items.specs.Items.{namesOf}
 use Rattle.items.specs.declared.Item.the-variants.{InterfaceMethod}
@@ -22,7 +23,7 @@ interface-methods-requires c κs = search needs
 
 method-set-requires : tie.Need-method-set-requires
 unfolding interfaceRecord
-method-set-requires c κs = (first-behind ((c .before .before .before .before .before .before .method-names) .ensures) ((c .before .before .interface-methods) .ensures) ((c .before .before .before .before .before .before .before .before .before .before .field-str) .ensures .ready), granted-list (λ x a. fieldThen ((c .before .before .before .before .before .before .before .before .before .before .field-str) .ensures) (λ _. listsAsk ((c .before .before .before .before .before .before .method-names) .ensures) ((c .before .before .interface-methods) .ensures) a (list-refused {l = λ vs. methodSet settings (namesOf InterfaceMethod vs)} refl))) (c .before .before .before .before .before .before .before .before .before .before .before .before .before .before .pre .1))
+method-set-requires c κs = (first-behind ((c .before .before .before .before .before .before .method-names) .ensures) ((c .before .before .interface-methods) .ensures) ((c .before .before .before .before .before .before .before .before .before .before .field-str) .ensures .ready), granted-list (λ x a. fieldThen ((c .before .before .before .before .before .before .before .before .before .before .field-str) .ensures) (λ _. listsAsk ((c .before .before .before .before .before .before .method-names) .ensures) ((c .before .before .interface-methods) .ensures) a (list-refused {l = λ vs. methodSet (settingsOf (now (c .before .before .before .before .before .before .before .before .before .before .before .before .before .before .args .set))) (namesOf InterfaceMethod vs)} refl))) (c .before .before .before .before .before .before .before .before .before .before .before .before .before .before .pre .1))
 
 method-set-requires-2 : tie.Need-method-set-requires-2
 unfolding interfaceRecord

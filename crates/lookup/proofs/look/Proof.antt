@@ -1,14 +1,15 @@
 use borrow.Author.Needs.{needs}
+use Rattle.vob24.specs.Settings.{settingsOf}
 use native.Mathlib.Omega.{arith}
 use Rattle.lookup.proofs.Laws.{Looking, looking-start, looking-here, looking-room, looking-found, looking-on, looking-done}
 use Rattle.lookup.proofs.look.Statement.{statement}
 use Rattle.lookup.proofs.look.Tie as tie
 
 abbrev Inv-loop : tie.InvT-loop
-Inv-loop s from n name end at₀ k₀ at k = Looking s from n name end at k
+Inv-loop s set from n name end at₀ k₀ at k = Looking (settingsOf set) s from n name end at k
 
 abbrev μ-loop : tie.MeasureT-loop
-μ-loop s from n name end at₀ k₀ at k = k
+μ-loop s set from n name end at₀ k₀ at k = k
 
 loop-holds : tie.Need-loop-holds Inv-loop μ-loop
 loop-holds c = looking-start ((c .before .before .pre))
@@ -34,8 +35,8 @@ add-is-name c = omega (arith, looking-room ((c .before .before .before .loop) .i
 is-name-requires : tie.Need-is-name-requires Inv-loop μ-loop
 is-name-requires c κs = omega (arith, looking-room ((c .before .before .before .loop) .inv) ((c .before .before .loop-test) .taken) ((c .before .word-at) .ensures) ((c .word-at2) .ensures))
 
-add-t15 : tie.Need-add-t15 Inv-loop μ-loop
-add-t15 c = omega (arith, looking-room ((c .before .before .before .before .before .loop) .inv) ((c .before .before .before .before .loop-test) .taken) ((c .before .before .before .word-at) .ensures) ((c .before .before .word-at2) .ensures))
+add-t16 : tie.Need-add-t16 Inv-loop μ-loop
+add-t16 c = omega (arith, looking-room ((c .before .before .before .before .before .loop) .inv) ((c .before .before .before .before .loop-test) .taken) ((c .before .before .before .word-at) .ensures) ((c .before .before .word-at2) .ensures))
 
 returns : tie.Need-returns Inv-loop μ-loop
 returns c = looking-found ((c .before .before .before .before .before .loop) .inv) ((c .before .before .before .before .loop-test) .taken) ((c .before .before .before .word-at) .ensures) ((c .before .before .word-at2) .ensures) ((c .before .is-name) .ensures) ((c .if1) .taken)
@@ -72,7 +73,7 @@ look-spec =
     word-at-requires-2
     add-is-name
     is-name-requires
-    add-t15
+    add-t16
     returns
     add-at
     add-at-2

@@ -43,11 +43,11 @@ same-length-2 c = search needs
 returns-2 : tie.Need-returns-2
 returns-2 c = search (needs, reading, recording)
 
-cast-t15 : tie.Need-cast-t15
-cast-t15 c = record { fits = fixed-fits ((c .before .before .before .before .before .before .before .before .q1) .given .1) ((c .before .before .before .before .before .before .before .before .before .before .before .before .number-u32) .ensures) (λ i. omega (arith, (c .before .before .before .before .before .before .before .before .before .before .before .before .before .before .before .shared-slice-known) .given i)) }
-
 cast-t16 : tie.Need-cast-t16
-cast-t16 c = record { fits = fixed-fits ((c .before .q2) .given .1) ((c .before .before .before .before .before .number-u322) .ensures) (λ i. omega (arith, (c .before .before .before .before .before .before .before .before .before .before .before .before .before .before .before .shared-slice-known) .given i)) }
+cast-t16 c = record { fits = fixed-fits ((c .before .before .before .before .before .before .before .before .q1) .given .1) ((c .before .before .before .before .before .before .before .before .before .before .before .before .number-u32) .ensures) (λ i. omega (arith, (c .before .before .before .before .before .before .before .before .before .before .before .before .before .before .before .shared-slice-known) .given i)) }
+
+cast-t17 : tie.Need-cast-t17
+cast-t17 c = record { fits = fixed-fits ((c .before .q2) .given .1) ((c .before .before .before .before .before .number-u322) .ensures) (λ i. omega (arith, (c .before .before .before .before .before .before .before .before .before .before .before .before .before .before .before .shared-slice-known) .given i)) }
 
 layouts-requires : tie.Need-layouts-requires
 layouts-requires c κs = got-ready ((c .before .before .q2) .given .1) ((c .before .before .before .before .before .before .number-u322) .ensures)
@@ -56,7 +56,7 @@ same-length-3 : tie.Need-same-length-3
 same-length-3 c = search needs
 
 returns-3 : tie.Need-returns-3
-returns-3 c = callIfaceRecord ((c .before .before .before .before .before .before .before .before .before .before .before .before .q1) .given .1) ((c .before .before .before .before .before .q2) .given .1) ((c .before .before .before .before .before .before .before .before .before .before .before .before .before .before .before .before .number-u32) .ensures) ((c .before .before .before .before .before .before .before .before .before .number-u322) .ensures) ((c .before .before .layouts) .ensures)
+returns-3 c = callIfaceRecord _ ((c .before .before .before .before .before .before .before .before .before .before .before .before .q1) .given .1) ((c .before .before .before .before .before .q2) .given .1) ((c .before .before .before .before .before .before .before .before .before .before .before .before .before .before .before .before .number-u32) .ensures) ((c .before .before .before .before .before .before .before .before .before .number-u322) .ensures) ((c .before .before .layouts) .ensures)
 
 pub call-iface-layout-spec : {M : Type 1} → statement M
 call-iface-layout-spec =
@@ -74,8 +74,8 @@ call-iface-layout-spec =
     not-metadata-requires-2
     same-length-2
     returns-2
-    cast-t15
     cast-t16
+    cast-t17
     layouts-requires
     same-length-3
     returns-3)

@@ -43,8 +43,8 @@ same-length-2 c = search needs
 returns-2 : tie.Need-returns-2
 returns-2 c = search (needs, reading, recording)
 
-cast-t15 : tie.Need-cast-t15
-cast-t15 c = record { fits = fixed-fits ((c .before .before .before .before .before .before .before .before .q1) .given .1) ((c .before .before .before .before .before .before .before .before .before .before .before .before .number-u32) .ensures) (λ i. omega (arith, (c .before .before .before .before .before .before .before .before .before .before .before .before .before .before .before .shared-slice-known) .given i)) }
+cast-t16 : tie.Need-cast-t16
+cast-t16 c = record { fits = fixed-fits ((c .before .before .before .before .before .before .before .before .q1) .given .1) ((c .before .before .before .before .before .before .before .before .before .before .before .before .number-u32) .ensures) (λ i. omega (arith, (c .before .before .before .before .before .before .before .before .before .before .before .before .before .before .before .shared-slice-known) .given i)) }
 
 layout-requires : tie.Need-layout-requires
 layout-requires c κs = got-ready ((c .before .before .q2) .given .1) ((c .before .before .before .before .before .before .number-bool) .ensures)
@@ -53,7 +53,7 @@ same-length-3 : tie.Need-same-length-3
 same-length-3 c = search needs
 
 returns-3 : tie.Need-returns-3
-returns-3 c = elemRecord ((c .before .before .before .before .before .before .before .before .before .before .before .before .q1) .given .1) ((c .before .before .before .before .before .q2) .given .1) ((c .before .before .before .before .before .before .before .before .before .before .before .before .before .before .before .before .number-u32) .ensures) ((c .before .before .before .before .before .before .before .before .before .number-bool) .ensures) ((c .before .before .layout) .ensures)
+returns-3 c = elemRecord _ ((c .before .before .before .before .before .before .before .before .before .before .before .before .q1) .given .1) ((c .before .before .before .before .before .q2) .given .1) ((c .before .before .before .before .before .before .before .before .before .before .before .before .before .before .before .before .number-u32) .ensures) ((c .before .before .before .before .before .before .before .before .before .number-bool) .ensures) ((c .before .before .layout) .ensures)
 
 pub elem-layout-spec : {M : Type 1} → statement M
 elem-layout-spec =
@@ -71,7 +71,7 @@ elem-layout-spec =
     not-metadata-requires-2
     same-length-2
     returns-2
-    cast-t15
+    cast-t16
     layout-requires
     same-length-3
     returns-3)

@@ -44,11 +44,11 @@ same-length-2 c = search needs
 returns-2 : tie.Need-returns-2
 returns-2 c = search (needs, reading, recording)
 
-cast-t15 : tie.Need-cast-t15
-cast-t15 c = omega (arith, tag-most-bare ((c .before .before .before .before .before .before .before .before .q1) .given .1) ((c .before .before .before .before .before .before .before .before .before .before .before .before .number-assert-kind) .ensures))
-
 cast-t16 : tie.Need-cast-t16
-cast-t16 c = record { fits = fixed-fits ((c .before .q2) .given .1) ((c .before .before .before .before .before .number-u32) .ensures) (λ i. omega (arith, (c .before .before .before .before .before .before .before .before .before .before .before .before .before .before .before .shared-slice-known) .given i)) }
+cast-t16 c = omega (arith, tag-most-bare ((c .before .before .before .before .before .before .before .before .q1) .given .1) ((c .before .before .before .before .before .before .before .before .before .before .before .before .number-assert-kind) .ensures))
+
+cast-t17 : tie.Need-cast-t17
+cast-t17 c = record { fits = fixed-fits ((c .before .q2) .given .1) ((c .before .before .before .before .before .number-u32) .ensures) (λ i. omega (arith, (c .before .before .before .before .before .before .before .before .before .before .before .before .before .before .before .shared-slice-known) .given i)) }
 
 layout-requires : tie.Need-layout-requires
 layout-requires c κs = got-ready ((c .before .before .q2) .given .1) ((c .before .before .before .before .before .before .number-u32) .ensures)
@@ -57,7 +57,7 @@ same-length-3 : tie.Need-same-length-3
 same-length-3 c = search needs
 
 returns-3 : tie.Need-returns-3
-returns-3 c = assertRecord ((c .before .before .before .before .before .before .before .before .before .before .before .before .q1) .given .1) ((c .before .before .before .before .before .q2) .given .1) ((c .before .before .before .before .before .before .before .before .before .before .before .before .before .before .before .before .number-assert-kind) .ensures) ((c .before .before .before .before .before .before .before .before .before .number-u32) .ensures) ((c .before .before .layout) .ensures)
+returns-3 c = assertRecord _ ((c .before .before .before .before .before .before .before .before .before .before .before .before .q1) .given .1) ((c .before .before .before .before .before .q2) .given .1) ((c .before .before .before .before .before .before .before .before .before .before .before .before .before .before .before .before .number-assert-kind) .ensures) ((c .before .before .before .before .before .before .before .before .before .number-u32) .ensures) ((c .before .before .layout) .ensures)
 
 pub iface-assert-layout-spec : {M : Type 1} → statement M
 iface-assert-layout-spec =
@@ -75,8 +75,8 @@ iface-assert-layout-spec =
     not-metadata-requires-2
     same-length-2
     returns-2
-    cast-t15
     cast-t16
+    cast-t17
     layout-requires
     same-length-3
     returns-3)

@@ -78,97 +78,97 @@ same-length-2 : tie.Need-same-length-2
 same-length-2 c = search needs
 
 returns-2 : tie.Need-returns-2
-returns-2 c = metadataAt 0 ((c .before .before .before .q) .given .1) ((c .before .match2) .keys1) ((c .before .before .before .before .before .before .before .number-metadata-tag) .ensures) (recordedEmpty (got-ready ((c .before .before .before .q) .given .1) ((c .before .before .before .before .before .before .before .number-metadata-tag) .ensures)) ((c .bare) .ensures))
+returns-2 c = metadataAt _ 0 ((c .before .before .before .q) .given .1) ((c .before .match2) .keys1) ((c .before .before .before .before .before .before .before .number-metadata-tag) .ensures) (recordedEmpty (got-ready ((c .before .before .before .q) .given .1) ((c .before .before .before .before .before .before .before .number-metadata-tag) .ensures)) ((c .bare) .ensures))
 
 same-length-3 : tie.Need-same-length-3
 same-length-3 c = search needs
 
 returns-3 : tie.Need-returns-3
-returns-3 c = metadataAt 1 ((c .before .before .before .before .before .before .q) .given .1) ((c .before .before .before .before .match2) .keys2) ((c .before .before .before .before .before .before .before .before .before .before .number-metadata-tag) .ensures) ((c .before .before .elem-layout) .ensures)
+returns-3 c = metadataAt _ 1 ((c .before .before .before .before .before .before .q) .given .1) ((c .before .before .before .before .match2) .keys2) ((c .before .before .before .before .before .before .before .before .before .before .number-metadata-tag) .ensures) ((c .before .before .elem-layout) .ensures)
 
 same-length-4 : tie.Need-same-length-4
 same-length-4 c = search needs
 
 returns-4 : tie.Need-returns-4
-returns-4 c = metadataAt 2 ((c .before .before .before .before .before .before .q) .given .1) ((c .before .before .before .before .match2) .keys3) ((c .before .before .before .before .before .before .before .before .before .before .number-metadata-tag) .ensures) ((c .before .before .map-get) .ensures)
+returns-4 c = metadataAt _ 2 ((c .before .before .before .before .before .before .q) .given .1) ((c .before .before .before .before .match2) .keys3) ((c .before .before .before .before .before .before .before .before .before .before .number-metadata-tag) .ensures) ((c .before .before .map-get) .ensures)
 
 same-length-5 : tie.Need-same-length-5
 same-length-5 c = search needs
 
 returns-5 : tie.Need-returns-5
-returns-5 c = metadataAt 3 ((c .before .before .before .before .before .before .q) .given .1) ((c .before .before .before .before .match2) .keys4) ((c .before .before .before .before .before .before .before .before .before .before .number-metadata-tag) .ensures) ((c .before .before .layouts) .ensures)
+returns-5 c = metadataAt _ 3 ((c .before .before .before .before .before .before .q) .given .1) ((c .before .before .before .before .match2) .keys4) ((c .before .before .before .before .before .before .before .before .before .before .number-metadata-tag) .ensures) ((c .before .before .layouts) .ensures)
 
 same-length-6 : tie.Need-same-length-6
 same-length-6 c = search needs
 
 returns-6 : tie.Need-returns-6
-returns-6 c = metadataAt 4 ((c .before .before .before .before .before .before .q) .given .1) ((c .before .before .before .before .match2) .keys5) ((c .before .before .before .before .before .before .before .before .before .before .number-metadata-tag) .ensures) ((c .before .before .layout) .ensures)
+returns-6 c = metadataAt _ 4 ((c .before .before .before .before .before .before .q) .given .1) ((c .before .before .before .before .match2) .keys5) ((c .before .before .before .before .before .before .before .before .before .before .number-metadata-tag) .ensures) ((c .before .before .layout) .ensures)
 
 same-length-7 : tie.Need-same-length-7
 same-length-7 c = search needs
 
 returns-7 : tie.Need-returns-7
-returns-7 c = metadataAt 5 ((c .before .before .before .before .before .before .q) .given .1) ((c .before .before .before .before .match2) .keys6) ((c .before .before .before .before .before .before .before .before .before .before .number-metadata-tag) .ensures) ((c .before .before .loop-end) .ensures)
+returns-7 c = metadataAt _ 5 ((c .before .before .before .before .before .before .q) .given .1) ((c .before .before .before .before .match2) .keys6) ((c .before .before .before .before .before .before .before .before .before .before .number-metadata-tag) .ensures) ((c .before .before .loop-end) .ensures)
 
 same-length-8 : tie.Need-same-length-8
 same-length-8 c = search needs
 
 returns-8 : tie.Need-returns-8
-returns-8 c = metadataAt 9 ((c .before .before .before .before .before .before .q) .given .1) ((c .before .before .before .before .match2) .keys7) ((c .before .before .before .before .before .before .before .before .before .before .number-metadata-tag) .ensures) ((c .before .before .layout2) .ensures)
+returns-8 c = metadataAt _ 9 ((c .before .before .before .before .before .before .q) .given .1) ((c .before .before .before .before .match2) .keys7) ((c .before .before .before .before .before .before .before .before .before .before .number-metadata-tag) .ensures) ((c .before .before .layout2) .ensures)
 
 same-length-9 : tie.Need-same-length-9
 same-length-9 c = search needs
 
 returns-9 : tie.Need-returns-9
-returns-9 c = metadataAt 10 ((c .before .before .before .before .before .before .q) .given .1) ((c .before .before .before .before .match2) .keys8) ((c .before .before .before .before .before .before .before .before .before .before .number-metadata-tag) .ensures) ((c .before .before .slot-layout) .ensures)
+returns-9 c = metadataAt _ 10 ((c .before .before .before .before .before .before .q) .given .1) ((c .before .before .before .before .match2) .keys8) ((c .before .before .before .before .before .before .before .before .before .before .number-metadata-tag) .ensures) ((c .before .before .slot-layout) .ensures)
 
 same-length-10 : tie.Need-same-length-10
 same-length-10 c = search needs
 
 returns-10 : tie.Need-returns-10
-returns-10 c = metadataAt 11 ((c .before .before .before .before .before .before .q) .given .1) ((c .before .before .before .before .match2) .keys9) ((c .before .before .before .before .before .before .before .before .before .before .number-metadata-tag) .ensures) ((c .before .before .layouts2) .ensures)
+returns-10 c = metadataAt _ 11 ((c .before .before .before .before .before .before .q) .given .1) ((c .before .before .before .before .match2) .keys9) ((c .before .before .before .before .before .before .before .before .before .before .number-metadata-tag) .ensures) ((c .before .before .layouts2) .ensures)
 
 same-length-11 : tie.Need-same-length-11
 same-length-11 c = search needs
 
 returns-11 : tie.Need-returns-11
-returns-11 c = metadataAt 12 ((c .before .before .before .before .before .before .q) .given .1) ((c .before .before .before .before .match2) .keys10) ((c .before .before .before .before .before .before .before .before .before .before .number-metadata-tag) .ensures) ((c .before .before .layouts3) .ensures)
+returns-11 c = metadataAt _ 12 ((c .before .before .before .before .before .before .q) .given .1) ((c .before .before .before .before .match2) .keys10) ((c .before .before .before .before .before .before .before .before .before .before .number-metadata-tag) .ensures) ((c .before .before .layouts3) .ensures)
 
 same-length-12 : tie.Need-same-length-12
 same-length-12 c = search needs
 
 returns-12 : tie.Need-returns-12
-returns-12 c = metadataAt 13 ((c .before .before .before .before .before .before .q) .given .1) ((c .before .before .before .before .match2) .keys11) ((c .before .before .before .before .before .before .before .before .before .before .number-metadata-tag) .ensures) ((c .before .before .layout3) .ensures)
+returns-12 c = metadataAt _ 13 ((c .before .before .before .before .before .before .q) .given .1) ((c .before .before .before .before .match2) .keys11) ((c .before .before .before .before .before .before .before .before .before .before .number-metadata-tag) .ensures) ((c .before .before .layout3) .ensures)
 
 same-length-13 : tie.Need-same-length-13
 same-length-13 c = search needs
 
 returns-13 : tie.Need-returns-13
-returns-13 c = metadataAt 14 ((c .before .before .before .before .before .before .q) .given .1) ((c .before .before .before .before .match2) .keys12) ((c .before .before .before .before .before .before .before .before .before .before .number-metadata-tag) .ensures) ((c .before .before .layouts4) .ensures)
+returns-13 c = metadataAt _ 14 ((c .before .before .before .before .before .before .q) .given .1) ((c .before .before .before .before .match2) .keys12) ((c .before .before .before .before .before .before .before .before .before .before .number-metadata-tag) .ensures) ((c .before .before .layouts4) .ensures)
 
 same-length-14 : tie.Need-same-length-14
 same-length-14 c = search needs
 
 returns-14 : tie.Need-returns-14
-returns-14 c = metadataAt 15 ((c .before .before .before .before .before .before .q) .given .1) ((c .before .before .before .before .match2) .keys13) ((c .before .before .before .before .before .before .before .before .before .before .number-metadata-tag) .ensures) ((c .before .before .iface-assert-layout) .ensures)
+returns-14 c = metadataAt _ 15 ((c .before .before .before .before .before .before .q) .given .1) ((c .before .before .before .before .match2) .keys13) ((c .before .before .before .before .before .before .before .before .before .before .number-metadata-tag) .ensures) ((c .before .before .iface-assert-layout) .ensures)
 
 same-length-15 : tie.Need-same-length-15
 same-length-15 c = search needs
 
 returns-15 : tie.Need-returns-15
-returns-15 c = metadataAt 16 ((c .before .before .before .before .before .before .q) .given .1) ((c .before .before .before .before .match2) .keys14) ((c .before .before .before .before .before .before .before .before .before .before .number-metadata-tag) .ensures) ((c .before .before .layouts5) .ensures)
+returns-15 c = metadataAt _ 16 ((c .before .before .before .before .before .before .q) .given .1) ((c .before .before .before .before .match2) .keys14) ((c .before .before .before .before .before .before .before .before .before .before .number-metadata-tag) .ensures) ((c .before .before .layouts5) .ensures)
 
 same-length-16 : tie.Need-same-length-16
 same-length-16 c = search needs
 
 returns-16 : tie.Need-returns-16
-returns-16 c = metadataAt 17 ((c .before .before .before .before .before .before .q) .given .1) ((c .before .before .before .before .match2) .keys15) ((c .before .before .before .before .before .before .before .before .before .before .number-metadata-tag) .ensures) ((c .before .before .call-iface-layout) .ensures)
+returns-16 c = metadataAt _ 17 ((c .before .before .before .before .before .before .q) .given .1) ((c .before .before .before .before .match2) .keys15) ((c .before .before .before .before .before .before .before .before .before .before .number-metadata-tag) .ensures) ((c .before .before .call-iface-layout) .ensures)
 
 same-length-17 : tie.Need-same-length-17
 same-length-17 c = search needs
 
 returns-17 : tie.Need-returns-17
-returns-17 c = metadataAt 18 ((c .before .before .before .before .before .before .q) .given .1) (last-tag ((c .before .before .before .before .before .before .q) .given .1) ((c .before .before .before .before .before .before .before .before .before .before .number-metadata-tag) .ensures) ((c .before .before .before .before .match2) .rest)) ((c .before .before .before .before .before .before .before .before .before .before .number-metadata-tag) .ensures) ((c .before .before .select-exec-layout) .ensures)
+returns-17 c = metadataAt _ 18 ((c .before .before .before .before .before .before .q) .given .1) (last-tag ((c .before .before .before .before .before .before .q) .given .1) ((c .before .before .before .before .before .before .before .before .before .before .number-metadata-tag) .ensures) ((c .before .before .before .before .match2) .rest)) ((c .before .before .before .before .before .before .before .before .before .before .number-metadata-tag) .ensures) ((c .before .before .select-exec-layout) .ensures)
 
 pub instruction-metadata-spec : {M : Type 1} → statement M
 instruction-metadata-spec =

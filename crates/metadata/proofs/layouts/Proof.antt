@@ -52,7 +52,7 @@ same-length-3 : tie.Need-same-length-3
 same-length-3 c = search needs
 
 returns-3 : tie.Need-returns-3
-returns-3 c = twoLayout ((c .before .before .before .before .before .before .before .before .before .before .q1) .given .1) ((c .before .before .before .before .before .before .before .before .before .before .before .before .before .before .number-slot-types) .ensures) ((c .before .before .before .q2) .given .1) ((c .before .before .before .before .before .before .before .number-slot-types2) .ensures) ((c .before .items-at) .ensures) ((c .items-at2) .ensures)
+returns-3 c = twoLayout _ ((c .before .before .before .before .before .before .before .before .before .before .q1) .given .1) ((c .before .before .before .before .before .before .before .before .before .before .before .before .before .before .number-slot-types) .ensures) ((c .before .before .before .q2) .given .1) ((c .before .before .before .before .before .before .before .number-slot-types2) .ensures) ((c .before .items-at) .ensures) ((c .items-at2) .ensures)
 
 pub layouts-spec : {M : Type 1} → statement M
 layouts-spec =

@@ -68,10 +68,10 @@ items-at-requires-2 : tie.Need-items-at-requires-2
 items-at-requires-2 c κs = got-ready ((c .before .before .before .before .before .before .before .before .before .before .before .before .before .before .before .before .q1) .given .1) ((c .before .before .before .before .before .before .before .before .before .before .before .before .before .before .before .before .before .before .before .before .number-slot-types) .ensures)
 
 same-length-4 : tie.Need-same-length-4
-same-length-4 c = omega (arith, (c .before .before .before .before .before .before .before .before .before .before .before .before .before .before .before .before .before .before .before .before .before .number-slot-types) .kept .1 .1 .0, (c .before .before .before .before .before .before .before .before .before .before .before .before .before .before .number-slot-types2) .kept .1 .1 .0, (c .before .before .before .before .before .before .before .number-bool) .kept .1 .1 .0)
+same-length-4 c = omega (arith, (c .before .before .before .before .before .before .before .before .before .before .before .before .before .before .before .before .before .before .before .before .before .number-slot-types) .kept .1 .1 .1 .0, (c .before .before .before .before .before .before .before .before .before .before .before .before .before .before .number-slot-types2) .kept .1 .1 .1 .0, (c .before .before .before .before .before .before .before .number-bool) .kept .1 .1 .0)
 
 returns-4 : tie.Need-returns-4
-returns-4 c = mapGetLayout ((c .before .before .before .before .before .before .before .before .before .before .before .before .before .before .before .before .before .q1) .given .1) ((c .before .before .before .before .before .before .before .before .before .before .before .before .before .before .before .before .before .before .before .before .before .number-slot-types) .ensures) ((c .before .before .before .before .before .before .before .before .before .before .q2) .given .1) ((c .before .before .before .before .before .before .before .before .before .before .before .before .before .before .number-slot-types2) .ensures) ((c .before .items-at) .ensures) ((c .items-at2) .ensures) ((c .before .before .before .q3) .given .1) ((c .before .before .before .before .before .before .before .number-bool) .ensures)
+returns-4 c = mapGetLayout _ ((c .before .before .before .before .before .before .before .before .before .before .before .before .before .before .before .before .before .q1) .given .1) ((c .before .before .before .before .before .before .before .before .before .before .before .before .before .before .before .before .before .before .before .before .before .number-slot-types) .ensures) ((c .before .before .before .before .before .before .before .before .before .before .q2) .given .1) ((c .before .before .before .before .before .before .before .before .before .before .before .before .before .before .number-slot-types2) .ensures) ((c .before .items-at) .ensures) ((c .items-at2) .ensures) ((c .before .before .before .q3) .given .1) ((c .before .before .before .before .before .before .before .number-bool) .ensures)
 
 pub map-get-spec : {M : Type 1} → statement M
 map-get-spec =

@@ -29,7 +29,7 @@ same-length : tie.Need-same-length
 same-length c = search needs
 
 returns-2 : tie.Need-returns-2
-returns-2 c = noneNext (c .before .before .before .before .before .before .before .before .r .given .1) (c .before .before .before .number-metadata-tag .ensures) (c .before .before .before .before .before .before .is-tag .ensures (c .before .before .before .before .before .if1 .taken)) (c .refused .ensures)
+returns-2 c = noneNext _ (c .before .before .before .before .before .before .before .before .r .given .1) (c .before .before .before .number-metadata-tag .ensures) (c .before .before .before .before .before .before .is-tag .ensures (c .before .before .before .before .before .if1 .taken)) (c .refused .ensures)
 
 is-tag-requires-2 : tie.Need-is-tag-requires-2
 is-tag-requires-2 c κs = ready-at (c .before .before .before .r .given .1) (c .before .before .before .before .before .before .before .pre) .within
@@ -60,7 +60,7 @@ same-length-3 : tie.Need-same-length-3
 same-length-3 c = search needs
 
 returns-4 : tie.Need-returns-4
-returns-4 c = callNext (c .before .before .before .before .before .before .before .before .before .before .before .before .before .before .before .before .r .given .1) (c .before .before .before .before .before .before .before .before .before .number-metadata-tag2 .ensures) (c .before .before .before .before .before .before .before .before .before .before .before .before .is-tag2 .ensures (c .before .before .before .before .before .before .before .before .before .before .before .if2 .taken)) (c .before .before .before .before .before .q .given .1) (c .before .before .two-layouts .ensures)
+returns-4 c = callNext _ (c .before .before .before .before .before .before .before .before .before .before .before .before .before .before .before .before .r .given .1) (c .before .before .before .before .before .before .before .before .before .number-metadata-tag2 .ensures) (c .before .before .before .before .before .before .before .before .before .before .before .before .is-tag2 .ensures (c .before .before .before .before .before .before .before .before .before .before .before .if2 .taken)) (c .before .before .before .before .before .q .given .1) (c .before .before .two-layouts .ensures)
 
 instruction-metadata-requires : tie.Need-instruction-metadata-requires
 instruction-metadata-requires c κs = search (needs, reading)

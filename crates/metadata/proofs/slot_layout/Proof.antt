@@ -24,8 +24,8 @@ same-length c = search needs
 returns : tie.Need-returns
 returns c = search (needs, reading, recording)
 
-cast-t10 : tie.Need-cast-t10
-cast-t10 c = record { fits = fixed-fits ((c .before .q) .given .1) ((c .before .before .before .before .before .number-u16) .ensures) (λ i. omega (arith, (c .before .before .before .before .before .before .before .before .shared-slice-known) .given i)) }
+cast-t11 : tie.Need-cast-t11
+cast-t11 c = record { fits = fixed-fits ((c .before .q) .given .1) ((c .before .before .before .before .before .number-u16) .ensures) (λ i. omega (arith, (c .before .before .before .before .before .before .before .before .shared-slice-known) .given i)) }
 
 layout-requires : tie.Need-layout-requires
 layout-requires c κs = search (needs, reading, recording)
@@ -34,7 +34,7 @@ same-length-2 : tie.Need-same-length-2
 same-length-2 c = search needs
 
 returns-2 : tie.Need-returns-2
-returns-2 c = slotRecord ((c .before .before .before .before .before .q) .given .1) ((c .before .before .before .before .before .before .before .before .before .number-u16) .ensures) ((c .before .before .layout) .ensures)
+returns-2 c = slotRecord _ ((c .before .before .before .before .before .q) .given .1) ((c .before .before .before .before .before .before .before .before .before .number-u16) .ensures) ((c .before .before .layout) .ensures)
 
 pub slot-layout-spec : {M : Type 1} → statement M
 slot-layout-spec =
@@ -46,7 +46,7 @@ slot-layout-spec =
     not-metadata-requires
     same-length
     returns
-    cast-t10
+    cast-t11
     layout-requires
     same-length-2
     returns-2)

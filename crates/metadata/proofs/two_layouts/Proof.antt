@@ -1,4 +1,5 @@
-use Rattle.vob24.specs.Settings.{settings}
+use Rattle.vob24.specs.Settings.{settingsOf}
+use denote.Ref.{now}
 use Rattle.vob24.specs.Grammar.{slotTypes}
 use Rattle.reader.proofs.Laws.{got-ready, numberJust, numberThen, numberNot}
 use borrow.Author.Needs.{needs}
@@ -33,7 +34,7 @@ same-length-2 : tie.Need-same-length-2
 same-length-2 c = search needs
 
 returns-2 : tie.Need-returns-2
-returns-2 c = numberThen (λ _. slotTypes settings) (c .before .before .before .before .before .before .q .given .1) (c .before .before .before .before .before .before .before .before .before .before .number-slot-types .ensures) (numberJust (c .refused2 .ensures) (c .before .before .before .number-slot-types2 .ensures))
+returns-2 c = numberThen (λ _. slotTypes (settingsOf (now (c .before .before .before .before .before .before .before .before .before .before .before .before .before .before .args .set)))) (c .before .before .before .before .before .before .q .given .1) (c .before .before .before .before .before .before .before .before .before .before .number-slot-types .ensures) (numberJust (c .refused2 .ensures) (c .before .before .before .number-slot-types2 .ensures))
 
 pub two-layouts-spec : {M : Type 1} → statement M
 two-layouts-spec =

@@ -41,7 +41,7 @@ same-length-2 : tie.Need-same-length-2
 same-length-2 c = search needs
 
 returns-3 : tie.Need-returns-3
-returns-3 c = granted-run ((c .before .before .before .before .before .before .before .before .before .before .before .before .before .r) .given .1) ((c .before .before .before .before .before .before .q) .given .1) ((c .before .before .before .before .before .before .before .before .before .before .number-method-count) .ensures) ((c .if1) .taken) ((c .before .before .before .before .before .before .before .before .before .before .before .before .before .before .before .before .before .pre) .1) ((c .before .before .before .read-methods) .ensures)
+returns-3 c = granted-run _ ((c .before .before .before .before .before .before .before .before .before .before .before .before .before .r) .given .1) ((c .before .before .before .before .before .before .q) .given .1) ((c .before .before .before .before .before .before .before .before .before .before .number-method-count) .ensures) ((c .if1) .taken) ((c .before .before .before .before .before .before .before .before .before .before .before .before .before .before .before .before .before .pre) .1) ((c .before .before .before .read-methods) .ensures)
 
 first-repeat-requires : tie.Need-first-repeat-requires
 first-repeat-requires c κs = search needs
@@ -50,7 +50,7 @@ same-length-3 : tie.Need-same-length-3
 same-length-3 c = search needs
 
 returns-4 : tie.Need-returns-4
-returns-4 c = methodsThen ((c .before .before .before .before .before .before .before .before .before .before .before .before .before .before .before .before .r) .given .1) ((c .before .before .before .before .before .before .before .before .before .q) .given .1) ((c .before .before .before .before .before .before .before .before .before .before .before .before .before .number-method-count) .ensures) (first-run ((c .before .before .before .before .before .before .read-methods) .ensures) ((c .before .before .first-repeat) .ensures) ((c .if2) .taken))
+returns-4 c = methodsThen _ ((c .before .before .before .before .before .before .before .before .before .before .before .before .before .before .before .before .r) .given .1) ((c .before .before .before .before .before .before .before .before .before .q) .given .1) ((c .before .before .before .before .before .before .before .before .before .before .before .before .before .number-method-count) .ensures) (first-run ((c .before .before .before .before .before .before .read-methods) .ensures) ((c .before .before .first-repeat) .ensures) ((c .if2) .taken))
 
 read-methods-requires-2 : tie.Need-read-methods-requires-2
 read-methods-requires-2 c κs = got-ready ((c .before .before .before .before .before .before .before .before .before .before .q) .given .1) ((c .before .before .before .before .before .before .before .before .before .before .before .before .before .before .number-method-count) .ensures)
@@ -59,7 +59,7 @@ same-length-4 : tie.Need-same-length-4
 same-length-4 c = search needs
 
 returns-5 : tie.Need-returns-5
-returns-5 c = methodsThen ((c .before .before .before .before .before .before .before .before .before .before .before .before .before .before .before .before .before .before .before .before .r) .given .1) ((c .before .before .before .before .before .before .before .before .before .before .before .before .before .q) .given .1) ((c .before .before .before .before .before .before .before .before .before .before .before .before .before .before .before .before .before .number-method-count) .ensures) (second-run ((c .before .before .before .before .before .before .before .before .before .before .read-methods) .ensures) ((c .before .before .before .before .before .before .first-repeat) .ensures) ((c .before .before .before .before .if2) .left) ((c .before .before .read-methods2) .ensures))
+returns-5 c = methodsThen _ ((c .before .before .before .before .before .before .before .before .before .before .before .before .before .before .before .before .before .before .before .before .r) .given .1) ((c .before .before .before .before .before .before .before .before .before .before .before .before .before .q) .given .1) ((c .before .before .before .before .before .before .before .before .before .before .before .before .before .before .before .before .before .number-method-count) .ensures) (second-run ((c .before .before .before .before .before .before .before .before .before .before .read-methods) .ensures) ((c .before .before .before .before .before .before .first-repeat) .ensures) ((c .before .before .before .before .if2) .left) ((c .before .before .read-methods2) .ensures))
 
 pub methods-spec : {M : Type 1} → statement M
 methods-spec =

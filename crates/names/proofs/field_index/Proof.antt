@@ -50,13 +50,13 @@ enum-told-3 : tie.Need-enum-told-3
 enum-told-3 c = search needs
 
 returns-3 : tie.Need-returns-3
-returns-3 c = list-asked ((c .before .before .before .before .before .before .before .r) .given .1) ((c .before .before .before .before .before .before .before .before .before .before .r1) .given .1) ((c .before .before .before .before .before .word-at) .ensures) (index-poor (c .before .before .before .before .named .ensures .named) ((c .before .before .before .size) .ensures .0) ((c .before .before .charge-allocation) .ensures) ((c .enum-told3) .given .1))
+returns-3 c = list-asked ((c .before .before .before .before .before .before .before .r) .given .1) ((c .before .before .before .before .before .before .before .before .before .before .r1) .given .1) ((c .before .before .before .before .before .word-at) .ensures) (index-poor _ (c .before .before .before .before .named .ensures .named) ((c .before .before .before .size) .ensures .0) ((c .before .before .charge-allocation) .ensures) ((c .enum-told3) .given .1))
 
 distinct-requires : tie.Need-distinct-requires
-distinct-requires c κs = (list-items ((c .before .before .before .before .before .before .before .before .r) .given .1) ((c .before .before .before .before .before .before .before .before .before .before .before .r1) .given .1) (c .before .before .before .before .before .before .before .before .before .before .before .before .before .before .pre .0) ((c .before .before .before .before .before .before .word-at) .ensures), c .before .before .before .before .before .named .ensures .cost, granted-asks (c .before .before .before .before .before .before .before .before .before .before .before .before .before .before .pre .1) ((c .before .before .before .before .before .before .before .before .r) .given .1) ((c .before .before .before .before .before .before .before .before .before .before .before .r1) .given .1) (λ x a. list-asked ((c .before .before .before .before .before .before .before .before .r) .given .1) ((c .before .before .before .before .before .before .before .before .before .before .before .r1) .given .1) ((c .before .before .before .before .before .before .word-at) .ensures) (index-then (c .before .before .before .before .before .named .ensures .named) ((c .before .before .before .before .size) .ensures .0) ((c .before .before .before .charge-allocation) .ensures) ((c .before .paid) .given .1) a)))
+distinct-requires c κs = (list-items ((c .before .before .before .before .before .before .before .before .r) .given .1) ((c .before .before .before .before .before .before .before .before .before .before .before .r1) .given .1) (c .before .before .before .before .before .before .before .before .before .before .before .before .before .before .pre .0) ((c .before .before .before .before .before .before .word-at) .ensures), c .before .before .before .before .before .named .ensures .cost, granted-asks (c .before .before .before .before .before .before .before .before .before .before .before .before .before .before .pre .1) ((c .before .before .before .before .before .before .before .before .r) .given .1) ((c .before .before .before .before .before .before .before .before .before .before .before .r1) .given .1) (λ x a. list-asked ((c .before .before .before .before .before .before .before .before .r) .given .1) ((c .before .before .before .before .before .before .before .before .before .before .before .r1) .given .1) ((c .before .before .before .before .before .before .word-at) .ensures) (index-then _ (c .before .before .before .before .before .named .ensures .named) ((c .before .before .before .before .size) .ensures .0) ((c .before .before .before .charge-allocation) .ensures) ((c .before .paid) .given .1) a)))
 
 returns-4 : tie.Need-returns-4
-returns-4 c = list-asked ((c .before .before .before .before .before .before .before .before .before .r) .given .1) ((c .before .before .before .before .before .before .before .before .before .before .before .before .r1) .given .1) ((c .before .before .before .before .before .before .before .word-at) .ensures) (index-then (c .before .before .before .before .before .before .named .ensures .named) ((c .before .before .before .before .before .size) .ensures .0) ((c .before .before .before .before .charge-allocation) .ensures) ((c .before .before .paid) .given .1) ((c .distinct) .ensures))
+returns-4 c = list-asked ((c .before .before .before .before .before .before .before .before .before .r) .given .1) ((c .before .before .before .before .before .before .before .before .before .before .before .before .r1) .given .1) ((c .before .before .before .before .before .before .before .word-at) .ensures) (index-then _ (c .before .before .before .before .before .before .named .ensures .named) ((c .before .before .before .before .before .size) .ensures .0) ((c .before .before .before .before .charge-allocation) .ensures) ((c .before .before .paid) .given .1) ((c .distinct) .ensures))
 
 pub field-index-spec : {M : Type 1} → statement M
 field-index-spec =

@@ -1,3 +1,4 @@
+use Rattle.payloads.proofs.Limits.{limit-kept, limit-over}
 use Rattle.reader.proofs.Leaves.{leaves}
 use borrow.Author.Needs.{needs}
 use Rattle.payloads.proofs.read_artifact_count.Statement.{statement}
@@ -15,11 +16,14 @@ enum-told c = search needs
 returns : tie.Need-returns
 returns c = search (needs, leaves)
 
+artifacts-requires : tie.Need-artifacts-requires
+artifacts-requires c κs = search needs
+
 over-requires : tie.Need-over-requires
 over-requires c κs = search needs
 
 returns-2 : tie.Need-returns-2
-returns-2 c = search (needs, leaves)
+returns-2 c = limit-over ((c .before .before .before .before .q) .given .1) ((c .before .before .before .before .before .before .read-u32) .ensures) ((c .before .before .artifacts) .ensures) ((c .before .if1) .taken) ((c .over) .ensures)
 
 size-requires : tie.Need-size-requires
 size-requires c κs = search needs
@@ -28,7 +32,7 @@ counted-requires : tie.Need-counted-requires
 counted-requires c κs = search (needs, leaves)
 
 returns-3 : tie.Need-returns-3
-returns-3 c = search (needs, leaves)
+returns-3 c = limit-kept ((c .before .before .before .before .before .q) .given .1) ((c .before .before .before .before .before .before .before .read-u32) .ensures) ((c .before .before .before .artifacts) .ensures) ((c .before .before .if1) .left) ((c .before .size) .ensures .0) ((c .counted) .ensures)
 
 pub read-artifact-count-spec : {M : Type 1} → statement M
 read-artifact-count-spec =
@@ -38,6 +42,7 @@ read-artifact-count-spec =
     enum-known-q
     enum-told
     returns
+    artifacts-requires
     over-requires
     returns-2
     size-requires

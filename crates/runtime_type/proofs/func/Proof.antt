@@ -72,10 +72,10 @@ items-at-requires-2 : tie.Need-items-at-requires-2
 items-at-requires-2 c κs = got-ready ((c .before .before .before .before .before .before .before .before .before .q2) .given .1) ((c .before .before .before .before .before .before .before .before .before .before .before .before .before .number-rttids) .ensures)
 
 same-length-4 : tie.Need-same-length-4
-same-length-4 c = omega (arith, (c .before .before .before .before .before .before .before .before .before .before .before .before .before .before .before .before .before .before .before .before .before .number-bool) .kept .1 .1 .0, (c .before .before .before .before .before .before .before .before .before .before .before .before .before .before .number-rttids) .kept .1 .1 .0, (c .before .before .before .before .before .before .before .number-rttids2) .kept .1 .1 .0)
+same-length-4 c = omega (arith, (c .before .before .before .before .before .before .before .before .before .before .before .before .before .before .before .before .before .before .before .before .before .number-bool) .kept .1 .1 .0, (c .before .before .before .before .before .before .before .before .before .before .before .before .before .before .number-rttids) .kept .1 .1 .1 .0, (c .before .before .before .before .before .before .before .number-rttids2) .kept .1 .1 .1 .0)
 
 returns-4 : tie.Need-returns-4
-returns-4 c = lastThree ((c .before .before .before .before .before .before .before .before .before .before .before .before .before .before .before .before .before .q1) .given .1) ((c .before .before .before .before .before .before .before .before .before .before .before .before .before .before .before .before .before .before .before .before .before .number-bool) .ensures) ((c .before .before .before .before .before .before .before .before .before .before .q2) .given .1) ((c .before .before .before .before .before .before .before .before .before .before .before .before .before .before .number-rttids) .ensures) ((c .before .before .before .q3) .given .1) ((c .before .before .before .before .before .before .before .number-rttids2) .ensures) (λ a m n p. twoOf (kind.Func (eqb a 1)) (p + 1) m n) (listedTwo ((c .before .items-at) .ensures) ((c .items-at2) .ensures) (fixed-place ((c .before .before .before .before .before .before .before .before .before .before .before .before .before .before .before .before .before .q1) .given .1) ((c .before .before .before .before .before .before .before .before .before .before .before .before .before .before .before .before .before .before .before .before .before .number-bool) .ensures)) (rttids-place ((c .before .before .before .before .before .before .before .before .before .before .q2) .given .1) ((c .before .before .before .before .before .before .before .before .before .before .before .before .before .before .number-rttids) .ensures)))
+returns-4 c = lastThree ((c .before .before .before .before .before .before .before .before .before .before .before .before .before .before .before .before .before .q1) .given .1) ((c .before .before .before .before .before .before .before .before .before .before .before .before .before .before .before .before .before .before .before .before .before .number-bool) .ensures) ((c .before .before .before .before .before .before .before .before .before .before .q2) .given .1) ((c .before .before .before .before .before .before .before .before .before .before .before .before .before .before .number-rttids) .ensures) ((c .before .before .before .q3) .given .1) ((c .before .before .before .before .before .before .before .number-rttids2) .ensures) (λ a m n p. twoOf (kind.Func (eqb a 1)) (p + 1) m n) (listedTwo ((c .before .items-at) .ensures) ((c .items-at2) .ensures) (fixed-place ((c .before .before .before .before .before .before .before .before .before .before .before .before .before .before .before .before .before .q1) .given .1) ((c .before .before .before .before .before .before .before .before .before .before .before .before .before .before .before .before .before .before .before .before .before .number-bool) .ensures)) (rttids-place _ ((c .before .before .before .before .before .before .before .before .before .before .q2) .given .1) ((c .before .before .before .before .before .before .before .before .before .before .before .before .before .before .number-rttids) .ensures)))
 
 pub func-spec : {M : Type 1} → statement M
 func-spec =

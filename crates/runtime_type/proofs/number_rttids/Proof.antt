@@ -7,10 +7,10 @@ use Rattle.runtime_type.proofs.number_rttids.Statement.{statement}
 use Rattle.runtime_type.proofs.number_rttids.Tie as tie
 
 abbrev Inv-loop : tie.InvT-loop
-Inv-loop s tape₀ n k₀ here₀ tape k here = Turns valueRttid s tape₀ here₀ k₀ tape here k
+Inv-loop s set tape₀ n k₀ here₀ tape k here = Turns valueRttid s tape₀ here₀ k₀ tape here k
 
 abbrev μ-loop : tie.MeasureT-loop
-μ-loop s tape₀ n k₀ here₀ tape k here = k
+μ-loop s set tape₀ n k₀ here₀ tape k here = k
 
 number-count-requires : tie.Need-number-count-requires Inv-loop μ-loop
 number-count-requires c κs = search (needs, reading, numbering)

@@ -1,3 +1,5 @@
+use denote.Ref.{now}
+use Rattle.vob24.specs.Settings.{settingsOf}
 use mathlib.Core.Path.{refl}
 use borrow.Author.Needs.{needs}
 use Rattle.reader.proofs.Reading.{reading}
@@ -5,7 +7,6 @@ use Rattle.reader.proofs.Laws.{got-ready}
 use Rattle.reader.proofs.Parts.{tag-most, chooseAt}
 use Rattle.second_pass.proofs.Laws.{granted-part}
 use Rattle.vob24.specs.Grammar.{runtimeType, runtimeVariants}
-use Rattle.vob24.specs.Settings.{settings}
 use Rattle.records.proofs.Recording.{recording, recordedEmpty, variantAt}
 use Rattle.runtime_type.proofs.Laws.{last-tag}
 use Rattle.runtime_type.specs.declared.RuntimeType.the-variants as kind
@@ -58,11 +59,11 @@ func-requires c κs = search (needs, reading, recording)
 
 struct-type-requires : tie.Need-struct-type-requires
 unfolding runtimeType
-struct-type-requires c κs = (search (needs, reading, recording), granted-part (λ x k. chooseAt (runtimeVariants settings) 8 refl ((c .before .before .before .q) .given .1) ((c .before .match2) .keys9) ((c .before .before .before .before .before .before .before .number-runtime-tag) .ensures) k) ((c .before .before .before .before .before .before .before .before .before .before .before .pre) .1))
+struct-type-requires c κs = (search (needs, reading, recording), granted-part (λ x k. chooseAt (runtimeVariants (settingsOf (now (c .before .before .before .before .before .before .before .before .before .before .before .args .set)))) 8 refl ((c .before .before .before .q) .given .1) ((c .before .match2) .keys9) ((c .before .before .before .before .before .before .before .number-runtime-tag) .ensures) k) ((c .before .before .before .before .before .before .before .before .before .before .before .pre) .1))
 
 interface-requires : tie.Need-interface-requires
 unfolding runtimeType
-interface-requires c κs = (search (needs, reading, recording), granted-part (λ x k. chooseAt (runtimeVariants settings) 9 refl ((c .before .before .before .q) .given .1) ((c .before .match2) .keys10) ((c .before .before .before .before .before .before .before .number-runtime-tag) .ensures) k) ((c .before .before .before .before .before .before .before .before .before .before .before .pre) .1))
+interface-requires c κs = (search (needs, reading, recording), granted-part (λ x k. chooseAt (runtimeVariants (settingsOf (now (c .before .before .before .before .before .before .before .before .before .before .before .args .set)))) 9 refl ((c .before .before .before .q) .given .1) ((c .before .match2) .keys10) ((c .before .before .before .before .before .before .before .number-runtime-tag) .ensures) k) ((c .before .before .before .before .before .before .before .before .before .before .before .pre) .1))
 
 tuple-requires : tie.Need-tuple-requires
 tuple-requires c κs = search (needs, reading, recording)
@@ -78,91 +79,91 @@ same-length-2 c = search (needs, reading, recording)
 
 returns-2 : tie.Need-returns-2
 unfolding runtimeType runtimeTypeOf
-returns-2 c = variantAt (runtimeVariants settings) typeRecords (bareOf kind.Island) 0 ((c .before .before .before .before .before .before .q) .given .1) ((c .before .before .before .before .match2) .keys1) ((c .before .before .before .before .before .before .before .before .before .before .number-runtime-tag) .ensures) ((c .before .before .basic) .ensures)
+returns-2 c = variantAt (runtimeVariants (settingsOf (now (c .before .before .before .before .before .before .before .before .before .before .before .before .before .before .args .set)))) typeRecords (bareOf kind.Island) 0 ((c .before .before .before .before .before .before .q) .given .1) ((c .before .before .before .before .match2) .keys1) ((c .before .before .before .before .before .before .before .before .before .before .number-runtime-tag) .ensures) ((c .before .before .basic) .ensures)
 
 same-length-3 : tie.Need-same-length-3
 same-length-3 c = search (needs, reading, recording)
 
 returns-3 : tie.Need-returns-3
 unfolding runtimeType runtimeTypeOf
-returns-3 c = variantAt (runtimeVariants settings) typeRecords (bareOf kind.Island) 1 ((c .before .before .before .before .before .before .q) .given .1) ((c .before .before .before .before .match2) .keys2) ((c .before .before .before .before .before .before .before .before .before .before .number-runtime-tag) .ensures) ((c .before .before .named) .ensures)
+returns-3 c = variantAt (runtimeVariants (settingsOf (now (c .before .before .before .before .before .before .before .before .before .before .before .before .before .before .args .set)))) typeRecords (bareOf kind.Island) 1 ((c .before .before .before .before .before .before .q) .given .1) ((c .before .before .before .before .match2) .keys2) ((c .before .before .before .before .before .before .before .before .before .before .number-runtime-tag) .ensures) ((c .before .before .named) .ensures)
 
 same-length-4 : tie.Need-same-length-4
 same-length-4 c = search (needs, reading, recording)
 
 returns-4 : tie.Need-returns-4
 unfolding runtimeType runtimeTypeOf
-returns-4 c = variantAt (runtimeVariants settings) typeRecords (bareOf kind.Island) 2 ((c .before .before .before .before .before .before .q) .given .1) ((c .before .before .before .before .match2) .keys3) ((c .before .before .before .before .before .before .before .before .before .before .number-runtime-tag) .ensures) ((c .before .before .pointer) .ensures)
+returns-4 c = variantAt (runtimeVariants (settingsOf (now (c .before .before .before .before .before .before .before .before .before .before .before .before .before .before .args .set)))) typeRecords (bareOf kind.Island) 2 ((c .before .before .before .before .before .before .q) .given .1) ((c .before .before .before .before .match2) .keys3) ((c .before .before .before .before .before .before .before .before .before .before .number-runtime-tag) .ensures) ((c .before .before .pointer) .ensures)
 
 same-length-5 : tie.Need-same-length-5
 same-length-5 c = search (needs, reading, recording)
 
 returns-5 : tie.Need-returns-5
 unfolding runtimeType runtimeTypeOf
-returns-5 c = variantAt (runtimeVariants settings) typeRecords (bareOf kind.Island) 3 ((c .before .before .before .before .before .before .q) .given .1) ((c .before .before .before .before .match2) .keys4) ((c .before .before .before .before .before .before .before .before .before .before .number-runtime-tag) .ensures) ((c .before .before .array) .ensures)
+returns-5 c = variantAt (runtimeVariants (settingsOf (now (c .before .before .before .before .before .before .before .before .before .before .before .before .before .before .args .set)))) typeRecords (bareOf kind.Island) 3 ((c .before .before .before .before .before .before .q) .given .1) ((c .before .before .before .before .match2) .keys4) ((c .before .before .before .before .before .before .before .before .before .before .number-runtime-tag) .ensures) ((c .before .before .array) .ensures)
 
 same-length-6 : tie.Need-same-length-6
 same-length-6 c = search (needs, reading, recording)
 
 returns-6 : tie.Need-returns-6
 unfolding runtimeType runtimeTypeOf
-returns-6 c = variantAt (runtimeVariants settings) typeRecords (bareOf kind.Island) 4 ((c .before .before .before .before .before .before .q) .given .1) ((c .before .before .before .before .match2) .keys5) ((c .before .before .before .before .before .before .before .before .before .before .number-runtime-tag) .ensures) ((c .before .before .slice) .ensures)
+returns-6 c = variantAt (runtimeVariants (settingsOf (now (c .before .before .before .before .before .before .before .before .before .before .before .before .before .before .args .set)))) typeRecords (bareOf kind.Island) 4 ((c .before .before .before .before .before .before .q) .given .1) ((c .before .before .before .before .match2) .keys5) ((c .before .before .before .before .before .before .before .before .before .before .number-runtime-tag) .ensures) ((c .before .before .slice) .ensures)
 
 same-length-7 : tie.Need-same-length-7
 same-length-7 c = search (needs, reading, recording)
 
 returns-7 : tie.Need-returns-7
 unfolding runtimeType runtimeTypeOf
-returns-7 c = variantAt (runtimeVariants settings) typeRecords (bareOf kind.Island) 5 ((c .before .before .before .before .before .before .q) .given .1) ((c .before .before .before .before .match2) .keys6) ((c .before .before .before .before .before .before .before .before .before .before .number-runtime-tag) .ensures) ((c .before .before .map) .ensures)
+returns-7 c = variantAt (runtimeVariants (settingsOf (now (c .before .before .before .before .before .before .before .before .before .before .before .before .before .before .args .set)))) typeRecords (bareOf kind.Island) 5 ((c .before .before .before .before .before .before .q) .given .1) ((c .before .before .before .before .match2) .keys6) ((c .before .before .before .before .before .before .before .before .before .before .number-runtime-tag) .ensures) ((c .before .before .map) .ensures)
 
 same-length-8 : tie.Need-same-length-8
 same-length-8 c = search (needs, reading, recording)
 
 returns-8 : tie.Need-returns-8
 unfolding runtimeType runtimeTypeOf
-returns-8 c = variantAt (runtimeVariants settings) typeRecords (bareOf kind.Island) 6 ((c .before .before .before .before .before .before .q) .given .1) ((c .before .before .before .before .match2) .keys7) ((c .before .before .before .before .before .before .before .before .before .before .number-runtime-tag) .ensures) ((c .before .before .chan) .ensures)
+returns-8 c = variantAt (runtimeVariants (settingsOf (now (c .before .before .before .before .before .before .before .before .before .before .before .before .before .before .args .set)))) typeRecords (bareOf kind.Island) 6 ((c .before .before .before .before .before .before .q) .given .1) ((c .before .before .before .before .match2) .keys7) ((c .before .before .before .before .before .before .before .before .before .before .number-runtime-tag) .ensures) ((c .before .before .chan) .ensures)
 
 same-length-9 : tie.Need-same-length-9
 same-length-9 c = search (needs, reading, recording)
 
 returns-9 : tie.Need-returns-9
 unfolding runtimeType runtimeTypeOf
-returns-9 c = variantAt (runtimeVariants settings) typeRecords (bareOf kind.Island) 7 ((c .before .before .before .before .before .before .q) .given .1) ((c .before .before .before .before .match2) .keys8) ((c .before .before .before .before .before .before .before .before .before .before .number-runtime-tag) .ensures) ((c .before .before .func) .ensures)
+returns-9 c = variantAt (runtimeVariants (settingsOf (now (c .before .before .before .before .before .before .before .before .before .before .before .before .before .before .args .set)))) typeRecords (bareOf kind.Island) 7 ((c .before .before .before .before .before .before .q) .given .1) ((c .before .before .before .before .match2) .keys8) ((c .before .before .before .before .before .before .before .before .before .before .number-runtime-tag) .ensures) ((c .before .before .func) .ensures)
 
 same-length-10 : tie.Need-same-length-10
 same-length-10 c = search (needs, reading, recording)
 
 returns-10 : tie.Need-returns-10
 unfolding runtimeType runtimeTypeOf
-returns-10 c = variantAt (runtimeVariants settings) typeRecords (bareOf kind.Island) 8 ((c .before .before .before .before .before .before .q) .given .1) ((c .before .before .before .before .match2) .keys9) ((c .before .before .before .before .before .before .before .before .before .before .number-runtime-tag) .ensures) ((c .before .before .struct-type) .ensures)
+returns-10 c = variantAt (runtimeVariants (settingsOf (now (c .before .before .before .before .before .before .before .before .before .before .before .before .before .before .args .set)))) typeRecords (bareOf kind.Island) 8 ((c .before .before .before .before .before .before .q) .given .1) ((c .before .before .before .before .match2) .keys9) ((c .before .before .before .before .before .before .before .before .before .before .number-runtime-tag) .ensures) ((c .before .before .struct-type) .ensures)
 
 same-length-11 : tie.Need-same-length-11
 same-length-11 c = search (needs, reading, recording)
 
 returns-11 : tie.Need-returns-11
 unfolding runtimeType runtimeTypeOf
-returns-11 c = variantAt (runtimeVariants settings) typeRecords (bareOf kind.Island) 9 ((c .before .before .before .before .before .before .q) .given .1) ((c .before .before .before .before .match2) .keys10) ((c .before .before .before .before .before .before .before .before .before .before .number-runtime-tag) .ensures) ((c .before .before .interface) .ensures)
+returns-11 c = variantAt (runtimeVariants (settingsOf (now (c .before .before .before .before .before .before .before .before .before .before .before .before .before .before .args .set)))) typeRecords (bareOf kind.Island) 9 ((c .before .before .before .before .before .before .q) .given .1) ((c .before .before .before .before .match2) .keys10) ((c .before .before .before .before .before .before .before .before .before .before .number-runtime-tag) .ensures) ((c .before .before .interface) .ensures)
 
 same-length-12 : tie.Need-same-length-12
 same-length-12 c = search (needs, reading, recording)
 
 returns-12 : tie.Need-returns-12
 unfolding runtimeType runtimeTypeOf
-returns-12 c = variantAt (runtimeVariants settings) typeRecords (bareOf kind.Island) 10 ((c .before .before .before .before .before .before .q) .given .1) ((c .before .before .before .before .match2) .keys11) ((c .before .before .before .before .before .before .before .before .before .before .number-runtime-tag) .ensures) ((c .before .before .tuple) .ensures)
+returns-12 c = variantAt (runtimeVariants (settingsOf (now (c .before .before .before .before .before .before .before .before .before .before .before .before .before .before .args .set)))) typeRecords (bareOf kind.Island) 10 ((c .before .before .before .before .before .before .q) .given .1) ((c .before .before .before .before .match2) .keys11) ((c .before .before .before .before .before .before .before .before .before .before .number-runtime-tag) .ensures) ((c .before .before .tuple) .ensures)
 
 same-length-13 : tie.Need-same-length-13
 same-length-13 c = search (needs, reading, recording)
 
 returns-13 : tie.Need-returns-13
 unfolding runtimeType runtimeTypeOf
-returns-13 c = variantAt (runtimeVariants settings) typeRecords (bareOf kind.Island) 11 ((c .before .before .before .before .before .before .q) .given .1) ((c .before .before .before .before .match2) .keys12) ((c .before .before .before .before .before .before .before .before .before .before .number-runtime-tag) .ensures) ((c .before .before .port) .ensures)
+returns-13 c = variantAt (runtimeVariants (settingsOf (now (c .before .before .before .before .before .before .before .before .before .before .before .before .before .before .args .set)))) typeRecords (bareOf kind.Island) 11 ((c .before .before .before .before .before .before .q) .given .1) ((c .before .before .before .before .match2) .keys12) ((c .before .before .before .before .before .before .before .before .before .before .number-runtime-tag) .ensures) ((c .before .before .port) .ensures)
 
 same-length-14 : tie.Need-same-length-14
 same-length-14 c = search (needs, reading, recording)
 
 returns-14 : tie.Need-returns-14
 unfolding runtimeType runtimeTypeOf
-returns-14 c = variantAt (runtimeVariants settings) typeRecords (bareOf kind.Island) 12 ((c .before .before .before .q) .given .1) (last-tag (tag-most ((c .before .before .before .q) .given .1) ((c .before .before .before .before .before .before .before .number-runtime-tag) .ensures)) ((c .before .match2) .rest .0 .0 .0 .0 .0 .0 .0 .0 .0 .0 .0 .1) ((c .before .match2) .rest .0 .0 .0 .0 .0 .0 .0 .0 .0 .0 .1) ((c .before .match2) .rest .0 .0 .0 .0 .0 .0 .0 .0 .0 .1) ((c .before .match2) .rest .0 .0 .0 .0 .0 .0 .0 .0 .1) ((c .before .match2) .rest .0 .0 .0 .0 .0 .0 .0 .1) ((c .before .match2) .rest .0 .0 .0 .0 .0 .0 .1) ((c .before .match2) .rest .0 .0 .0 .0 .0 .1) ((c .before .match2) .rest .0 .0 .0 .0 .1) ((c .before .match2) .rest .0 .0 .0 .1) ((c .before .match2) .rest .0 .0 .1) ((c .before .match2) .rest .0 .1) ((c .before .match2) .rest .1)) ((c .before .before .before .before .before .before .before .number-runtime-tag) .ensures) (recordedEmpty (got-ready ((c .before .before .before .q) .given .1) ((c .before .before .before .before .before .before .before .number-runtime-tag) .ensures)) ((c .bare) .ensures))
+returns-14 c = variantAt (runtimeVariants (settingsOf (now (c .before .before .before .before .before .before .before .before .before .before .before .args .set)))) typeRecords (bareOf kind.Island) 12 ((c .before .before .before .q) .given .1) (last-tag (tag-most ((c .before .before .before .q) .given .1) ((c .before .before .before .before .before .before .before .number-runtime-tag) .ensures)) ((c .before .match2) .rest .0 .0 .0 .0 .0 .0 .0 .0 .0 .0 .0 .1) ((c .before .match2) .rest .0 .0 .0 .0 .0 .0 .0 .0 .0 .0 .1) ((c .before .match2) .rest .0 .0 .0 .0 .0 .0 .0 .0 .0 .1) ((c .before .match2) .rest .0 .0 .0 .0 .0 .0 .0 .0 .1) ((c .before .match2) .rest .0 .0 .0 .0 .0 .0 .0 .1) ((c .before .match2) .rest .0 .0 .0 .0 .0 .0 .1) ((c .before .match2) .rest .0 .0 .0 .0 .0 .1) ((c .before .match2) .rest .0 .0 .0 .0 .1) ((c .before .match2) .rest .0 .0 .0 .1) ((c .before .match2) .rest .0 .0 .1) ((c .before .match2) .rest .0 .1) ((c .before .match2) .rest .1)) ((c .before .before .before .before .before .before .before .number-runtime-tag) .ensures) (recordedEmpty (got-ready ((c .before .before .before .q) .given .1) ((c .before .before .before .before .before .before .before .number-runtime-tag) .ensures)) ((c .bare) .ensures))
 
 pub runtime-type-spec : {M : Type 1} → statement M
 runtime-type-spec =

@@ -1,3 +1,4 @@
+use Rattle.vob24.specs.Settings.{settingsOf}
 use mathlib.Core.Path.{sym}
 use borrow.Author.Needs.{needs}
 use Rattle.reader.proofs.Reading.{reading}
@@ -6,17 +7,16 @@ use Rattle.reader.proofs.Parts.{list-done, list-refused}
 use Rattle.second_pass.proofs.Laws.{granted-item}
 use Rattle.reader.specs.declared.Step.the-variants.{Taken}
 use Rattle.vob24.specs.Grammar.{runtimeType}
-use Rattle.vob24.specs.Settings.{settings}
 use Rattle.records.proofs.Numbering.{itemTaken}
 use Rattle.runtime_type.proofs.Laws.{type-got, typeRefused, refused-as}
 use Rattle.runtime_type.proofs.runtime_types.Statement.{statement}
 use Rattle.runtime_type.proofs.runtime_types.Tie as tie
 
 abbrev Inv-loop : tie.InvT-loop
-Inv-loop s again tape₀ n k₀ here₀ tape k here = Turns (runtimeType settings) s tape₀ (Taken here₀) k₀ tape (Taken here) k
+Inv-loop s set again tape₀ n k₀ here₀ tape k here = Turns (runtimeType (settingsOf set)) s tape₀ (Taken here₀) k₀ tape (Taken here) k
 
 abbrev μ-loop : tie.MeasureT-loop
-μ-loop s again tape₀ n k₀ here₀ tape k here = k
+μ-loop s set again tape₀ n k₀ here₀ tape k here = k
 
 enum-known-r : tie.Need-enum-known-r Inv-loop μ-loop
 enum-known-r c = search (needs, reading)

@@ -52,8 +52,8 @@ returns-2 : tie.Need-returns-2
 unfolding runtimeStruct
 returns-2 c = search (needs, reading, recording)
 
-cast-t15 : tie.Need-cast-t15
-cast-t15 c = record { fits = fixed-fits ((c .before .before .before .before .before .before .before .before .q1) .given .1) ((c .before .before .before .before .before .before .before .before .before .before .before .before .number-u32) .ensures) (λ i. omega (arith, (c .before .before .before .before .before .before .before .before .before .before .before .before .before .before .before .shared-slice-known) .given i)) }
+cast-t16 : tie.Need-cast-t16
+cast-t16 c = record { fits = fixed-fits ((c .before .before .before .before .before .before .before .before .q1) .given .1) ((c .before .before .before .before .before .before .before .before .before .before .before .before .number-u32) .ensures) (λ i. omega (arith, (c .before .before .before .before .before .before .before .before .before .before .before .before .before .before .before .shared-slice-known) .given i)) }
 
 items-at-requires : tie.Need-items-at-requires
 items-at-requires c κs = search (needs, reading, recording)
@@ -81,7 +81,7 @@ struct-type-spec =
     not-type-requires-2
     same-length-2
     returns-2
-    cast-t15
+    cast-t16
     items-at-requires
     same-length-3
     returns-3)

@@ -1,4 +1,5 @@
 use borrow.Author.Needs.{needs}
+use Rattle.vob24.specs.Settings.{settings}
 use Rattle.vob24.specs.Grammar.{section, entry}
 use Rattle.calls.proofs.Laws.{section-since, section-refused, section-taken}
 use Rattle.sections.proofs.read_entry.Statement.{statement}
@@ -18,7 +19,7 @@ entry-requires c κs = search needs
 
 closed-requires : tie.Need-closed-requires
 unfolding section
-closed-requires c κs = section-since 0 entry ((c .before .before .before .before .opening) .ensures) ((c .before .before .entry) .ensures)
+closed-requires c κs = section-since settings 0 entry ((c .before .before .before .before .opening) .ensures) ((c .before .before .entry) .ensures)
 
 enum-told : tie.Need-enum-told
 enum-told c = search needs
@@ -31,7 +32,7 @@ same-length c = search needs
 
 returns : tie.Need-returns
 unfolding section
-returns c = section-refused 0 entry ((c .before .before .before .before .before .before .before .opening) .ensures) ((c .before .before .before .before .before .entry) .ensures) (search needs) ((c .before .before .closed) .ensures) ((c .enum-told2) .given .1)
+returns c = section-refused settings 0 entry ((c .before .before .before .before .before .before .before .opening) .ensures) ((c .before .before .before .before .before .entry) .ensures) (search needs) ((c .before .before .closed) .ensures) ((c .enum-told2) .given .1)
 
 entry-requires-2 : tie.Need-entry-requires-2
 entry-requires-2 c κs = search needs
@@ -41,7 +42,7 @@ same-length-2 c = search needs
 
 returns-2 : tie.Need-returns-2
 unfolding section
-returns-2 c = section-taken 0 entry ((c .before .before .before .before .before .before .before .before .before .before .before .opening) .ensures) ((c .before .before .before .before .before .before .before .before .before .entry) .ensures) (search needs) ((c .before .before .before .before .before .before .closed) .ensures) ((c .before .before .before .before .enum-told) .given .1) ((c .before .before .entry2) .ensures)
+returns-2 c = section-taken settings 0 entry ((c .before .before .before .before .before .before .before .before .before .before .before .opening) .ensures) ((c .before .before .before .before .before .before .before .before .before .entry) .ensures) (search needs) ((c .before .before .before .before .before .before .closed) .ensures) ((c .before .before .before .before .enum-told) .given .1) ((c .before .before .entry2) .ensures)
 
 pub read-entry-spec : {M : Type 1} → statement M
 read-entry-spec =

@@ -1,4 +1,5 @@
 use borrow.Author.Needs.{needs}
+use Rattle.vob24.specs.Settings.{settings}
 use Rattle.vob24.specs.Grammar.{section, name}
 use Rattle.calls.proofs.Laws.{section-since, section-refused, section-taken}
 use Rattle.sections.proofs.read_name.Statement.{statement}
@@ -18,7 +19,7 @@ field-str-requires c κs = search needs
 
 closed-requires : tie.Need-closed-requires
 unfolding section
-closed-requires c κs = section-since 0 name ((c .before .before .before .before .opening) .ensures) ((c .before .before .field-str) .ensures)
+closed-requires c κs = section-since settings 0 name ((c .before .before .before .before .opening) .ensures) ((c .before .before .field-str) .ensures)
 
 enum-told : tie.Need-enum-told
 enum-told c = search needs
@@ -31,7 +32,7 @@ same-length c = search needs
 
 returns : tie.Need-returns
 unfolding section
-returns c = section-refused 0 name ((c .before .before .before .before .before .before .before .opening) .ensures) ((c .before .before .before .before .before .field-str) .ensures) (search needs) ((c .before .before .closed) .ensures) ((c .enum-told2) .given .1)
+returns c = section-refused settings 0 name ((c .before .before .before .before .before .before .before .opening) .ensures) ((c .before .before .before .before .before .field-str) .ensures) (search needs) ((c .before .before .closed) .ensures) ((c .enum-told2) .given .1)
 
 field-str-requires-2 : tie.Need-field-str-requires-2
 field-str-requires-2 c κs = search needs
@@ -41,7 +42,7 @@ same-length-2 c = search needs
 
 returns-2 : tie.Need-returns-2
 unfolding section
-returns-2 c = section-taken 0 name ((c .before .before .before .before .before .before .before .before .before .before .before .opening) .ensures) ((c .before .before .before .before .before .before .before .before .before .field-str) .ensures) (search needs) ((c .before .before .before .before .before .before .closed) .ensures) ((c .before .before .before .before .enum-told) .given .1) ((c .before .before .field-str2) .ensures)
+returns-2 c = section-taken settings 0 name ((c .before .before .before .before .before .before .before .before .before .before .before .opening) .ensures) ((c .before .before .before .before .before .before .before .before .before .field-str) .ensures) (search needs) ((c .before .before .before .before .before .before .closed) .ensures) ((c .before .before .before .before .enum-told) .given .1) ((c .before .before .field-str2) .ensures)
 
 pub read-name-spec : {M : Type 1} → statement M
 read-name-spec =

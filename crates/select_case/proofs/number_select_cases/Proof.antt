@@ -10,10 +10,10 @@ use Rattle.select_case.proofs.number_select_cases.Statement.{statement}
 use Rattle.select_case.proofs.number_select_cases.Tie as tie
 
 abbrev Inv-loop : tie.InvT-loop
-Inv-loop s tape₀ n k₀ here₀ tape k here = Turns selectFormat s tape₀ (Taken here₀) k₀ tape (Taken here) k
+Inv-loop s set tape₀ n k₀ here₀ tape k here = Turns selectFormat s tape₀ (Taken here₀) k₀ tape (Taken here) k
 
 abbrev μ-loop : tie.MeasureT-loop
-μ-loop s tape₀ n k₀ here₀ tape k here = k
+μ-loop s set tape₀ n k₀ here₀ tape k here = k
 
 number-count-requires : tie.Need-number-count-requires Inv-loop μ-loop
 number-count-requires c κs = search (needs, reading, numbering, answers)

@@ -2,6 +2,7 @@ use Rattle.calls.proofs.Laws.{read-within}
 use Rattle.second_pass.proofs.Laws.{unknown}
 use Rattle.serialize.proofs.Laws.{locate-whole, locate-found, locate-refused}
 use borrow.Author.Needs.{needs}
+use Rattle.vob24.specs.Settings.{settingsOf}
 use Rattle.serialize.proofs.locate_artifact.Statement.{statement}
 use Rattle.serialize.proofs.locate_artifact.Tie as tie
 
@@ -18,7 +19,7 @@ deserialize-requires : tie.Need-deserialize-requires
 deserialize-requires c κs = (search needs, unknown)
 
 ended-requires : tie.Need-ended-requires
-ended-requires c κs = read-within ((c .before .before .before .opening-whole) .ensures) ((c .before .deserialize) .ensures)
+ended-requires c κs = read-within _ ((c .before .before .before .opening-whole) .ensures) ((c .before .deserialize) .ensures)
 
 enum-known-end : tie.Need-enum-known-end
 enum-known-end c = search needs
@@ -27,13 +28,15 @@ enum-known-end-2 : tie.Need-enum-known-end-2
 enum-known-end-2 c = search needs
 
 located-requires : tie.Need-located-requires
-located-requires c κs = locate-whole ((c .before .before .before .before .before .before .before .opening-whole) .ensures) ((c .before .before .before .before .before .deserialize) .ensures) ((c .before .before .before .ended) .ensures) ((c .before .end2) .given .1)
+located-requires c κs = locate-whole _ ((c .before .before .before .before .before .before .before .opening-whole) .ensures) ((c .before .before .before .before .before .deserialize) .ensures) ((c .before .before .before .ended) .ensures) ((c .before .end2) .given .1)
 
 returns : tie.Need-returns
-returns c = locate-refused ((c .before .before .before .before .before .before .before .opening-whole) .ensures) ((c .before .before .before .before .before .deserialize) .ensures) ((c .before .before .before .ended) .ensures) ((c .before .end) .given .1)
+unfolding settingsOf
+returns c = locate-refused _ ((c .before .before .before .before .before .before .before .opening-whole) .ensures) ((c .before .before .before .before .before .deserialize) .ensures) ((c .before .before .before .ended) .ensures) ((c .before .end) .given .1)
 
 returns-2 : tie.Need-returns-2
-returns-2 c = locate-found ((c .before .before .before .before .before .before .before .before .opening-whole) .ensures) ((c .before .before .before .before .before .before .deserialize) .ensures) ((c .before .before .before .before .ended) .ensures) ((c .before .before .end2) .given .1) ((c .located) .ensures)
+unfolding settingsOf
+returns-2 c = locate-found _ ((c .before .before .before .before .before .before .before .before .opening-whole) .ensures) ((c .before .before .before .before .before .before .deserialize) .ensures) ((c .before .before .before .before .ended) .ensures) ((c .before .before .end2) .given .1) ((c .located) .ensures)
 
 pub locate-artifact-spec : {M : Type 1} → statement M
 locate-artifact-spec =

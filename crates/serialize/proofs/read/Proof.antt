@@ -1,6 +1,7 @@
 use Rattle.calls.proofs.Laws.{read-within, read-since, read-granted, read-refused, read-taken}
 use Rattle.second_pass.proofs.Laws.{unknown}
 use borrow.Author.Needs.{needs}
+use Rattle.vob24.specs.Settings.{settingsOf}
 use Rattle.serialize.proofs.read.Statement.{statement}
 use Rattle.serialize.proofs.read.Tie as tie
 
@@ -14,6 +15,7 @@ same-length : tie.Need-same-length
 same-length c = search needs
 
 returns : tie.Need-returns
+unfolding settingsOf
 returns c = search needs
 
 slice-relend-prefix-deserialize : tie.Need-slice-relend-prefix-deserialize
@@ -26,7 +28,7 @@ deserialize-requires : tie.Need-deserialize-requires
 deserialize-requires c κs = (search needs, unknown)
 
 closed-whole-requires : tie.Need-closed-whole-requires
-closed-whole-requires c κs = (read-within ((c .before .before .before .before .before .opening-whole) .ensures) ((c .before .before .deserialize) .ensures), read-since ((c .before .before .before .before .before .opening-whole) .ensures) ((c .before .before .deserialize) .ensures))
+closed-whole-requires c κs = (read-within _ ((c .before .before .before .before .before .opening-whole) .ensures) ((c .before .before .deserialize) .ensures), read-since _ ((c .before .before .before .before .before .opening-whole) .ensures) ((c .before .before .deserialize) .ensures))
 
 enum-told : tie.Need-enum-told
 enum-told c = search needs
@@ -38,16 +40,18 @@ same-length-2 : tie.Need-same-length-2
 same-length-2 c = search needs
 
 returns-2 : tie.Need-returns-2
-returns-2 c = read-refused ((c .before .before .before .before .before .before .before .before .opening-whole) .ensures) ((c .before .before .before .before .before .deserialize) .ensures) (search needs) ((c .before .before .closed-whole) .ensures) ((c .enum-told2) .given .1)
+unfolding settingsOf
+returns-2 c = read-refused _ ((c .before .before .before .before .before .before .before .before .opening-whole) .ensures) ((c .before .before .before .before .before .deserialize) .ensures) (search needs) ((c .before .before .closed-whole) .ensures) ((c .enum-told2) .given .1)
 
 deserialize-requires-2 : tie.Need-deserialize-requires-2
-deserialize-requires-2 c κs = (search needs, read-granted ((c .before .before .before .before .before .before .before .before .before .opening-whole) .ensures) ((c .before .before .before .before .before .before .deserialize) .ensures) ((c .before .before .before .closed-whole) .ensures) ((c .before .enum-told) .given .1))
+deserialize-requires-2 c κs = (search needs, read-granted _ ((c .before .before .before .before .before .before .before .before .before .opening-whole) .ensures) ((c .before .before .before .before .before .before .deserialize) .ensures) ((c .before .before .before .closed-whole) .ensures) ((c .before .enum-told) .given .1))
 
 same-length-3 : tie.Need-same-length-3
 same-length-3 c = search needs
 
 returns-3 : tie.Need-returns-3
-returns-3 c = read-taken ((c .before .before .before .before .before .before .before .before .before .before .before .before .opening-whole) .ensures) ((c .before .before .before .before .before .before .before .before .before .deserialize) .ensures) (search needs) ((c .before .before .before .before .before .before .closed-whole) .ensures) ((c .before .before .before .before .enum-told) .given .1) ((c .before .before .deserialize2) .ensures)
+unfolding settingsOf
+returns-3 c = read-taken _ ((c .before .before .before .before .before .before .before .before .before .before .before .before .opening-whole) .ensures) ((c .before .before .before .before .before .before .before .before .before .deserialize) .ensures) (search needs) ((c .before .before .before .before .before .before .closed-whole) .ensures) ((c .before .before .before .before .enum-told) .given .1) ((c .before .before .deserialize2) .ensures)
 
 pub read-spec : {M : Type 1} → statement M
 read-spec =

@@ -11,7 +11,7 @@ deserialize-requires : tie.Need-deserialize-requires
 deserialize-requires c κs = (search needs, unknown)
 
 closed-whole-requires : tie.Need-closed-whole-requires
-closed-whole-requires c κs = (read-within ((c .before .before .before .before .before .pre)) ((c .before .deserialize) .ensures), read-since ((c .before .before .before .before .before .pre)) ((c .before .deserialize) .ensures))
+closed-whole-requires c κs = (read-within _ ((c .before .before .before .before .before .pre)) ((c .before .deserialize) .ensures), read-since _ ((c .before .before .before .before .before .pre)) ((c .before .deserialize) .ensures))
 
 enum-known-answer : tie.Need-enum-known-answer
 enum-known-answer c = search needs
@@ -20,28 +20,28 @@ enum-told : tie.Need-enum-told
 enum-told c = search needs
 
 returns : tie.Need-returns
-returns c = small-refused ((c .before .before .before .before .before .before .before .before .pre)) ((c .before .before .before .before .deserialize) .ensures) ((c .before .before .closed-whole) .ensures) ((c .enum-told) .given .1)
+returns c = small-refused _ ((c .before .before .before .before .before .before .before .before .pre)) ((c .before .before .before .before .deserialize) .ensures) ((c .before .before .closed-whole) .ensures) ((c .enum-told) .given .1)
 
 slice-aggregate-copy-words : tie.Need-slice-aggregate-copy-words
 slice-aggregate-copy-words c = search needs
 
 copy-words-requires : tie.Need-copy-words-requires
-copy-words-requires c κs = (search needs, read-room ((c .before .before .before .before .before .before .before .before .before .before .before .before .pre)) ((c .before .before .before .before .before .before .before .before .deserialize) .ensures) ((c .before .before .before .before .before .before .closed-whole) .ensures) ((c .before .before .before .before .answer) .given .1))
+copy-words-requires c κs = (search needs, read-room _ ((c .before .before .before .before .before .before .before .before .before .before .before .before .pre)) ((c .before .before .before .before .before .before .before .before .deserialize) .ensures) ((c .before .before .before .before .before .before .closed-whole) .ensures) ((c .before .before .before .before .answer) .given .1))
 
 same-length : tie.Need-same-length
 same-length c = search needs
 
 returns-2 : tie.Need-returns-2
-returns-2 c = small-taken ((c .before .before .before .before .before .before .before .before .before .before .before .before .before .before .before .pre)) ((c .before .before .before .before .before .before .before .before .before .before .before .deserialize) .ensures) ((c .before .before .before .before .before .before .before .before .before .closed-whole) .ensures) (search needs) ((c .before .before .before .before .before .before .before .answer) .given .1) ((c .before .before .copy-words) .ensures)
+returns-2 c = small-taken _ ((c .before .before .before .before .before .before .before .before .before .before .before .before .before .before .before .pre)) ((c .before .before .before .before .before .before .before .before .before .before .before .deserialize) .ensures) ((c .before .before .before .before .before .before .before .before .before .closed-whole) .ensures) (search needs) ((c .before .before .before .before .before .before .before .answer) .given .1) ((c .before .before .copy-words) .ensures)
 
 deserialize-requires-2 : tie.Need-deserialize-requires-2
-deserialize-requires-2 c κs = (search needs, read-granted ((c .before .before .before .before .before .before .before .before .before .before .before .pre)) ((c .before .before .before .before .before .before .before .deserialize) .ensures) ((c .before .before .before .before .before .closed-whole) .ensures) ((c .before .before .before .answer) .given .1))
+deserialize-requires-2 c κs = (search needs, read-granted _ ((c .before .before .before .before .before .before .before .before .before .before .before .pre)) ((c .before .before .before .before .before .before .before .deserialize) .ensures) ((c .before .before .before .before .before .closed-whole) .ensures) ((c .before .before .before .answer) .given .1))
 
 same-length-2 : tie.Need-same-length-2
 same-length-2 c = search needs
 
 returns-3 : tie.Need-returns-3
-returns-3 c = small-again ((c .before .before .before .before .before .before .before .before .before .before .before .before .before .before .pre)) ((c .before .before .before .before .before .before .before .before .before .before .deserialize) .ensures) ((c .before .before .before .before .before .before .before .before .closed-whole) .ensures) ((c .before .before .before .before .before .before .answer) .given .1) ((c .before .before .deserialize2) .ensures)
+returns-3 c = small-again _ ((c .before .before .before .before .before .before .before .before .before .before .before .before .before .before .pre)) ((c .before .before .before .before .before .before .before .before .before .before .deserialize) .ensures) ((c .before .before .before .before .before .before .before .before .closed-whole) .ensures) ((c .before .before .before .before .before .before .answer) .given .1) ((c .before .before .deserialize2) .ensures)
 
 pub read-small-spec : {M : Type 1} → statement M
 read-small-spec =

@@ -18,26 +18,26 @@ returns c = search needs
 sub-if2 : tie.Need-sub-if2
 sub-if2 c = search needs
 
-shared-slice-read-t35 : tie.Need-shared-slice-read-t35
-shared-slice-read-t35 c = search needs
+shared-slice-read-t36 : tie.Need-shared-slice-read-t36
+shared-slice-read-t36 c = search needs
 
-add-t36 : tie.Need-add-t36
-add-t36 c = search needs
+add-t37 : tie.Need-add-t37
+add-t37 c = search needs
 
-shared-slice-read-t38 : tie.Need-shared-slice-read-t38
-shared-slice-read-t38 c = search needs
+shared-slice-read-t39 : tie.Need-shared-slice-read-t39
+shared-slice-read-t39 c = search needs
 
-add-t39 : tie.Need-add-t39
-add-t39 c = search needs
+add-t40 : tie.Need-add-t40
+add-t40 c = search needs
 
-shared-slice-read-t41 : tie.Need-shared-slice-read-t41
-shared-slice-read-t41 c = search needs
+shared-slice-read-t42 : tie.Need-shared-slice-read-t42
+shared-slice-read-t42 c = search needs
 
-add-t42 : tie.Need-add-t42
-add-t42 c = search needs
+add-t43 : tie.Need-add-t43
+add-t43 c = search needs
 
-shared-slice-read-t44 : tie.Need-shared-slice-read-t44
-shared-slice-read-t44 c = search needs
+shared-slice-read-t45 : tie.Need-shared-slice-read-t45
+shared-slice-read-t45 c = search needs
 
 le4-requires : tie.Need-le4-requires
 le4-requires c κs = search needs
@@ -131,13 +131,13 @@ number-at-spec =
     same-length
     returns
     sub-if2
-    shared-slice-read-t35
-    add-t36
-    shared-slice-read-t38
-    add-t39
-    shared-slice-read-t41
-    add-t42
-    shared-slice-read-t44
+    shared-slice-read-t36
+    add-t37
+    shared-slice-read-t39
+    add-t40
+    shared-slice-read-t42
+    add-t43
+    shared-slice-read-t45
     le4-requires
     read-count-requires
     enum-known-q

@@ -4,14 +4,13 @@ use Rattle.transfers.proofs.Words.{transfer-stands, transfer-past, tran
 use borrow.Author.Needs.{needs}
 use Rattle.items.proofs.Asking.{asking, Asking, asking-here, asking-not, asking-more}
 use Prim.Native.Nat.{_-_}
-use Rattle.vob24.specs.Settings.{settings}
 use Rattle.vob24.specs.Grammar.{transfer}
 use Rattle.transfers.specs.Words.{transferOver}
 use Rattle.transfers.proofs.transfers.Statement.{statement}
 use Rattle.transfers.proofs.transfers.Tie as tie
 
 abbrev Inv-loop : tie.InvT-loop
-Inv-loop s context from n p₀ i₀ here₀ p i here = Asking (transfer settings) (transferOver context) s from n here₀ p i here
+Inv-loop s context from n p₀ i₀ here₀ p i here = Asking transfer (transferOver context) s from n here₀ p i here
 
 abbrev μ-loop : tie.MeasureT-loop
 μ-loop s context from n p₀ i₀ here₀ p i here = n - i

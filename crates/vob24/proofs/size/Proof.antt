@@ -1,27 +1,28 @@
 use borrow.Author.Needs.{needs}
-use mathlib.Core.Path.{sym}
+use mathlib.Core.Path.{_∙_}
 use native.Mathlib.Omega.{arith}
-use Rattle.vob24.specs.Settings.{settings}
-use Rattle.vob24.specs.SizeTable.{settings-licensed, size-most, size-below, size-past, size-at}
+use Rattle.vob24.specs.SizeTable.{array-below, array-past, array-at}
 use Rattle.vob24.proofs.size.Statement.{statement}
 use Rattle.vob24.proofs.size.Tie as tie
 
 returns : tie.Need-returns
-returns c = (sym (size-below settings (c .before .args .i) (omega arith)), omega arith)
+returns c = (array-below _ _ (omega arith), omega arith)
 
 returns-2 : tie.Need-returns-2
-returns-2 c = (sym (size-past settings (c .before .before .args .i) (omega arith)), omega arith)
+returns-2 c = (array-past _ _ (omega arith), omega arith)
 
-mul-result : tie.Need-mul-result
-mul-result c = search needs
+mul-wide : tie.Need-mul-wide
+mul-wide c = search needs
 
-array-read-result : tie.Need-array-read-result
-array-read-result c = search needs
+element-copy-out-wide : tie.Need-element-copy-out-wide
+element-copy-out-wide c = search needs
+
+wide-requires : tie.Need-wide-requires
+wide-requires c κs = search needs
 
 returns-3 : tie.Need-returns-3
-returns-3 c =
-    let e = size-at settings (c .before .before .args .i) (omega arith) in
-    (e, omega (arith, e, size-most settings-licensed (c .before .before .args .i)))
+returns-3 c = (c .wide .ensures .0 ∙ array-at _ _ (omega arith) (omega arith), c .wide .ensures .1)
 
 pub size-spec : {M : Type 1} → statement M
-size-spec = tie.close (tie.spec returns returns-2 mul-result array-read-result returns-3)
+size-spec =
+    tie.close (tie.spec returns returns-2 mul-wide element-copy-out-wide wide-requires returns-3)

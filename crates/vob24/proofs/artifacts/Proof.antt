@@ -1,0 +1,17 @@
+use borrow.Author.Needs.{needs}
+use Rattle.vob24.specs.Settings.{settingsOf}
+use Rattle.vob24.proofs.artifacts.Statement.{statement}
+use Rattle.vob24.proofs.artifacts.Tie as tie
+
+element-copy-out-wide : tie.Need-element-copy-out-wide
+element-copy-out-wide c = search needs
+
+wide-requires : tie.Need-wide-requires
+wide-requires c κs = search needs
+
+returns : tie.Need-returns
+unfolding settingsOf
+returns c = search needs
+
+pub artifacts-spec : {M : Type 1} → statement M
+artifacts-spec = tie.close (tie.spec element-copy-out-wide wide-requires returns)
