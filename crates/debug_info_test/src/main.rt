@@ -6,10 +6,11 @@ ghost use Rattle.reader.specs.Contract.{Ready};
 fn read(which: u64, s: &[u8], r: Step, functions: u64, tape: &mut [u32]) -> Step
     requires { ⌜ Ready (now s) r ⌝ }
 {
+    let set = &vob24::MEASURED;
     match which {
-        1 => debug_info::files(s, r, tape),
-        2 => debug_info::function_locations(s, r, tape),
-        _ => debug_info::inline_sources(s, r, functions, tape),
+        1 => debug_info::files(s, set, r, tape),
+        2 => debug_info::function_locations(s, set, r, tape),
+        _ => debug_info::inline_sources(s, set, r, functions, tape),
     }
 }
 

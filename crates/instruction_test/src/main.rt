@@ -7,10 +7,10 @@ fn part(h: &[u8], pack: &[u8], tape: &mut [u32]) {
         return;
     };
     if parts::which(h) == 1 {
-        let q = instruction::number_instructions(pack, c, tape);
+        let q = instruction::number_instructions(pack, &vob24::MEASURED, c, tape);
         parts::show_number(q, tape);
     } else {
-        let q = metadata::number_instruction_metadata(pack, c, tape);
+        let q = metadata::number_instruction_metadata(pack, &vob24::MEASURED, c, tape);
         parts::show_number(q, tape);
     }
 }

@@ -6,9 +6,10 @@ ghost use Rattle.reader.specs.Contract.{Ready};
 fn read(which: u64, s: &[u8], r: Step, tape: &mut [u32]) -> Step
     requires { ⌜ Ready (now s) r ⌝ }
 {
+    let set = &vob24::MEASURED;
     match which {
-        1 => interfaces::interfaces(s, r, false, tape),
-        _ => named_types::named_types(s, r, false, tape),
+        1 => interfaces::interfaces(s, set, r, false, tape),
+        _ => named_types::named_types(s, set, r, false, tape),
     }
 }
 

@@ -3,7 +3,7 @@
 
 fn part(h: &[u8], pack: &[u8], tape: &mut [u32]) {
     let r = parts::start(h, pack);
-    let q = runtime_type::runtime_types(pack, r, false, tape);
+    let q = runtime_type::runtime_types(pack, &vob24::MEASURED, r, false, tape);
     parts::show(q, tape);
 }
 

@@ -3,7 +3,7 @@
 
 fn part(h: &[u8], pack: &[u8], tape: &mut [u32]) {
     let r = parts::start(h, pack);
-    let q = slots::slot_types(pack, r, tape);
+    let q = slots::slot_types(pack, &vob24::MEASURED, r, tape);
     parts::show(q, tape);
 }
 

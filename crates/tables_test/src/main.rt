@@ -6,15 +6,16 @@ ghost use Rattle.reader.specs.Contract.{Ready};
 fn read(which: u64, s: &[u8], r: Step, tape: &mut [u32]) -> Step
     requires { ⌜ Ready (now s) r ⌝ }
 {
+    let set = &vob24::MEASURED;
     match which {
-        1 => tables::itabs(s, r, tape),
+        1 => tables::itabs(s, set, r, tape),
         2 => tables::well_known(s, r, tape),
-        3 => constants::constants(s, r, tape),
-        4 => tables::globals(s, r, tape),
+        3 => constants::constants(s, set, r, tape),
+        4 => tables::globals(s, set, r, tape),
         5 => tables::externs(s, r, tape),
         6 => tables::entry(s, r, tape),
         7 => tables::island_init(s, r, tape),
-        _ => tables::artifacts(s, r, tape),
+        _ => tables::artifacts(s, set, r, tape),
     }
 }
 
