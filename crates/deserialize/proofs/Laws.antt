@@ -3,7 +3,7 @@ use Prim.Native.Nat.{ℕ, _+_, _≤_}
 use mathlib.Core.Path.{_≡_, refl, sym, _∙_}
 use mathlib.Core.List.{List}
 use native.Mathlib.Omega.{arith}
-use mathlib.Core.Bool.{true}
+use mathlib.Core.Bool.{Bool, true}
 use lib.ListN.{length}
 use lib.Dec.{leb}
 use borrow.Author.Tests.{le-leb}
@@ -23,7 +23,9 @@ use Rattle.reader.specs.declared.Cursor.{Cursor}
 use Rattle.reader.specs.declared.Step.{Step}
 use Rattle.reader.specs.declared.Refusal.{Refusal}
 use Rattle.reader.specs.declared.Step.the-variants.{Taken, Refused}
-use Rattle.deserialize.specs.Parts.{ComesTo}
+use Rattle.vob24.specs.declared.Section.{Section}
+use Rattle.second_pass.specs.Granted.{Granted}
+use Rattle.deserialize.specs.Parts.{formatOf, ComesTo}
 use Rattle.deserialize.specs.Reach.{On, Reaches}
 
 rest : {v₁ : Value} (t : Settled Value) {v : Value} {q l : ℕ} → thenS t (λ w r m. taken (pair v₁ w) r m) ≡ taken v q l → (v₁ ≡ first v) × (t ≡ taken (second v) q l)
@@ -70,6 +72,14 @@ comes-last h = record { rest = λ k. fieldReads (h .reads) (λ _. k); ready = h 
 
 pub comes-next : {f g e : Format} {s t t₁ t′ : List ℕ} {r r₁ r′ : Step} → Reader f s r t r₁ t₁ → ComesTo e g s r₁ t₁ r′ t′ → ComesTo (seq f (λ _. e)) g s r t r′ t′
 comes-next h c = record { rest = λ k. fieldReads (h .reads) (λ _. c .rest k); ready = c .ready }
+
+-- ---- one section, by its name
+module _ (set : Settings) {x : Section} (y : Section) (e : x ≡ y) {s : List ℕ} {r : Step} where
+  pub section-at : {q : Step} {t t′ : List ℕ} → Reader (formatOf set y) s r t q t′ → Reader (formatOf set x) s r t q t′
+  section-at h = rw e h
+
+  pub granted-section : {b : Bool} → Granted b (formatOf set x) s r → Granted b (formatOf set y) s r
+  granted-section g = rw e at g
 
 -- ---- the lookup
 

@@ -4,8 +4,14 @@ use mathlib.Core.List.{List}
 use Rattle.format.specs.Format.{Format, seq, _▸_, counted}
 use Rattle.vob24.specs.Settings.{Settings}
 use Rattle.vob24.specs.Grammar.{structs, interfaces, namedTypes, itabs, runtimeTypes, wellKnown, constants, globals, functions, artifacts, files, functionLocations, inlineSources, section, afterFunctions}
+use Rattle.vob24.specs.Sections.{sectionOf, functionsOf}
+use Rattle.vob24.specs.declared.Section.{Section}
 use Rattle.reader.specs.Contract.{Ready, Reads}
 use Rattle.reader.specs.declared.Step.{Step}
+
+-- one section
+abbrev pub formatOf : Settings → Section → Format
+formatOf set x = section set (functionsOf x) (sectionOf x)
 
 abbrev pub fromArtifacts : Settings → ℕ → Format
 fromArtifacts set n = section set n artifacts ▸ section set n files ▸ section set n functionLocations ▸ section set n inlineSources

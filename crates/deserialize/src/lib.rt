@@ -6,10 +6,11 @@ ghost use Rattle.vob24.specs.Settings.{settingsOf};
 ghost use Rattle.vob24.specs.Grammar.{afterFunctions, section, functions as functionsSection, pack as packFormat};
 ghost use Rattle.reader.specs.Contract.{Ready, Reader};
 ghost use Rattle.second_pass.specs.Granted.{Granted};
-ghost use Rattle.deserialize.specs.Parts.{fromArtifacts, fromWellKnown, fromStructs, ComesTo};
+ghost use Rattle.deserialize.specs.Parts.{formatOf, fromArtifacts, fromWellKnown, fromStructs, ComesTo};
 ghost use Rattle.deserialize.specs.Reach.{Reaches};
 use reader::Number;
 use reader::Step;
+use vob24::Section;
 use vob24::Settings;
 
 // The artifacts and the debug information: five lists, which are empty in a small pack.
@@ -86,6 +87,39 @@ pub fn deserialize(s: &[u8], set: &Settings, r: Step, again: bool, tape: &mut [u
     let r6 = constants::constants(s, set, r5, tape);
     let r7 = tables::globals(s, set, r6, tape);
     functions_on(s, set, r7, tape)
+}
+
+// One section. A second pass leaves out the search for repeated names.
+pub fn section(
+    s: &[u8],
+    set: &Settings,
+    section: Section,
+    r: Step,
+    again: bool,
+    tape: &mut [u32],
+) -> Step
+    requires { ⌜ (Ready (now s) r) × (Granted again (formatOf (settingsOf (now set)) section) (now s) r) ⌝ }
+    ensures { λ q. ⌜ Reader (formatOf (settingsOf (now (set .entry))) section) (now (s .entry)) r (now (tape .entry)) q (now (tape .exit)) ⌝ }
+{
+    match section {
+        Section::Name => fields::field_str(s, r, tape),
+        Section::Structs => structs::structs(s, set, r, again, tape),
+        Section::Interfaces => interfaces::interfaces(s, set, r, again, tape),
+        Section::NamedTypes => named_types::named_types(s, set, r, again, tape),
+        Section::Itabs => tables::itabs(s, set, r, tape),
+        Section::RuntimeTypes => runtime_type::runtime_types(s, set, r, again, tape),
+        Section::WellKnown => tables::well_known(s, r, tape),
+        Section::Constants => constants::constants(s, set, r, tape),
+        Section::Globals => tables::globals(s, set, r, tape),
+        Section::Functions => functions::functions(s, set, r, tape),
+        Section::Externs => tables::externs(s, r, tape),
+        Section::Entry => tables::entry(s, r, tape),
+        Section::IslandInit => tables::island_init(s, r, tape),
+        Section::Artifacts => tables::artifacts(s, set, r, tape),
+        Section::Files => debug_info::files(s, set, r, tape),
+        Section::FunctionLocations => debug_info::function_locations(s, set, r, tape),
+        Section::InlineSources(n) => debug_info::inline_sources(s, set, r, n, tape),
+    }
 }
 
 // On to the artifacts of a pack that is taken.

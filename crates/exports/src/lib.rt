@@ -6,6 +6,7 @@ ghost use Rattle.vob24.specs.Grammar as vob;
 ghost use Rattle.vob24.specs.Calls.{readOutcome, sectionOutcome, findOutcome};
 ghost use Rattle.answers.specs.Numbers.{foundNumbers, Shows};
 pub use answers::VobAnswer;
+use vob24::Section;
 
 #[no_mangle]
 pub extern "C" fn vob_read(pack: &[u8], budget: u64, tape: &mut [u32]) -> VobAnswer
@@ -35,14 +36,14 @@ pub extern "C" fn vob_charge_size(index: u64) -> u64
 pub extern "C" fn vob_name(pack: &[u8], place: u64, budget: u64, tape: &mut [u32]) -> VobAnswer
     ensures { λ q. ⌜ Shows (sectionOutcome settings 0 vob.name (now (pack .entry)) place budget (now (tape .entry))) q (now (tape .exit)) ⌝ }
 {
-    answers::shown(sections::read_name(pack, place as usize, budget, tape))
+    answers::shown(sections::read_section(pack, Section::Name, place as usize, budget, tape))
 }
 
 #[no_mangle]
 pub extern "C" fn vob_structs(pack: &[u8], place: u64, budget: u64, tape: &mut [u32]) -> VobAnswer
     ensures { λ q. ⌜ Shows (sectionOutcome settings 0 vob.structs (now (pack .entry)) place budget (now (tape .entry))) q (now (tape .exit)) ⌝ }
 {
-    answers::shown(sections::read_structs(pack, place as usize, budget, tape))
+    answers::shown(sections::read_section(pack, Section::Structs, place as usize, budget, tape))
 }
 
 #[no_mangle]
@@ -54,7 +55,7 @@ pub extern "C" fn vob_interfaces(
 ) -> VobAnswer
     ensures { λ q. ⌜ Shows (sectionOutcome settings 0 vob.interfaces (now (pack .entry)) place budget (now (tape .entry))) q (now (tape .exit)) ⌝ }
 {
-    answers::shown(sections::read_interfaces(pack, place as usize, budget, tape))
+    answers::shown(sections::read_section(pack, Section::Interfaces, place as usize, budget, tape))
 }
 
 #[no_mangle]
@@ -66,14 +67,14 @@ pub extern "C" fn vob_named_types(
 ) -> VobAnswer
     ensures { λ q. ⌜ Shows (sectionOutcome settings 0 vob.namedTypes (now (pack .entry)) place budget (now (tape .entry))) q (now (tape .exit)) ⌝ }
 {
-    answers::shown(sections::read_named_types(pack, place as usize, budget, tape))
+    answers::shown(sections::read_section(pack, Section::NamedTypes, place as usize, budget, tape))
 }
 
 #[no_mangle]
 pub extern "C" fn vob_itabs(pack: &[u8], place: u64, budget: u64, tape: &mut [u32]) -> VobAnswer
     ensures { λ q. ⌜ Shows (sectionOutcome settings 0 vob.itabs (now (pack .entry)) place budget (now (tape .entry))) q (now (tape .exit)) ⌝ }
 {
-    answers::shown(sections::read_itabs(pack, place as usize, budget, tape))
+    answers::shown(sections::read_section(pack, Section::Itabs, place as usize, budget, tape))
 }
 
 #[no_mangle]
@@ -85,7 +86,13 @@ pub extern "C" fn vob_runtime_types(
 ) -> VobAnswer
     ensures { λ q. ⌜ Shows (sectionOutcome settings 0 vob.runtimeTypes (now (pack .entry)) place budget (now (tape .entry))) q (now (tape .exit)) ⌝ }
 {
-    answers::shown(sections::read_runtime_types(pack, place as usize, budget, tape))
+    answers::shown(sections::read_section(
+        pack,
+        Section::RuntimeTypes,
+        place as usize,
+        budget,
+        tape,
+    ))
 }
 
 #[no_mangle]
@@ -97,42 +104,42 @@ pub extern "C" fn vob_well_known(
 ) -> VobAnswer
     ensures { λ q. ⌜ Shows (sectionOutcome settings 0 vob.wellKnown (now (pack .entry)) place budget (now (tape .entry))) q (now (tape .exit)) ⌝ }
 {
-    answers::shown(sections::read_well_known(pack, place as usize, budget, tape))
+    answers::shown(sections::read_section(pack, Section::WellKnown, place as usize, budget, tape))
 }
 
 #[no_mangle]
 pub extern "C" fn vob_constants(pack: &[u8], place: u64, budget: u64, tape: &mut [u32]) -> VobAnswer
     ensures { λ q. ⌜ Shows (sectionOutcome settings 0 vob.constants (now (pack .entry)) place budget (now (tape .entry))) q (now (tape .exit)) ⌝ }
 {
-    answers::shown(sections::read_constants(pack, place as usize, budget, tape))
+    answers::shown(sections::read_section(pack, Section::Constants, place as usize, budget, tape))
 }
 
 #[no_mangle]
 pub extern "C" fn vob_globals(pack: &[u8], place: u64, budget: u64, tape: &mut [u32]) -> VobAnswer
     ensures { λ q. ⌜ Shows (sectionOutcome settings 0 vob.globals (now (pack .entry)) place budget (now (tape .entry))) q (now (tape .exit)) ⌝ }
 {
-    answers::shown(sections::read_globals(pack, place as usize, budget, tape))
+    answers::shown(sections::read_section(pack, Section::Globals, place as usize, budget, tape))
 }
 
 #[no_mangle]
 pub extern "C" fn vob_functions(pack: &[u8], place: u64, budget: u64, tape: &mut [u32]) -> VobAnswer
     ensures { λ q. ⌜ Shows (sectionOutcome settings 0 vob.functions (now (pack .entry)) place budget (now (tape .entry))) q (now (tape .exit)) ⌝ }
 {
-    answers::shown(sections::read_functions(pack, place as usize, budget, tape))
+    answers::shown(sections::read_section(pack, Section::Functions, place as usize, budget, tape))
 }
 
 #[no_mangle]
 pub extern "C" fn vob_externs(pack: &[u8], place: u64, budget: u64, tape: &mut [u32]) -> VobAnswer
     ensures { λ q. ⌜ Shows (sectionOutcome settings 0 vob.externs (now (pack .entry)) place budget (now (tape .entry))) q (now (tape .exit)) ⌝ }
 {
-    answers::shown(sections::read_externs(pack, place as usize, budget, tape))
+    answers::shown(sections::read_section(pack, Section::Externs, place as usize, budget, tape))
 }
 
 #[no_mangle]
 pub extern "C" fn vob_entry(pack: &[u8], place: u64, budget: u64, tape: &mut [u32]) -> VobAnswer
     ensures { λ q. ⌜ Shows (sectionOutcome settings 0 vob.entry (now (pack .entry)) place budget (now (tape .entry))) q (now (tape .exit)) ⌝ }
 {
-    answers::shown(sections::read_entry(pack, place as usize, budget, tape))
+    answers::shown(sections::read_section(pack, Section::Entry, place as usize, budget, tape))
 }
 
 #[no_mangle]
@@ -144,21 +151,21 @@ pub extern "C" fn vob_island_init(
 ) -> VobAnswer
     ensures { λ q. ⌜ Shows (sectionOutcome settings 0 vob.islandInit (now (pack .entry)) place budget (now (tape .entry))) q (now (tape .exit)) ⌝ }
 {
-    answers::shown(sections::read_island_init(pack, place as usize, budget, tape))
+    answers::shown(sections::read_section(pack, Section::IslandInit, place as usize, budget, tape))
 }
 
 #[no_mangle]
 pub extern "C" fn vob_artifacts(pack: &[u8], place: u64, budget: u64, tape: &mut [u32]) -> VobAnswer
     ensures { λ q. ⌜ Shows (sectionOutcome settings 0 vob.artifacts (now (pack .entry)) place budget (now (tape .entry))) q (now (tape .exit)) ⌝ }
 {
-    answers::shown(sections::read_artifacts(pack, place as usize, budget, tape))
+    answers::shown(sections::read_section(pack, Section::Artifacts, place as usize, budget, tape))
 }
 
 #[no_mangle]
 pub extern "C" fn vob_files(pack: &[u8], place: u64, budget: u64, tape: &mut [u32]) -> VobAnswer
     ensures { λ q. ⌜ Shows (sectionOutcome settings 0 vob.files (now (pack .entry)) place budget (now (tape .entry))) q (now (tape .exit)) ⌝ }
 {
-    answers::shown(sections::read_files(pack, place as usize, budget, tape))
+    answers::shown(sections::read_section(pack, Section::Files, place as usize, budget, tape))
 }
 
 #[no_mangle]
@@ -170,7 +177,13 @@ pub extern "C" fn vob_function_locations(
 ) -> VobAnswer
     ensures { λ q. ⌜ Shows (sectionOutcome settings 0 vob.functionLocations (now (pack .entry)) place budget (now (tape .entry))) q (now (tape .exit)) ⌝ }
 {
-    answers::shown(sections::read_function_locations(pack, place as usize, budget, tape))
+    answers::shown(sections::read_section(
+        pack,
+        Section::FunctionLocations,
+        place as usize,
+        budget,
+        tape,
+    ))
 }
 
 #[no_mangle]
@@ -183,5 +196,11 @@ pub extern "C" fn vob_inline_sources(
 ) -> VobAnswer
     ensures { λ q. ⌜ Shows (sectionOutcome settings functions vob.inlineSources (now (pack .entry)) place budget (now (tape .entry))) q (now (tape .exit)) ⌝ }
 {
-    answers::shown(sections::read_inline_sources(pack, place as usize, budget, functions, tape))
+    answers::shown(sections::read_section(
+        pack,
+        Section::InlineSources(functions),
+        place as usize,
+        budget,
+        tape,
+    ))
 }

@@ -6,6 +6,7 @@ use stored::LOOKUP;
 use stored::SECTION_CALL;
 use stored::Tally;
 use stored::WHOLE;
+use vob24::Section;
 
 fn whole(t: Tally, h: &[u8], pack: &[u8], words: &[u8], tape: &mut [u32]) -> Tally {
     stored::mark(tape);
@@ -14,32 +15,26 @@ fn whole(t: Tally, h: &[u8], pack: &[u8], words: &[u8], tape: &mut [u32]) -> Tal
     stored::hold_tape(t, h, words, tape)
 }
 
-fn called(
-    number: u64,
-    pack: &[u8],
-    place: usize,
-    budget: u64,
-    functions: u64,
-    tape: &mut [u32],
-) -> Answer {
+// The section that a record names by its number.
+fn section_of(number: u64, functions: u64) -> Section {
     match number {
-        1 => sections::read_name(pack, place, budget, tape),
-        2 => sections::read_structs(pack, place, budget, tape),
-        3 => sections::read_interfaces(pack, place, budget, tape),
-        4 => sections::read_named_types(pack, place, budget, tape),
-        5 => sections::read_itabs(pack, place, budget, tape),
-        6 => sections::read_runtime_types(pack, place, budget, tape),
-        7 => sections::read_well_known(pack, place, budget, tape),
-        8 => sections::read_constants(pack, place, budget, tape),
-        9 => sections::read_globals(pack, place, budget, tape),
-        10 => sections::read_functions(pack, place, budget, tape),
-        11 => sections::read_externs(pack, place, budget, tape),
-        12 => sections::read_entry(pack, place, budget, tape),
-        13 => sections::read_island_init(pack, place, budget, tape),
-        14 => sections::read_artifacts(pack, place, budget, tape),
-        15 => sections::read_files(pack, place, budget, tape),
-        16 => sections::read_function_locations(pack, place, budget, tape),
-        _ => sections::read_inline_sources(pack, place, budget, functions, tape),
+        1 => Section::Name,
+        2 => Section::Structs,
+        3 => Section::Interfaces,
+        4 => Section::NamedTypes,
+        5 => Section::Itabs,
+        6 => Section::RuntimeTypes,
+        7 => Section::WellKnown,
+        8 => Section::Constants,
+        9 => Section::Globals,
+        10 => Section::Functions,
+        11 => Section::Externs,
+        12 => Section::Entry,
+        13 => Section::IslandInit,
+        14 => Section::Artifacts,
+        15 => Section::Files,
+        16 => Section::FunctionLocations,
+        _ => Section::InlineSources(functions),
     }
 }
 
@@ -49,7 +44,7 @@ fn section(t: Tally, h: &[u8], pack: &[u8], words: &[u8], tape: &mut [u32]) -> T
     let budget = stored::long(h, stored::BUDGET);
     let functions = stored::long(h, stored::FUNCTIONS);
     stored::mark(tape);
-    let answer = called(number, pack, place, budget, functions, tape);
+    let answer = sections::read_section(pack, section_of(number, functions), place, budget, tape);
     let t = stored::hold_answer(t, h, answer);
     stored::hold_tape(t, h, words, tape)
 }

@@ -5,6 +5,7 @@ pub mod Utf8
 pub mod Leaves
 pub mod Questions
 pub mod Grammar
+pub mod Sections
 pub mod Cost
 pub mod Calls
 -- theorems

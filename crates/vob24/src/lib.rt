@@ -1,10 +1,32 @@
 // The VOB 24 rule pack: its grammar, its definitions of text, packed numbers, record, cost and calls, and their theorems, in specs/.
-// The code here is the table of sizes and limits that every charge reads; it ports the `size_of` terms and the limits of serialize.rs.
+// The code here is the list of sections, and the table of sizes and limits that every charge reads; it ports the `size_of` terms and
+// the limits of serialize.rs.
 ghost use mathlib.Core.Path.{_≡_};
 ghost use Prim.Native.Nat.{_<_};
 ghost use Rattle.vob24.specs.Settings.{settingsOf, sizeOf};
 
 mod limits;
+
+// The sections of a pack, in file order; the inline sources with the number of functions that bounds them.
+pub enum Section {
+    Name,
+    Structs,
+    Interfaces,
+    NamedTypes,
+    Itabs,
+    RuntimeTypes,
+    WellKnown,
+    Constants,
+    Globals,
+    Functions,
+    Externs,
+    Entry,
+    IslandInit,
+    Artifacts,
+    Files,
+    FunctionLocations,
+    InlineSources(u64),
+}
 
 // What a reading is set to: the 32 sizes, and behind them the limits, at the indexes that `limits` names (`settingsOf` in
 // specs/Settings.antt). Readers take it as `&Settings`. An entry is below 65,536 by its type, so that no count times a size wraps.
