@@ -1,5 +1,6 @@
 //! Packs to measure with, written byte by byte: each is the bare pack with one section, or all of them, filled.
 
+use crate::names::Names;
 use std::collections::HashMap;
 
 /// Bytes in file order.
@@ -274,10 +275,56 @@ pub fn typical(size: usize) -> Vec<u8> {
         .finish()
 }
 
-/// One text: the pack's name, of one character again and again.
-pub fn text(size: usize, character: &str) -> Vec<u8> {
-    let text = character.repeat(size / character.len());
+/// One text: the pack's name.
+fn called(text: &str) -> Vec<u8> {
     Pack::bare().with(Section::Name, Bytes::default().text(text.as_bytes()).clone()).finish()
+}
+
+/// One text, of one character again and again.
+pub fn text(size: usize, character: &str) -> Vec<u8> {
+    called(&character.repeat(size / character.len()))
+}
+
+/// The accents of all packs come from one seed, so that each run reads the same bytes.
+const SEED: u64 = 24;
+
+/// One text of full names, some of them of ASCII alone.
+pub fn european(size: usize) -> Vec<u8> {
+    let mut names = Names::new(SEED);
+    let mut text = names.full();
+    while text.len() < size {
+        text += ", ";
+        text += &names.full();
+    }
+    called(&text)
+}
+
+/// So many constants, each a name with an accent.
+pub fn accented_constants(n: usize) -> Vec<u8> {
+    let mut names = Names::new(SEED);
+    let constants = list(n, |bytes, _| {
+        bytes.u8(4).text(names.accented().as_bytes());
+    });
+    Pack::bare().with(Section::Constants, constants).finish()
+}
+
+/// So many structs of twelve fields, whose names have accents and differ.
+pub fn accented_structs(n: usize) -> Vec<u8> {
+    let mut names = Names::new(SEED);
+    let structs = list(n, |bytes, _| {
+        let mut fields = Vec::new();
+        while fields.len() < 12 {
+            let name = names.accented();
+            if !fields.contains(&name) {
+                fields.push(name);
+            }
+        }
+        bytes.slots(4).u32(12);
+        for (k, name) in fields.iter().enumerate() {
+            field(bytes, name.as_bytes(), k);
+        }
+    });
+    Pack::bare().with(Section::Structs, structs).finish()
 }
 
 /// A struct with so many slot types.

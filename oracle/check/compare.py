@@ -31,6 +31,8 @@ def answer(record, coverage):
     if record.kind == "section":
         return reader.section(record.pack, record.section, record.place, record.budget, record.functions, record.tape,
                               coverage)
+    if record.kind == "text":
+        return reader.text(record.pack, record.place, record.budget, coverage)
     return reader.lookup(record.pack, record.name, coverage)
 
 

@@ -1,6 +1,6 @@
 """A second reader of VOB 24 packs, written from document 01 and serialize.rs and independent of the harness.
 
-It computes whole answers: tape words, charge list, section starts, place, budget left, section calls and lookups.
+It computes whole answers: tape words, charge list, section starts, place, budget left, section calls, lookups and texts.
 For the coverage table it also notes at which place of the format each question was put and answered no.
 """
 
@@ -53,6 +53,17 @@ def well_formed(text):
             return False
         at += length
     return True
+
+
+def characters(text):
+    """How many characters Python's own decoder finds in a text, None where it refuses it; the table has to agree."""
+    try:
+        found = len(text.decode("utf-8", "strict"))
+    except UnicodeDecodeError:
+        found = None
+    if well_formed(text) != (found is not None):
+        raise ValueError(f"Python's decoder and the table don't agree on {text.hex()}")
+    return found
 
 
 class Reader:
@@ -557,6 +568,21 @@ def section(pack, number, place, budget, functions, tape, coverage=None):
     except Refused as refused:
         return Result(1, refused.fields + (r.place, r.left), r)
     return Result(0, (len(r.words), r.place - place, budget - r.left, r.left), r)
+
+
+def text(pack, place, budget, coverage=None):
+    """A text alone. Status 0 with start, length, number of characters, and place and budget after it, or a refusal."""
+    r = Reader(pack, place, budget, coverage)
+    where = "text alone"
+    try:
+        r.ask(where, len(pack) <= MAX_PACK, 1, 0, len(pack), MAX_PACK)
+        r.ask(where, place <= len(pack), 2, kind="place")
+        start, found = r.span(where, 1, None)
+        count = characters(found)
+        r.ask(where, count is not None, 6)
+    except Refused as refused:
+        return Result(1, refused.fields + (r.place, r.left), r)
+    return Result(0, (start, len(found), count, r.place, r.left))
 
 
 def lookup(pack, name, coverage=None):

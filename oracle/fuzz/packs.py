@@ -21,7 +21,8 @@ def seeds(folder):
     folder.mkdir(parents=True, exist_ok=True)
     for path in (ORACLE / "answers").glob("*.bin"):
         for record in records(path):
-            if len(record.pack) <= LONGEST:
+            # What a text is read from alone is no pack.
+            if record.kind != "text" and len(record.pack) <= LONGEST:
                 (folder / hashlib.sha1(record.pack).hexdigest()).write_bytes(record.pack)
 
 

@@ -1,9 +1,12 @@
-// Replays the lists of the oracle's answers that its arguments name: whole packs, section calls and lookups.
+// Replays the lists of the oracle's answers that its arguments name: whole packs, section calls, lookups, and texts alone.
 // Prints each difference, and a line for each list.
 use calls::Answer;
 use lookup::Found;
+use reader::Step;
+use reader::Text;
 use stored::LOOKUP;
 use stored::SECTION_CALL;
+use stored::TEXT;
 use stored::Tally;
 use stored::WHOLE;
 use vob24::Section;
@@ -58,6 +61,21 @@ fn lookup(t: Tally, h: &[u8], pack: &[u8], name: &[u8]) -> Tally {
     stored::hold_payload(t, h, pack, serialize::find_artifact(pack, name))
 }
 
+// A text through the leaf, which alone says how many characters there are. The leaf requires what a call asks first.
+fn text(t: Tally, h: &[u8], pack: &[u8]) -> Tally {
+    let place = stored::long(h, stored::PLACE) as usize;
+    let opened = calls::opening(pack, place, stored::long(h, stored::BUDGET));
+    match opened {
+        Step::Refused(r) => stored::hold_refusal(t, h, r),
+        Step::Taken(c) => match payloads::read_string(pack, c.place, c.left, c.at) {
+            Text::Got(start, length, characters, d) => {
+                stored::hold_text(t, h, start, length, characters, d)
+            }
+            Text::Not(r) => stored::hold_refusal(t, h, r),
+        },
+    }
+}
+
 fn replay_kind(
     t: Tally,
     h: &[u8],
@@ -72,6 +90,9 @@ fn replay_kind(
     }
     if kind == SECTION_CALL {
         return section(t, h, pack, words, tape);
+    }
+    if kind == TEXT {
+        return text(t, h, pack);
     }
     let t = stored::hold(t, b"kind", kind, WHOLE);
     whole(t, h, pack, words, tape)

@@ -2,6 +2,7 @@
 // says. oracle/README.md has the format.
 use calls::Answer;
 use libc::STDOUT_FILENO;
+use reader::Cursor;
 use reader::Refusal;
 use std::num::wrapping_add_u32;
 use std::num::wrapping_add_u64;
@@ -15,6 +16,8 @@ pub const WHOLE: u64 = 1;
 pub const SECTION_CALL: u64 = 2;
 
 pub const LOOKUP: u64 = 3;
+
+pub const TEXT: u64 = 4;
 
 const HEADER: u64 = 128;
 
@@ -373,6 +376,24 @@ pub fn hold_found(t: Tally, h: &[u8], start: usize, length: usize) -> Tally {
     let t = hold(t, b"count", number(h, COUNT), 0);
     let t = hold(t, b"start", long(h, FIELDS), start as u64);
     hold(t, b"length", long(h, FIELDS + 8), length as u64)
+}
+
+// The cursor is the one past the text.
+pub fn hold_text(
+    t: Tally,
+    h: &[u8],
+    start: usize,
+    length: usize,
+    characters: usize,
+    c: Cursor,
+) -> Tally {
+    let t = hold(t, b"status", long(h, STATUS), 0);
+    let t = hold(t, b"count", number(h, COUNT), 0);
+    let t = hold(t, b"start", long(h, FIELDS), start as u64);
+    let t = hold(t, b"length", long(h, FIELDS + 8), length as u64);
+    let t = hold(t, b"characters", long(h, FIELDS + 16), characters as u64);
+    let t = hold(t, b"place", long(h, FIELDS + 24), c.place as u64);
+    hold(t, b"left", long(h, FIELDS + 32), c.left)
 }
 
 // Holds the tape that a record lends, marked before the call, against the record: its counted words, and that the

@@ -4,6 +4,7 @@ use crate::round::Class;
 use harness::answer::{self, opening_part, Reading, BARE, NO_END, RUST_BUDGET};
 use harness::cases;
 use harness::packs::{self, Chance};
+use harness::texts::{self, BESIDE, ILL_FORMED, KINDS};
 use measured::serialize::MAX_VOB_BYTES;
 use original::bytecode::WellKnownTypes;
 use std::rc::Rc;
@@ -249,7 +250,7 @@ pub fn spliced(first: (&[u8], &Reading), second: (&[u8], &Reading), chance: &mut
     [&a[..x], &b[y..]].concat()
 }
 
-/// A list of inputs that is gone through once, in an order that is spread over it.
+/// A list of inputs, packs or for the class `Text` texts, that is gone through once, in an order that is spread over it.
 pub struct Family {
     pub class: Class,
     pub label: &'static str,
@@ -422,7 +423,85 @@ pub fn families() -> Vec<Family> {
             let id = [0, 1, 0xFFFFFE, 0xFFFFFF][i as usize / 256 % 4];
             packed_word(i as usize / 1024, (id << 8) | (i as u32 % 256))
         }),
+        Family::new(Class::Text, "texts of each length and kind of characters", 1_500, TEXT_LENGTHS, text_of_length),
+        Family::new(
+            Class::Text,
+            "texts with a sequence at the table's edges at each offset",
+            1_500,
+            TEXT_OFFSETS,
+            text_with_sequence,
+        ),
+        Family::new(Class::Text, "texts whose length looks like lead bytes", 1_500, LEAD_TEXTS, text_like_leads),
     ]
+}
+
+const TEXT_LENGTHS: usize = (texts::LONGEST + 1) * KINDS.len() * 4;
+
+/// Exactly so many bytes of a kind: with the last character or the first one cut short, or with ASCII in its place.
+fn text_of_length(index: u64) -> Vec<u8> {
+    let (kind, index) = (KINDS[index as usize % KINDS.len()], index as usize / KINDS.len());
+    let length = index / 4;
+    match index % 4 {
+        0 => texts::cut(kind, length),
+        1 => {
+            let characters = texts::repeated(kind, length);
+            characters.as_bytes()[characters.len() - length..].to_vec()
+        }
+        2 => texts::ended(kind, length),
+        _ => texts::moved(kind, length),
+    }
+}
+
+/// Characters at the edges of the table, the marked ones among them.
+const WELL_FORMED: [&[u8]; 8] = [
+    b"\xC2\x80",
+    b"\xC3\xA9",
+    b"\x65\xCC\x81",
+    b"\xE0\xA0\x80",
+    b"\xED\x9F\xBF",
+    b"\xF0\x90\x80\x80",
+    b"\xF3\xBF\xBF\xBF",
+    b"\xF4\x8F\xBF\xBF",
+];
+
+const SEQUENCES: usize = ILL_FORMED.len() + WELL_FORMED.len();
+const OFFSETS: usize = 257;
+const TEXT_OFFSETS: usize = SEQUENCES * BESIDE.len() * 3 * OFFSETS;
+
+/// A sequence in a text that ends with it, some bytes after it, or past another 240 bytes.
+fn text_with_sequence(index: u64) -> Vec<u8> {
+    let (offset, index) = (index as usize % OFFSETS, index as usize / OFFSETS);
+    let (beside, index) = (BESIDE[index % BESIDE.len()], index / BESIDE.len());
+    let sequence = *ILL_FORMED.iter().chain(&WELL_FORMED).nth(index % SEQUENCES).expect("one of them");
+    let after = [0, 1 + offset % 19, 260][index / SEQUENCES];
+    let (all, at) = texts::around(sequence, beside, OFFSETS, 260);
+    all[at - offset..at + sequence.len() + after].to_vec()
+}
+
+/// The first byte of lengths whose second byte is F0 to FF.
+const LOW_BYTES: [usize; 4] = [0x00, 0x80, 0xC2, 0xF0];
+const LEAD_LENGTHS: usize = 16 * LOW_BYTES.len();
+const OPENINGS: usize = 4 * KINDS.len();
+const LEAD_TEXTS: usize = LEAD_LENGTHS * OPENINGS;
+
+fn text_like_leads(index: u64) -> Vec<u8> {
+    let (length, opening) = (index as usize % LEAD_LENGTHS, index as usize / LEAD_LENGTHS);
+    text_opening((0xF0 + length / LOW_BYTES.len()) << 8 | LOW_BYTES[length % LOW_BYTES.len()], opening)
+}
+
+/// A text of so many bytes: characters of a kind, after up to three continuation bytes that no lead comes before but what
+/// looks like one in the length word.
+fn text_opening(length: usize, index: usize) -> Vec<u8> {
+    let opening = &[0x80; 3][..index / KINDS.len()];
+    [opening, &texts::ended(KINDS[index % KINDS.len()], length - opening.len())].concat()
+}
+
+/// Texts that are so long that the third byte of their length looks like a lead byte.
+pub const LONG_TEXTS: usize = 12;
+
+pub fn long_text(index: usize) -> Vec<u8> {
+    let length = [0xE0_0000, 0xE0_F0C2, 0xEF_8080, 0xF0_0000, 0xF4_F4F4, 0x1E0_0000][index % 6];
+    text_opening(length, index * 5 % OPENINGS)
 }
 
 /// A pack with this word as meta or rttid of a named type, or as a transfer word.

@@ -65,6 +65,10 @@ mistakes! {
     OverlongFour: "F0 80 80 80 is well-formed",
     PastUnicode: "F4 90 80 80 is well-formed",
     CutCharacter: "a text may end inside a character",
+    CutWithRest: "a text may end inside a character that the bytes after it complete",
+    LengthAsLead: "a text goes on with a character that its length word seems to begin",
+    AcrossSixteen: "a character across two parts of 16 bytes is not judged",
+    AcrossParts: "a character across two parts of 240 bytes is not judged",
     EmptyStart: "an empty text starts at 0",
     Characters: "a text's length counts characters",
     CountUnasked: "a count is not held against the bytes left",
@@ -202,6 +206,13 @@ const FOLDS: [(&str, &str); 2] = [("\u{e9}", "e\u{301}"), ("\u{c0}", "A\u{300}")
 fn folded(name: &[u8]) -> Vec<u8> {
     let text = String::from_utf8_lossy(name).into_owned();
     FOLDS.iter().fold(text, |text, (one, two)| text.replace(one, two)).into_bytes()
+}
+
+/// How many of a text's first bytes go on with what the three bytes before it seem to begin.
+fn seems_begun(before: &[u8], text: &[u8]) -> usize {
+    let asked = before.iter().rev().zip([0xC0, 0xE0, 0xF0]).filter(|(byte, least)| *byte >= least).count();
+    let there = text.iter().take_while(|byte| *byte & 0xC0 == 0x80).count();
+    asked.min(there)
 }
 
 pub struct Model {
@@ -632,7 +643,7 @@ impl<'a> Cursor<'a> {
         }
         let start = self.place;
         let text = &self.pack[start..start + length as usize];
-        let judged = self.well_formed(text) || (artifact && self.is(Mistake::ArtifactNameUnread));
+        let judged = self.well_formed(start, text) || (artifact && self.is(Mistake::ArtifactNameUnread));
         self.place += length as usize;
         if self.is(Mistake::TextJudgedFirst) {
             ask(judged, 6, 0, 0, 0)?;
@@ -651,10 +662,16 @@ impl<'a> Cursor<'a> {
         Ok((start, text))
     }
 
-    /// The Unicode Standard's table 3-7.
-    fn well_formed(&self, text: &[u8]) -> bool {
-        let mut rest = text;
-        while let Some(first) = rest.first() {
+    /// The Unicode Standard's table 3-7, on the text at `start`.
+    fn well_formed(&self, start: usize, text: &[u8]) -> bool {
+        let part = match self.mistake {
+            Mistake::AcrossSixteen => 16,
+            Mistake::AcrossParts => 240,
+            _ => usize::MAX,
+        };
+        let continues = |byte: &u8| byte & 0xC0 == 0x80;
+        let mut at = if self.is(Mistake::LengthAsLead) { seems_begun(&self.pack[..start], text) } else { 0 };
+        while let Some(first) = text.get(at) {
             let (second, length) = match first {
                 0x00..=0x7F => (0..=0xFF, 1),
                 0xC0 if self.is(Mistake::OverlongTwo) => (0x80..=0x80, 2),
@@ -667,13 +684,20 @@ impl<'a> Cursor<'a> {
                 0xF0..=0xF4 => (0x80..=0xBF, 4),
                 _ => return false,
             };
-            if rest.len() < length {
+            let last = at + length - 1;
+            if at / part != last / part {
+                at = last / part * part;
+                at += text[text.len().min(at)..].iter().take_while(|byte| continues(byte)).count();
+                continue;
+            }
+            let all = if self.is(Mistake::CutWithRest) { &self.pack[start..] } else { text };
+            if last >= all.len() {
                 return self.is(Mistake::CutCharacter);
             }
-            if length > 1 && !second.contains(&rest[1]) || rest[1..length].iter().any(|byte| byte & 0xC0 != 0x80) {
+            if length > 1 && !second.contains(&all[at + 1]) || !all[at + 1..=last].iter().all(continues) {
                 return false;
             }
-            rest = &rest[length..];
+            at = last + 1;
         }
         true
     }
@@ -1058,7 +1082,7 @@ impl<'a> Cursor<'a> {
             self.place += length as usize;
             self.charge(10, length)?;
             if self.is(Mistake::PayloadText) {
-                ask(self.well_formed(&self.pack[start..self.place]), 6, 0, 0, 0)?;
+                ask(self.well_formed(start, &self.pack[start..self.place]), 6, 0, 0, 0)?;
             }
             self.put(start as u64);
             self.put(length);

@@ -3,7 +3,8 @@
 use crate::calls::{fields, found, Call, Fields, Reader};
 use crate::inputs::{self, Family};
 use crate::memory::{Pack, Tape};
-use harness::answer::{self, Reading, NO_END, RUST_BUDGET};
+use harness::answer::{self, opening_part, Reading, NO_END, RUST_BUDGET};
+use harness::cases;
 use harness::packs::{self, Chance};
 use measured::serialize::MAX_VOB_BYTES;
 use std::time::{Duration, Instant};
@@ -24,6 +25,8 @@ pub enum Class {
     Byte,
     /// Texts, packed numbers, packed words and counts, at the ends of their ranges.
     Leaf,
+    /// Texts around the edges of parts of 16 and of 240 bytes, at the start and the end of a pack among them.
+    Text,
     /// The packs of the stored lists.
     Listed,
     /// At limits that only a long pack reaches.
@@ -176,6 +179,10 @@ impl<'r> Round<'r> {
             for j in 0..self.families[i].share {
                 let Some(pack) = self.families[i].next() else { break };
                 let class = self.families[i].class;
+                if class == Class::Text {
+                    self.text(class, &pack)?;
+                    continue;
+                }
                 let effort = match class {
                     Class::Listed => Effort { budgets: 64, tapes: 4, sections: 17, lookups: 4 },
                     Class::Short => Effort { budgets: 0, tapes: 0, sections: (j % 4 == 0) as u64, lookups: 0 },
@@ -208,6 +215,27 @@ impl<'r> Round<'r> {
         self.sections(pack, &reading, effort.sections)?;
         self.lookups(pack, &reading, effort.lookups)?;
         Ok(reading)
+    }
+
+    /// A text as the name in a pack, as a name section at the pack's end, as all of the pack, between bytes that look like
+    /// the start and the rest of a character, and, where it is short enough, as an artifact's name.
+    fn text(&mut self, class: Class, text: &[u8]) -> Go {
+        const NOTHING_MORE: Effort = Effort { budgets: 0, tapes: 0, sections: 0, lookups: 0 };
+        let stored = cases::text(text);
+        self.input(class, &cases::with_section(1, 4, &stored), NOTHING_MORE)?;
+        for (before, after) in [(&opening_part(1, 0)[..], &[][..]), (&[], &[]), (&[0xF0; 12], &[0x80; 3])] {
+            let pack = [before, &stored, after].concat();
+            self.bench.pack.fill(&pack);
+            let place = before.len() as u64;
+            let reading = answer::section(&pack, 1, place, u64::MAX, 0, u64::MAX);
+            let call = Call::Section { number: 1, place, budget: RUST_BUDGET, functions: 0, tape: 2 };
+            self.case(class, &pack, call, fields(reading.under(RUST_BUDGET, 2)), &reading.tape())?;
+        }
+        if text.len() <= 128 {
+            let artifact = [&[1, 0, 0, 0], &stored[..], &[0; 8]].concat();
+            self.input(class, &cases::with_section(14, 4, &artifact), NOTHING_MORE)?;
+        }
+        Ok(())
     }
 
     /// At, one below and one above the sum of an opening part of the charge list: all of them, or as many as asked for.
@@ -318,6 +346,9 @@ impl<'r> Round<'r> {
                 self.section(&pack, 1, u64::MAX, 1)?;
             }
         }
+        for i in 0..inputs::LONG_TEXTS {
+            self.text(Class::Long, &inputs::long_text(i))?;
+        }
         Ok(())
     }
 
@@ -360,6 +391,7 @@ impl<'r> Round<'r> {
             Class::Short,
             Class::Byte,
             Class::Leaf,
+            Class::Text,
             Class::Listed,
             Class::Long,
             Class::Budget,

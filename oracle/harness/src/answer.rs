@@ -7,6 +7,7 @@ use measured::serialize::{SerializeError, MAX_VOB_BYTES};
 
 pub const RUST_BUDGET: u64 = 512 * 1024 * 1024;
 pub const NO_END: usize = usize::MAX;
+const NAME: usize = 1;
 const EXTERNS: usize = 11;
 const INLINE_SOURCES: usize = 17;
 
@@ -177,6 +178,25 @@ pub fn section(pack: &[u8], number: usize, place: u64, budget: u64, functions: u
         Answer::Taken { left, .. } | Answer::Refused { left, .. } => *left += aside,
     }
     reading
+}
+
+/// A text that was taken, and where its reading ended.
+pub struct Text {
+    pub start: u64,
+    pub length: u64,
+    pub characters: u64,
+    pub place: u64,
+    pub left: u64,
+}
+
+/// A text alone: the name section is one and nothing more. The Rust keeps it as a `String`, which counts its characters.
+pub fn text(pack: &[u8], place: u64, budget: u64) -> Result<Text, Answer> {
+    let reading = section(pack, NAME, place, budget, 0, u64::MAX);
+    let Answer::Taken { bytes, left, .. } = reading.answer else { return Err(reading.answer) };
+    let [start, length] = reading.tape()[..] else { panic!("a text's words are its start and its length") };
+    let text = pack[start as usize..][..length as usize].to_vec();
+    let characters = String::from_utf8(text).expect("the Rust took the text").chars().count();
+    Ok(Text { start: start as u64, length: length as u64, characters: characters as u64, place: place + bytes, left })
 }
 
 fn section_behind(pack: &[u8], number: usize, place: u64, budget: u64, functions: u64, tape: u64) -> Reading {

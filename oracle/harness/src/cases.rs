@@ -4,6 +4,7 @@ use crate::answer::{self, opening_part, Answer, NO_END, RUST_BUDGET};
 use crate::corpus;
 use crate::packs::{self, Chance, Pack};
 use crate::record::{Book, Edit, SectionCall, LONG_TAPE, PACKCHECK_TAPE};
+use crate::texts;
 use std::collections::{BTreeMap, HashSet};
 
 const NO_EDIT: Edit = Edit { at: 0, len: 0, bytes: [0; 4] };
@@ -745,6 +746,7 @@ pub fn stored() -> Vec<(&'static str, Book)> {
         ("sections.bin", sections()),
         ("lookups.bin", lookups()),
         ("corpus.bin", kept()),
+        ("texts.bin", texts::book()),
     ]
 }
 

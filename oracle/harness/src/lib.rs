@@ -6,4 +6,5 @@ pub mod corpus;
 pub mod packs;
 pub mod record;
 pub mod sizes;
+pub mod texts;
 mod words;

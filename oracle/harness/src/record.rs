@@ -10,6 +10,7 @@ pub const LONG_TAPE: u64 = 65_536;
 const WHOLE: u32 = 1;
 const SECTION: u32 = 2;
 const LOOKUP: u32 = 3;
+const TEXT: u32 = 4;
 
 /// Up to four bytes that stand in place of the buffer's own for one record.
 #[derive(Clone, Copy, Default)]
@@ -81,6 +82,19 @@ impl Book {
         };
         let call = SectionCall { number: 0, place: 0, budget: RUST_BUDGET, functions: 0, tape: 0 };
         self.record(LOOKUP, pack, pack.len(), Edit::default(), call, name, fields, &[], false);
+    }
+
+    /// A text alone, in the first `length` bytes of `buffer`, changed by `edit`. Gives the answer's number, 0 where it is
+    /// taken.
+    pub fn text(&mut self, buffer: &[u8], length: usize, edit: Edit, place: u64, budget: u64) -> u64 {
+        let answer = answer::text(&edit.apply(&buffer[..length]), place, budget);
+        let fields = match &answer {
+            Ok(text) => [0, text.start, text.length, text.characters, text.place, text.left, 0],
+            Err(refused) => refused.fields(),
+        };
+        let call = SectionCall { number: 0, place, budget, functions: 0, tape: 0 };
+        self.record(TEXT, buffer, length, edit, call, &[], fields, &[], false);
+        answer.map_or_else(|refused| refused.number(), |_| 0)
     }
 
     #[allow(clippy::too_many_arguments)]
