@@ -14,7 +14,7 @@ use Rattle.format.specs.Format.{Value, Format}
 use Rattle.format.specs.Reading.{trace}
 use Rattle.format.specs.Record.{words}
 use Rattle.format.specs.Settling.{settle-taken, thenS}
-use Rattle.format.specs.Ending.{trace-place}
+use Rattle.format.specs.Ending.{trace-within}
 use Rattle.vob24.specs.Refusals
 use Rattle.vob24.specs.Settings.{Settings, maxPackBytes}
 use Rattle.vob24.specs.Grammar.{Section, section, pack}
@@ -144,7 +144,7 @@ module _ {f : Format} {t : Trace Value} {s : List ℕ} {p b : ℕ} {r₀ : Step}
   passed-since : {r : Step} → Passed f t s p b r₀ r → Since p b r
   passed-since (passed {v = v} {c = c} _ _ i _) =
       let k = settle-taken b (trace f s p) v (c .place) (c .left) .0 i in
-      record { place = λ c′ e. let x : c′ ≡ c = cc in rw x (omega (arith, trace-place f s p (k .0) .0)); left = λ c′ e. let x : c′ ≡ c = cc in rw x (omega (arith, k .2)) }
+      record { place = λ c′ e. let x : c′ ≡ c = cc in rw x (omega (arith, trace-within f s p (k .0) .0)); left = λ c′ e. let x : c′ ≡ c = cc in rw x (omega (arith, k .2)) }
   passed-since (denied i) = record { place = λ c e. let no : _≡_ {A = ℕ} 0 1 = cc in absurd (omega arith); left = λ c e. let no : _≡_ {A = ℕ} 0 1 = cc in absurd (omega arith) }
 
   -- what a first pass has taken is not refused in a second

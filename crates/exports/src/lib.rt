@@ -27,7 +27,7 @@ pub extern "C" fn vob_find_artifact(pack: &[u8], name: &[u8]) -> VobAnswer
 pub extern "C" fn vob_charge_size(index: u64) -> u64
     ensures { λ q. ⌜ q ≡ sizeOf settings index ⌝ }
 {
-    vob24::size(&vob24::MEASURED, index as usize)
+    vob24::measured_size(index as usize)
 }
 
 // ---- the sections, in file order

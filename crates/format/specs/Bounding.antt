@@ -11,7 +11,7 @@ use Rattle.format.specs.Trace.{Wrong, wrong, unexpectedEof, Trace, stop,
 use Rattle.format.specs.Format.{Value, num, pair, number, first, second, Rule, Width, Ask, pay, deny, fixed, mark, packed, string, payload, count, ask, Format, empty, leaf, seq, chain, times, items, entries, counted}
 use Rattle.format.specs.Reading.{little, part, room, field, traceAsk, traceLeaf, trace}
 use Rattle.format.specs.Layout.{Bytes, bytes, Valid}
-use Rattle.format.specs.Ending.{bind-out, leaf-ends, seq-ends, trace-place}
+use Rattle.format.specs.Ending.{bind-out, leaf-ends, seq-ends, trace-within}
 use Rattle.format.specs.Charging.{chargesAsk, free-guard, free-bind, packed-free}
 use Rattle.format.specs.Laying.{trace-placed}
 use Rattle.format.specs.Closing.{AtLeast, least-at, least-chain}
@@ -62,7 +62,7 @@ rated-seq a c j k f g b x y z = record { stops = λ s p u h. stops′ s p u h (s
     stops′ s p u h (alone e) = omega (arith, e, x .stops s p u h, add-mul k j (length s - p))
     stops′ s p u h (both v m e i) =
         let d = trace-placed f s p u e in
-        let w = trace-place f s p e in
+        let w = trace-within f s p e in
         let len : length (bytes f v) ≡ m - p = omega (arith, d .1 .next) in
         let split : m - p + (length s - m) ≡ length s - p = omega (arith, w .0, w .1 h) in
         let l = join a (b v) c j k (m - p) (length s - m) (omega (arith, ap (λ n. j * n) len, z v p (d .0))) in
@@ -72,8 +72,8 @@ rated-seq a c j k f g b x y z = record { stops = λ s p u h. stops′ s p u h (s
     ends′ s p {v} {q} u h t =
         let r = seq-ends f g s p t in
         let d = trace-placed f s p u (r .fore) in
-        let w = trace-place f s p (r .fore) in
-        let w′ = trace-place (g (first v)) s (r .mid) (r .back) in
+        let w = trace-within f s p (r .fore) in
+        let w′ = trace-within (g (first v)) s (r .mid) (r .back) in
         let len : length (bytes f (first v)) ≡ r .mid - p = omega (arith, d .1 .next) in
         let split : r .mid - p + (q - r .mid) ≡ q - p = omega (arith, w .0, w′ .0) in
         let l = join a (b (first v)) c j k (r .mid - p) (q - r .mid) (omega (arith, ap (λ n. j * n) len, z (first v) p (d .0))) in

@@ -144,32 +144,60 @@ packed-place (suc k) m s p {n} {q} h = let a = field-ends _ s p _ h in go (a .0)
     go f (last u x y z) i = (omega arith, omega arith)
     go f (more u x e y) i = let r = i x e in (omega arith, omega arith)
 
-pub leaf-place : (l : Leaf) (s : List ℕ) (p : ℕ) (v : Value) (q : ℕ) → Passed l s p v q → (p + length (wordsLeaf l v) ≤ q) × (p ≤ length s → q ≤ length s)
-unfolding wordsLeaf
-leaf-place (fixed w r) s p v q h = (omega (arith, shorter w), λ x. omega arith)
-  where
-    shorter : (w : Width) → p + length (shown w (number v)) ≤ p + size w
-    shorter byte = omega arith
-    shorter half = omega arith
-    shorter word = omega arith
-    shorter long = omega arith
-    shorter option = omega arith
-leaf-place (mark m y) s p v q h = (omega arith, λ x. omega arith)
-leaf-place packed s p v q h = let r = packed-place 4 0 s p (h .1) in (omega arith, λ x. r .1)
-leaf-place (string r c ok) s p v q h = (omega arith, λ x. omega arith)
-leaf-place (payload r c) s p v q h = (omega arith, λ x. omega arith)
-leaf-place (count r m c z) s p v q h = (omega arith, λ x. omega arith)
-leaf-place (ask l) s p v q h = (omega arith, λ x. omega arith)
+-- Places stay within the pack: a reading never goes back, nor past the end.
+leaf-within : (l : Leaf) (s : List ℕ) (p : ℕ) (v : Value) (q : ℕ) → Passed l s p v q → (p ≤ q) × (p ≤ length s → q ≤ length s)
+leaf-within (fixed w r) s p v q h = (omega arith, λ x. omega arith)
+leaf-within (mark m y) s p v q h = (omega arith, λ x. omega arith)
+leaf-within packed s p v q h = let r = packed-place 4 0 s p (h .1) in (omega arith, λ x. r .1)
+leaf-within (string r c ok) s p v q h = (omega arith, λ x. omega arith)
+leaf-within (payload r c) s p v q h = (omega arith, λ x. omega arith)
+leaf-within (count r m c z) s p v q h = (omega arith, λ x. omega arith)
+leaf-within (ask l) s p v q h = (omega arith, λ x. omega arith)
 
-pub trace-place : (f : Format) (s : List ℕ) (p : ℕ) {v : Value} {q : ℕ} → Ends (trace f s p) v q → (p + length (words f v) ≤ q) × (p ≤ length s → q ≤ length s)
-unfolding trace words out
-trace-place empty s p {v} {q} h = let x : q ≡ p = cc in (omega arith, λ y. omega arith)
-trace-place (leaf l) s p h = leaf-place l s p _ _ (leaf-ends l s p h)
-trace-place (seq f g) s p {v} {q} h =
+pub trace-within : (f : Format) (s : List ℕ) (p : ℕ) {v : Value} {q : ℕ} → Ends (trace f s p) v q → (p ≤ q) × (p ≤ length s → q ≤ length s)
+unfolding trace out
+trace-within empty s p {v} {q} h = let x : q ≡ p = cc in (omega arith, λ y. omega arith)
+trace-within (leaf l) s p h = leaf-within l s p _ _ (leaf-ends l s p h)
+trace-within (seq f g) s p {v} {q} h =
     let r = seq-ends f g s p h in
-    let a = trace-place f s p (r .fore) in
-    let b = trace-place (g (first v)) s (r .mid) (r .back) in
-    (rw length-append (omega arith), λ x. b .1 (a .1 x))
+    let a = trace-within f s p (r .fore) in
+    let b = trace-within (g (first v)) s (r .mid) (r .back) in
+    (omega arith, λ x. b .1 (a .1 x))
+
+-- No more words than bytes: a property of a format, that of its parts.
+pub record Slim (f : Format) : Type 0 where
+  pub most : (s : List ℕ) (p : ℕ) {v : Value} {q : ℕ} → Ends (trace f s p) v q → p + length (words f v) ≤ q
+
+slim-leaf : (l : Leaf) → Slim (leaf l)
+unfolding trace words wordsLeaf
+slim-leaf l = record { most = λ s p {v} {q} h. go l s p v q (leaf-ends l s p h) }
+  where
+    shorter : (w : Width) (p n : ℕ) → p + length (shown w n) ≤ p + size w
+    shorter byte p n = omega arith
+    shorter half p n = omega arith
+    shorter word p n = omega arith
+    shorter long p n = omega arith
+    shorter option p n = omega arith
+
+    go : (l : Leaf) (s : List ℕ) (p : ℕ) (v : Value) (q : ℕ) → Passed l s p v q → p + length (wordsLeaf l v) ≤ q
+    go (fixed w r) s p v q h = omega (arith, shorter w p (number v))
+    go (mark m y) s p v q h = omega arith
+    go packed s p v q h = omega (arith, packed-place 4 0 s p (h .1))
+    go (string r c ok) s p v q h = omega arith
+    go (payload r c) s p v q h = omega arith
+    go (count r m c z) s p v q h = omega arith
+    go (ask l) s p v q h = omega arith
+
+slim-seq : {f : Format} {g : Value → Format} → Slim f → ((v : Value) → Slim (g v)) → Slim (seq f g)
+unfolding words
+slim-seq {f} {g} a b = record { most = λ s p {v} h. let r = seq-ends f g s p h in rw length-append (omega (arith, a .most s p (r .fore), b (first v) .most s (r .mid) (r .back))) }
+
+-- Every leaf has it, so every format has.
+pub slim : (f : Format) → Slim f
+unfolding trace words out
+slim empty = record { most = λ s p {v} {q} h. let x : q ≡ p = cc in omega arith }
+slim (leaf l) = slim-leaf l
+slim (seq f g) = slim-seq (slim f) (λ v. slim (g v))
 
 -- A sequence under a budget.
 pub settle-seq : (b : ℕ) (f : Format) (g : Value → Format) (s : List ℕ) (p : ℕ) → settle b (trace (seq f g) s p) ≡ thenS (settle b (trace f s p)) (λ v q l. thenS (settle l (trace (g v) s q)) (λ w r m. taken (pair v w) r m))

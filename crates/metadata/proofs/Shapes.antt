@@ -34,7 +34,7 @@ abbrev itemsOf : ℕ → ℕ → Items
 itemsOf p n = record { start = p + 4; count = n }
 
 -- slot types take one byte each
-slots-place : (set : Settings) → {s : List ℕ} {c d : Cursor} {q : Number} {n : ℕ} {t t₁ : List ℕ} → q ≡ Got n d → NumberOf (slotTypes set) counted s c t q t₁ → d .place ≡ c .place + 4 + n
+slots-place : (set : Settings) {s : List ℕ} {c d : Cursor} {q : Number} {n : ℕ} {t t₁ : List ℕ} → q ≡ Got n d → NumberOf (slotTypes set) counted s c t q t₁ → d .place ≡ c .place + 4 + n
 slots-place set e h = omega (arith, list-place byte (atMost 5 invalidSlotType) e h)
 
 -- one list
@@ -70,7 +70,7 @@ module _ (set : Settings) {s : List ℕ} {c c₁ : Cursor} {q₁ : Number} {a : 
 
 -- ---- by the tag
 
-pub metadataAt : (set : Settings) → (k : ℕ) {s : List ℕ} {c d : Cursor} {q : Number} {n : ℕ} {x : MetadataRecord} {r : Step} {t t₁ t₂ : List ℕ} → q ≡ Got n d → n ≡ k → NumberOf metadataTagged number s c t q t₁
+pub metadataAt : (set : Settings) (k : ℕ) {s : List ℕ} {c d : Cursor} {q : Number} {n : ℕ} {x : MetadataRecord} {r : Step} {t t₁ t₂ : List ℕ} → q ≡ Got n d → n ≡ k → NumberOf metadataTagged number s c t q t₁
     → Recorded (getD (metadataVariants set) k empty) (λ p v. getD (metadataRecords p v) k (bareOf kind.None)) s d t₁ r x t₂ → Recorded (metadata set) metadataOf s c t r x t₂
 unfolding metadata metadataOf
 metadataAt set k e i h m = variantAt (metadataVariants set) metadataRecords (bareOf kind.None) k e i h m

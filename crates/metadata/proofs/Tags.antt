@@ -34,7 +34,7 @@ tag-is {ρ} {s = s} {c = c} a e h =
     g .is ∙ ap number (p .2) ∙ byte-at s (c .place) (p .0) ∙ a
 
 -- None: nothing follows the tag
-none-reads : (set : Settings) → {s : List ℕ} {c : Cursor} (q : Number) {t t₁ : List ℕ} → getD s (c .place) 0 ≡ 0 → NumberOf metadataTagged number s c t q t₁ → Reader (metadata set) s (Taken c) t (stepOf q) t₁
+none-reads : (set : Settings) {s : List ℕ} {c : Cursor} (q : Number) {t t₁ : List ℕ} → getD s (c .place) 0 ≡ 0 → NumberOf metadataTagged number s c t q t₁ → Reader (metadata set) s (Taken c) t (stepOf q) t₁
 unfolding metadata
 none-reads set (Got n d) a h = chooseAt (metadataVariants set) 0 refl refl (tag-is a refl h) h (emptyThen (got-ready refl h))
 none-reads set (Not x) a h = numberNot _ refl refl h

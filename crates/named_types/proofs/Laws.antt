@@ -33,7 +33,7 @@ use Rattle.second_pass.specs.Granted.{Granted}
 use Rattle.second_pass.proofs.Laws.{granted-part, granted-ends}
 use Rattle.named_types.specs.NamedTypes.{namedMethod, namedMethods, newMethods, AllNew, MethodsRead}
 
-pub methodsThen : (set : Settings) → {s : List ℕ} {c d : Cursor} {q : Number} {n : ℕ} {r r₂ : Step} {t t₁ t₂ : List ℕ} → r ≡ Taken c → q ≡ Got n d → NumberOf (methodCount set) number s c t q t₁ → Reader (chain newMethod alsoSeen [] n) s (Taken d) t₁ r₂ t₂ → Reader (namedMethods set) s r t r₂ t₂
+pub methodsThen : (set : Settings) {s : List ℕ} {c d : Cursor} {q : Number} {n : ℕ} {r r₂ : Step} {t t₁ t₂ : List ℕ} → r ≡ Taken c → q ≡ Got n d → NumberOf (methodCount set) number s c t q t₁ → Reader (chain newMethod alsoSeen [] n) s (Taken d) t₁ r₂ t₂ → Reader (namedMethods set) s r t r₂ t₂
 unfolding methods
 methodsThen set y e h k = at-step y (numberThen (chain newMethod alsoSeen []) e h k)
 
@@ -175,7 +175,7 @@ module _ {s : List ℕ} {d : Cursor} {n m lim : ℕ} {t t₁ : List ℕ} {q : St
       go z e c = let i = e .1 in rw i (record { reads = again (rw i at (c .reads)); ready = tt })
 
 -- in a second pass there is none
-pub granted-run : (set : Settings) → {s : List ℕ} {b : Bool} {r : Step} {c d : Cursor} {p : Number} {n m : ℕ} {q : Step} {t t₁ t₂ : List ℕ} → r ≡ Taken c → p ≡ Got n d → NumberOf (methodCount set) number s c t p t₁ → b ≡ true → Granted b (namedMethods set) s r → MethodsRead s d n n t₁ m q t₂ → Reader (namedMethods set) s r t q t₂
+pub granted-run : (set : Settings) {s : List ℕ} {b : Bool} {r : Step} {c d : Cursor} {p : Number} {n m : ℕ} {q : Step} {t t₁ t₂ : List ℕ} → r ≡ Taken c → p ≡ Got n d → NumberOf (methodCount set) number s c t p t₁ → b ≡ true → Granted b (namedMethods set) s r → MethodsRead s d n n t₁ m q t₂ → Reader (namedMethods set) s r t q t₂
 granted-run set {s} {d = d} {n = n} y e h i g a =
     let w = granted-ends i (granted-part (λ x k. methodsThen set y e h k) g) in
     methodsThen set y e h (a .reads (record { new = λ k l. all-new s (d .place) n (w .2) k (omega (arith, a .within)) }) (λ l. absurd (omega arith)))

@@ -11,7 +11,7 @@ use Rattle.format.specs.Format.{Value, none, pair, Format, empty, seq, chain, t
 use Rattle.format.specs.Reading.{trace}
 use Rattle.format.specs.Record.{words}
 use Rattle.format.specs.Settling.{thenS, settle-taken}
-use Rattle.format.specs.Ending.{settle-seq, trace-place}
+use Rattle.format.specs.Ending.{settle-seq, trace-within, slim}
 use Rattle.reader.specs.Contract.{stepOf, Ready, ReadyAt, Takes, Refuses, Reads, takes, refuses, skips, Reader, ReadsOf, got, lost, NumberOf}
 use Rattle.reader.specs.declared.Cursor.{Cursor}
 use Rattle.reader.specs.declared.Refusal.{Refusal}
@@ -31,8 +31,8 @@ takes-ends {f} {s} {c} {c′} {t} {t′} {v} h = settle-taken (c .left) (trace f
 -- what is ready stays so: a word has a byte of its own
 pub takes-ready : {f : Format} {s : List ℕ} {c c′ : Cursor} {t t′ : List ℕ} {v : Value} → ReadyAt s c → Takes f s c t v c′ t′ → ReadyAt s c′
 takes-ready {f} {s} {c} {c′} {t} {t′} {v} r h =
-    let p = trace-place f s (c .place) (takes-ends h) in
-    record { small = r .small; within = p .1 (r .within); behind = omega (arith, h .moves, p .0, r .behind) }
+    let e = takes-ends h in
+    record { small = r .small; within = trace-within f s (c .place) e .1 (r .within); behind = omega (arith, h .moves, slim f .most s (c .place) e, r .behind) }
 
 module _ {s : List ℕ} {f : Format} {g : Value → Format} {c : Cursor} where
   pub seq-refuses : {x : Refusal} → Refuses f s c x → Refuses (seq f g) s c x

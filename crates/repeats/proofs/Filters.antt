@@ -10,7 +10,7 @@ use lib.Bits.{bitAnd, bitOr, and-le-r}
 use lib.Dec.{eqb, ltb}
 use borrow.Author.Count.{below-more}
 use borrow.Author.Tests.{eqb-true, eqb-false, ltb-true, ltb-false}
-use Rattle.format.specs.Ending.{trace-place}
+use Rattle.format.specs.Ending.{trace-within}
 use Rattle.items.specs.declared.Table.{Table}
 use Rattle.items.specs.Walk.{AllStand, nextAt, lastAt}
 use Rattle.items.specs.Items.{textAt}
@@ -215,6 +215,6 @@ module _ {t : Table} {s : List ℕ} {from : ℕ} where
       pub leaving-more : {q : ℕ} → Past (formatIn t) s p q → Leaving t s from q (k - 1)
       leaving-more w =
           let i = leaving-here in
-          record { items = items-next h (l .items) w; room = λ _. rw (w .is) (trace-place (formatIn t) s p (i .stands .ends) .1 (omega (arith, item-name (itemOf t) i .room))) }
+          record { items = items-next h (l .items) w; room = λ _. rw (w .is) (trace-within (formatIn t) s p (i .stands .ends) .1 (omega (arith, item-name (itemOf t) i .room))) }
 
 pub ruleset leaving = (leaving-start, leaving-done, leaving-here, leaving-more)

@@ -28,7 +28,7 @@ use Rattle.runtime_type.specs.Records.{optionalOf, listedAt, twoOf, past
 use Rattle.runtime_type.specs.Contract.{typeStep, TypeReader}
 
 -- rttids take four bytes each
-pub rttids-place : (set : Settings) → {s : List ℕ} {c d : Cursor} {q : Number} {n : ℕ} {t t₁ : List ℕ} → q ≡ Got n d → NumberOf (rttids set) counted s c t q t₁ → d .place ≡ c .place + 4 + 4 * n
+pub rttids-place : (set : Settings) {s : List ℕ} {c d : Cursor} {q : Number} {n : ℕ} {t t₁ : List ℕ} → q ≡ Got n d → NumberOf (rttids set) counted s c t q t₁ → d .place ≡ c .place + 4 + 4 * n
 rttids-place set e h = omega (arith, list-place word (packedWord invalidPackedValueRttid) e h)
 
 -- ---- the records of lists

@@ -1,19 +1,15 @@
 // A list of slot types, which stands in many records: structs, globals, functions, instructions' metadata.
 // Ports `read_vec(read_slot_type)` of serialize.rs.
-// Most lists have one item or two: such a list is tested whole, and then kept, without a loop. Where a test fails, nothing is kept yet,
-// and the list is read as any other, so that a refusal is made in one place.
-ghost use Rattle.format.specs.Format.{counted, Leaf, Width};
+// Most lists have one item or two: a list of at most four is tested whole, and then kept, without a loop. Where a test fails, nothing is
+// kept yet, and the list is read as any other, so that a refusal is made in one place.
+ghost use Rattle.format.specs.Format.{counted};
 ghost use Rattle.vob24.specs.Settings.{settingsOf};
-ghost use Rattle.vob24.specs.Refusals.{invalidSlotType};
-ghost use Rattle.vob24.specs.Leaves.{atMost};
 ghost use Rattle.vob24.specs.Grammar.{slotTypes};
 ghost use Rattle.reader.specs.Contract.{cursorAt, Ready, ReadyAt, Reader, NumberOf};
-ghost use Rattle.reader.specs.Leaves.{Answers};
-ghost use Rattle.slots.specs.Past.{past};
+ghost use Rattle.slots.specs.Short.{Keeps};
 use reader::Cursor;
 use reader::Number;
 use reader::Step;
-use reader::numbers;
 use reader::sizes;
 use vob24::Settings;
 
@@ -33,69 +29,80 @@ fn number_any(s: &[u8], set: &Settings, c: Cursor, tape: &mut [u32]) -> Number
     Number::Got(n, e)
 }
 
-// The slot type behind a word that is kept only when the whole list is tested.
-fn item(s: &[u8], c: Cursor) -> Number
-    requires { ⌜ ReadyAt (now s) (past c) ⌝ }
-    ensures { λ q. ⌜ Answers (Leaf.fixed Width.byte (atMost 5 invalidSlotType)) (now (s .entry)) (past c) q ⌝ }
+// How many slot types the list at `place` has, where they are one to four, all good: then their words are kept. 0 of any other list.
+fn short(s: &[u8], place: usize, at: usize, tape: &mut [u32]) -> usize
+    requires { ⌜ ReadyAt (now s) (cursorAt place 0 at) ⌝ }
+    ensures { λ n. ⌜ Keeps (now (s .entry)) place at (now (tape .entry)) n (now (tape .exit)) ⌝ }
 {
-    let d = Cursor {
-        place: c.place,
-        left: c.left,
-        at: c.at + 1,
-    };
-    leaves::read_small(s, d, 5, numbers::INVALID_SLOT_TYPE)
+    if s.len() - place < 8 {
+        return 0;
+    }
+    let count = reader::le4([s[place], s[place + 1], s[place + 2], s[place + 3]]);
+    let first = s[place + 4];
+    if 5 < first {
+        return 0;
+    }
+    if count == 1 {
+        reader::put(tape, at, 1);
+        reader::put(tape, at + 1, lists::wide(first));
+        return 1;
+    }
+    let second = s[place + 5];
+    if 5 < second {
+        return 0;
+    }
+    if count == 2 {
+        reader::put(tape, at, 2);
+        reader::put(tape, at + 1, lists::wide(first));
+        reader::put(tape, at + 2, lists::wide(second));
+        return 2;
+    }
+    let third = s[place + 6];
+    if 5 < third {
+        return 0;
+    }
+    if count == 3 {
+        reader::put(tape, at, 3);
+        reader::put(tape, at + 1, lists::wide(first));
+        reader::put(tape, at + 2, lists::wide(second));
+        reader::put(tape, at + 3, lists::wide(third));
+        return 3;
+    }
+    let fourth = s[place + 7];
+    if 5 < fourth {
+        return 0;
+    }
+    if count == 4 {
+        reader::put(tape, at, 4);
+        reader::put(tape, at + 1, lists::wide(first));
+        reader::put(tape, at + 2, lists::wide(second));
+        reader::put(tape, at + 3, lists::wide(third));
+        reader::put(tape, at + 4, lists::wide(fourth));
+        return 4;
+    }
+    0
 }
 
-// The cursor comes in registers, as for texts. The budget and the count are looked at before the leaf asks, so that the compiler drops the leaf's refusals
-// here. `number_any` is called with copies: what is lent to it, or is its answer, stands in memory and not in registers, also where it is
-// not called.
-fn number_at(
-    s: &[u8],
-    set: &Settings,
-    place: usize,
-    left: u64,
-    at: usize,
-    tape: &mut [u32],
-) -> Number
-    requires { ⌜ ReadyAt (now s) (cursorAt place left at) ⌝ }
-    ensures { λ q. ⌜ NumberOf (slotTypes (settingsOf (now (set .entry)))) counted (now (s .entry)) (cursorAt place left at) (now (tape .entry)) q (now (tape .exit)) ⌝ }
+// Hands out how many they are.
+pub fn number_slot_types(s: &[u8], set: &Settings, c: Cursor, tape: &mut [u32]) -> Number
+    requires { ⌜ ReadyAt (now s) c ⌝ }
+    ensures { λ q. ⌜ NumberOf (slotTypes (settingsOf (now (set .entry)))) counted (now (s .entry)) c (now (tape .entry)) q (now (tape .exit)) ⌝ }
 {
-    let c = Cursor { place, left, at };
-    if left < 2 {
-        let pack = s;
-        let start = c;
-        let any = number_any(pack, set, start, tape);
-        return any;
-    }
-    if 4 <= s.len() - place {
-        let count = reader::le4([s[place], s[place + 1], s[place + 2], s[place + 3]]);
-        if count == 1 {
-            let q = payloads::read_count(s, set, c, sizes::SLOT_TYPE);
-            if let Number::Got(n, d) = q {
-                if n == 1 {
-                    let r = item(s, d);
-                    if let Number::Got(only, e) = r {
-                        reader::keep(d, n, tape);
-                        return Number::Got(n, reader::keep(e, only, tape));
-                    }
-                }
-            }
-        }
-        if count == 2 {
-            let q = payloads::read_count(s, set, c, sizes::SLOT_TYPE);
-            if let Number::Got(n, d) = q {
-                if n == 2 {
-                    let r1 = item(s, d);
-                    if let Number::Got(first, e) = r1 {
-                        let r2 = item(s, e);
-                        if let Number::Got(second, f) = r2 {
-                            reader::keep(d, n, tape);
-                            reader::keep(e, first, tape);
-                            return Number::Got(n, reader::keep(f, second, tape));
-                        }
-                    }
-                }
-            }
+    let size = vob24::size(set, sizes::SLOT_TYPE);
+    let left = c.left;
+    if 4 * size <= left {
+        let place = c.place;
+        let at = c.at;
+        let n = short(s, place, at, tape);
+        if 0 < n {
+            return Number::Got(
+                n as u64,
+                Cursor {
+                    place: place + 4 + n,
+                    left: left - (n as u64) * size,
+                    at: at + 1 + n,
+                },
+            );
         }
     }
     let pack = s;
@@ -104,14 +111,8 @@ fn number_at(
     any
 }
 
-// Hands out how many they are.
-pub fn number_slot_types(s: &[u8], set: &Settings, c: Cursor, tape: &mut [u32]) -> Number
-    requires { ⌜ ReadyAt (now s) c ⌝ }
-    ensures { λ q. ⌜ NumberOf (slotTypes (settingsOf (now (set .entry)))) counted (now (s .entry)) c (now (tape .entry)) q (now (tape .exit)) ⌝ }
-{
-    number_at(s, set, c.place, c.left, c.at, tape)
-}
-
+// The quick way stands here a second time: of a function that is called at one place only the compiler makes a part of its caller, which
+// then is too long to be made a part of its own callers.
 pub fn slot_types(s: &[u8], set: &Settings, r: Step, tape: &mut [u32]) -> Step
     requires { ⌜ Ready (now s) r ⌝ }
     ensures { λ q. ⌜ Reader (slotTypes (settingsOf (now (set .entry)))) (now (s .entry)) r (now (tape .entry)) q (now (tape .exit)) ⌝ }
@@ -119,5 +120,22 @@ pub fn slot_types(s: &[u8], set: &Settings, r: Step, tape: &mut [u32]) -> Step
     let Step::Taken(c) = r else {
         return r;
     };
-    reader::refused(number_at(s, set, c.place, c.left, c.at, tape))
+    let size = vob24::size(set, sizes::SLOT_TYPE);
+    let left = c.left;
+    if 4 * size <= left {
+        let place = c.place;
+        let at = c.at;
+        let n = short(s, place, at, tape);
+        if 0 < n {
+            return Step::Taken(Cursor {
+                place: place + 4 + n,
+                left: left - (n as u64) * size,
+                at: at + 1 + n,
+            });
+        }
+    }
+    let pack = s;
+    let start = c;
+    let any = number_any(pack, set, start, tape);
+    reader::refused(any)
 }

@@ -12,7 +12,7 @@ use Rattle.format.specs.Format.{Value, Format}
 use Rattle.format.specs.Reading.{trace}
 use Rattle.format.specs.Record.{words, decode, Held}
 use Rattle.format.specs.Settling.{covered-longest, settle-broke, settle-left, settle-taken, covered-lt, broke-at, settle-stopped}
-use Rattle.format.specs.Ending.{trace-place}
+use Rattle.format.specs.Ending.{slim}
 use Rattle.format.specs.Charging.{trace-charges}
 use Rattle.format.specs.Decoding.{trace-held, record-decode}
 use Rattle.vob24.specs.PackCost.{Costs}
@@ -165,7 +165,7 @@ module _ {f : Format} {t : Trace Value} {s : List ℕ} {a : ℕ} (reads : Reads 
   call-texts = trace-held f s a (reads .inner (k .ends) .0)
 
   pub call-record : (decode f (take w (closing f a b tape (settle b t) .tape)) s ≡ (k .value, [])) × (length (take w (closing f a b tape (settle b t) .tape)) ≡ w) × (w ≤ n)
-  call-record = (decoded s call-texts, ap length (taken-record k) ∙ sym (k .counts), omega (arith, k .counts, k .bytes, trace-place f s a (reads .inner (k .ends) .0) .0))
+  call-record = (decoded s call-texts, ap length (taken-record k) ∙ sym (k .counts), omega (arith, k .counts, k .bytes, slim f .most s a (reads .inner (k .ends) .0)))
 
   pub call-cost : {cost : Value → ℕ} → Costs f cost → (s′ : List ℕ) → Held (k .value) s′ → c ≡ cost (decode f (take w (closing f a b tape (settle b t) .tape)) s′ .0)
   call-cost {cost} is s′ h =

@@ -12,7 +12,7 @@ use Rattle.format.specs.Format.{Value, pair, mark, Format, leaf, seq, _▸_, co
 use Rattle.format.specs.Reading.{trace}
 use Rattle.format.specs.Record.{wordsLeaf, words}
 use Rattle.format.specs.Settling.{thenS, settle-taken}
-use Rattle.format.specs.Ending.{leaf-ends, trace-place, settle-seq}
+use Rattle.format.specs.Ending.{leaf-ends, trace-within, slim, settle-seq}
 use Rattle.format.specs.Charging.{chargesLeaf, charges, trace-charges}
 use Rattle.vob24.specs.Refusals
 use Rattle.vob24.specs.Settings.{Settings, maxPackBytes}
@@ -109,9 +109,9 @@ module _ (set : Settings) (n : ℕ) (x : Section) (s : List ℕ) (at : Position)
       go (taken v q l) e =
           let ws = words (section set n x) v in
           let r = settle-taken (at .budget) reading v q l .0 e in
-          let i = trace-place (section set n x) s (at .place) (r .0) in
+          let i = trace-within (section set n x) s (at .place) (r .0) in
           let j = i .1 within in
-          let fits : length ws ≤ length t = omega arith in
+          let fits : length ws ≤ length t = omega (arith, slim (section set n x) .most s (at .place) (r .0)) in
           let past : at .place + (q - at .place) ≡ q = omega arith in
           let t′ = ws ++ drop (length ws) t in
           let same : length t′ ≡ length t = simp (length-append, length-drop) (omega arith) in

@@ -14,7 +14,7 @@ use Rattle.format.specs.Reading.{part, trace}
 use Rattle.format.specs.Record.{words, decode, Held}
 use Rattle.format.specs.Layout.{Bytes, Valid, bytes}
 use Rattle.format.specs.Settling.{thenS, settle-bind}
-use Rattle.format.specs.Ending.{Ends-bind, bind-out, Ends-guard, guard-true, trace-place}
+use Rattle.format.specs.Ending.{Ends-bind, bind-out, Ends-guard, guard-true, trace-within}
 use Rattle.format.specs.Laying.{At}
 use Rattle.format.specs.Closing.{layout-iff}
 use Rattle.format.specs.Bounding.{guard-under, end-free}
@@ -217,7 +217,7 @@ module _ (set : Settings) where
       section-record =
           let r = call-record (section-reads count x s p) k in
           let e = section-ends count x s p (k .ends) in
-          let i = trace-place (section set count x) s p (e .2) in
+          let i = trace-within (section set count x) s p (e .2) in
           (r .0, r .1, r .2, omega (arith, k .bytes, i .0, i .1 (e .1)))
 
       pub section-cost : (s′ : List ℕ) → Held (k .value) s′ → c ≡ sectionRecordCost set count x (sectionRecordOf w) s′

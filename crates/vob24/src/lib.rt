@@ -2,8 +2,8 @@
 // The code here is the list of sections, and the table of sizes and limits that every charge reads; it ports the `size_of` terms and
 // the limits of serialize.rs.
 ghost use mathlib.Core.Path.{_≡_};
-ghost use Prim.Native.Nat.{_<_};
-ghost use Rattle.vob24.specs.Settings.{settingsOf, sizeOf};
+ghost use Prim.Native.Nat.{_≤_, _<_};
+ghost use Rattle.vob24.specs.Settings.{settings, settingsOf, sizeOf};
 
 mod limits;
 
@@ -94,6 +94,15 @@ pub fn size(set: &Settings, i: usize) -> u64
     let k = i - 1;
     wide(set[k])
 }
+
+// The same in the measured table.
+pub fn measured_size(i: usize) -> u64
+    ensures { λ q. ⌜ (q ≡ sizeOf settings i) × (q ≤ 4096) ⌝ }
+{
+    size(&MEASURED, i)
+}
+
+// ---- the limits
 
 pub fn artifacts(set: &Settings) -> u64
     ensures { λ q. ⌜ q ≡ settingsOf (now (set .entry)) .artifacts ⌝ }

@@ -3,8 +3,8 @@ use Rattle.exports.proofs.Laws.{shows-section}
 use Rattle.exports.proofs.vob_artifacts.Statement.{statement}
 use Rattle.exports.proofs.vob_artifacts.Tie as tie
 
-read-artifacts-requires : tie.Need-read-artifacts-requires
-read-artifacts-requires c κs = search needs
+read-section-requires : tie.Need-read-section-requires
+read-section-requires c κs = search needs
 
 shown-requires : tie.Need-shown-requires
 shown-requires c κs = search needs
@@ -16,4 +16,4 @@ returns : tie.Need-returns
 returns c = search (needs, shows-section)
 
 pub vob-artifacts-spec : {M : Type 1} → statement M
-vob-artifacts-spec = tie.close (tie.spec read-artifacts-requires shown-requires same-length returns)
+vob-artifacts-spec = tie.close (tie.spec read-section-requires shown-requires same-length returns)

@@ -3,8 +3,8 @@ use Rattle.exports.proofs.Laws.{shows-section}
 use Rattle.exports.proofs.vob_externs.Statement.{statement}
 use Rattle.exports.proofs.vob_externs.Tie as tie
 
-read-externs-requires : tie.Need-read-externs-requires
-read-externs-requires c κs = search needs
+read-section-requires : tie.Need-read-section-requires
+read-section-requires c κs = search needs
 
 shown-requires : tie.Need-shown-requires
 shown-requires c κs = search needs
@@ -16,4 +16,4 @@ returns : tie.Need-returns
 returns c = search (needs, shows-section)
 
 pub vob-externs-spec : {M : Type 1} → statement M
-vob-externs-spec = tie.close (tie.spec read-externs-requires shown-requires same-length returns)
+vob-externs-spec = tie.close (tie.spec read-section-requires shown-requires same-length returns)

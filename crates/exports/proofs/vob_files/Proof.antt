@@ -3,8 +3,8 @@ use Rattle.exports.proofs.Laws.{shows-section}
 use Rattle.exports.proofs.vob_files.Statement.{statement}
 use Rattle.exports.proofs.vob_files.Tie as tie
 
-read-files-requires : tie.Need-read-files-requires
-read-files-requires c κs = search needs
+read-section-requires : tie.Need-read-section-requires
+read-section-requires c κs = search needs
 
 shown-requires : tie.Need-shown-requires
 shown-requires c κs = search needs
@@ -16,4 +16,4 @@ returns : tie.Need-returns
 returns c = search (needs, shows-section)
 
 pub vob-files-spec : {M : Type 1} → statement M
-vob-files-spec = tie.close (tie.spec read-files-requires shown-requires same-length returns)
+vob-files-spec = tie.close (tie.spec read-section-requires shown-requires same-length returns)

@@ -3,8 +3,8 @@ use Rattle.exports.proofs.Laws.{shows-section}
 use Rattle.exports.proofs.vob_function_locations.Statement.{statement}
 use Rattle.exports.proofs.vob_function_locations.Tie as tie
 
-read-function-locations-requires : tie.Need-read-function-locations-requires
-read-function-locations-requires c κs = search needs
+read-section-requires : tie.Need-read-section-requires
+read-section-requires c κs = search needs
 
 shown-requires : tie.Need-shown-requires
 shown-requires c κs = search needs
@@ -16,4 +16,4 @@ returns : tie.Need-returns
 returns c = search (needs, shows-section)
 
 pub vob-function-locations-spec : {M : Type 1} → statement M
-vob-function-locations-spec = tie.close (tie.spec read-function-locations-requires shown-requires same-length returns)
+vob-function-locations-spec = tie.close (tie.spec read-section-requires shown-requires same-length returns)

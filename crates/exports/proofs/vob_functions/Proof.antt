@@ -3,8 +3,8 @@ use Rattle.exports.proofs.Laws.{shows-section}
 use Rattle.exports.proofs.vob_functions.Statement.{statement}
 use Rattle.exports.proofs.vob_functions.Tie as tie
 
-read-functions-requires : tie.Need-read-functions-requires
-read-functions-requires c κs = search needs
+read-section-requires : tie.Need-read-section-requires
+read-section-requires c κs = search needs
 
 shown-requires : tie.Need-shown-requires
 shown-requires c κs = search needs
@@ -16,4 +16,4 @@ returns : tie.Need-returns
 returns c = search (needs, shows-section)
 
 pub vob-functions-spec : {M : Type 1} → statement M
-vob-functions-spec = tie.close (tie.spec read-functions-requires shown-requires same-length returns)
+vob-functions-spec = tie.close (tie.spec read-section-requires shown-requires same-length returns)

@@ -3,8 +3,8 @@ use Rattle.exports.proofs.Laws.{shows-section}
 use Rattle.exports.proofs.vob_globals.Statement.{statement}
 use Rattle.exports.proofs.vob_globals.Tie as tie
 
-read-globals-requires : tie.Need-read-globals-requires
-read-globals-requires c κs = search needs
+read-section-requires : tie.Need-read-section-requires
+read-section-requires c κs = search needs
 
 shown-requires : tie.Need-shown-requires
 shown-requires c κs = search needs
@@ -16,4 +16,4 @@ returns : tie.Need-returns
 returns c = search (needs, shows-section)
 
 pub vob-globals-spec : {M : Type 1} → statement M
-vob-globals-spec = tie.close (tie.spec read-globals-requires shown-requires same-length returns)
+vob-globals-spec = tie.close (tie.spec read-section-requires shown-requires same-length returns)

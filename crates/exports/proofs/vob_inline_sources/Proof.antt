@@ -3,8 +3,8 @@ use Rattle.exports.proofs.Laws.{shows-section}
 use Rattle.exports.proofs.vob_inline_sources.Statement.{statement}
 use Rattle.exports.proofs.vob_inline_sources.Tie as tie
 
-read-inline-sources-requires : tie.Need-read-inline-sources-requires
-read-inline-sources-requires c κs = search needs
+read-section-requires : tie.Need-read-section-requires
+read-section-requires c κs = search needs
 
 shown-requires : tie.Need-shown-requires
 shown-requires c κs = search needs
@@ -16,4 +16,4 @@ returns : tie.Need-returns
 returns c = search (needs, shows-section)
 
 pub vob-inline-sources-spec : {M : Type 1} → statement M
-vob-inline-sources-spec = tie.close (tie.spec read-inline-sources-requires shown-requires same-length returns)
+vob-inline-sources-spec = tie.close (tie.spec read-section-requires shown-requires same-length returns)

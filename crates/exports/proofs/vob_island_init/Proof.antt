@@ -3,8 +3,8 @@ use Rattle.exports.proofs.Laws.{shows-section}
 use Rattle.exports.proofs.vob_island_init.Statement.{statement}
 use Rattle.exports.proofs.vob_island_init.Tie as tie
 
-read-island-init-requires : tie.Need-read-island-init-requires
-read-island-init-requires c κs = search needs
+read-section-requires : tie.Need-read-section-requires
+read-section-requires c κs = search needs
 
 shown-requires : tie.Need-shown-requires
 shown-requires c κs = search needs
@@ -16,4 +16,4 @@ returns : tie.Need-returns
 returns c = search (needs, shows-section)
 
 pub vob-island-init-spec : {M : Type 1} → statement M
-vob-island-init-spec = tie.close (tie.spec read-island-init-requires shown-requires same-length returns)
+vob-island-init-spec = tie.close (tie.spec read-section-requires shown-requires same-length returns)

@@ -3,8 +3,8 @@ use Rattle.exports.proofs.Laws.{shows-section}
 use Rattle.exports.proofs.vob_named_types.Statement.{statement}
 use Rattle.exports.proofs.vob_named_types.Tie as tie
 
-read-named-types-requires : tie.Need-read-named-types-requires
-read-named-types-requires c κs = search needs
+read-section-requires : tie.Need-read-section-requires
+read-section-requires c κs = search needs
 
 shown-requires : tie.Need-shown-requires
 shown-requires c κs = search needs
@@ -16,4 +16,4 @@ returns : tie.Need-returns
 returns c = search (needs, shows-section)
 
 pub vob-named-types-spec : {M : Type 1} → statement M
-vob-named-types-spec = tie.close (tie.spec read-named-types-requires shown-requires same-length returns)
+vob-named-types-spec = tie.close (tie.spec read-section-requires shown-requires same-length returns)

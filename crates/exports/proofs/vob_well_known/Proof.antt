@@ -3,8 +3,8 @@ use Rattle.exports.proofs.Laws.{shows-section}
 use Rattle.exports.proofs.vob_well_known.Statement.{statement}
 use Rattle.exports.proofs.vob_well_known.Tie as tie
 
-read-well-known-requires : tie.Need-read-well-known-requires
-read-well-known-requires c κs = search needs
+read-section-requires : tie.Need-read-section-requires
+read-section-requires c κs = search needs
 
 shown-requires : tie.Need-shown-requires
 shown-requires c κs = search needs
@@ -16,4 +16,4 @@ returns : tie.Need-returns
 returns c = search (needs, shows-section)
 
 pub vob-well-known-spec : {M : Type 1} → statement M
-vob-well-known-spec = tie.close (tie.spec read-well-known-requires shown-requires same-length returns)
+vob-well-known-spec = tie.close (tie.spec read-section-requires shown-requires same-length returns)
