@@ -20,24 +20,14 @@ mod programs;
 use original::bytecode::Module;
 use std::hint::black_box;
 use std::time::{Duration, Instant};
-
-const RUST_BUDGET: u64 = 536_870_912;
-
-#[repr(C)]
-struct VobAnswer {
-    number: u64,
-    values: [u64; 5],
-}
-
-extern "C" {
-    fn vob_read(pack: *const u8, length: usize, budget: u64, tape: *mut u32, room: usize) -> VobAnswer;
-}
+use vob::raw::vob_read;
+use vob::STARTING_BUDGET;
 
 /// The words of a taken pack.
 #[inline(never)]
 fn ours(pack: &[u8], tape: &mut [u32]) -> u64 {
     // SAFETY: both parts live through the call, which writes within the tape.
-    let answer = unsafe { vob_read(pack.as_ptr(), pack.len(), RUST_BUDGET, tape.as_mut_ptr(), tape.len()) };
+    let answer = unsafe { vob_read(pack.as_ptr(), pack.len(), STARTING_BUDGET, tape.as_mut_ptr(), tape.len()) };
     assert_eq!(answer.number, 0, "refused with {:?}", answer.values);
     answer.values[0]
 }

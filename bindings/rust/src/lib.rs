@@ -3,7 +3,8 @@
 //! A reading answers with a tape of 32-bit words that holds every field of the pack in file order, or with one refusal that
 //! says what is wrong and where. Each call below is proved, for every input, equal to its definition: it ends, a refusal
 //! changes nothing on the tape, and the budget's account is exact. What this crate adds to the proved archive is the enums
-//! and texts of [`Error`]; only its private module `ffi` has `unsafe` code.
+//! and texts of [`Error`]; only its private module `ffi` has `unsafe` code, over the
+//! declarations in [`raw`].
 //!
 //! # On the tape
 //!
@@ -48,6 +49,7 @@ compile_error!("the proved archive links into x86-64 Linux programs only");
 
 mod error;
 mod ffi;
+pub mod raw;
 mod section;
 
 pub use error::{Context, Error, FunctionMetadata, Reason};
