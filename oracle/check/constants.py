@@ -136,6 +136,8 @@ agree("sections", {
         r'pub extern "C" fn vob_(\w+)', text("crates/exports/src/lib.rt").split("// ---- the sections")[1]),
     "bindings/c/vob.h": re.findall(r"VOB_SECTION\(vob_(\w+)\)", text("bindings/c/vob.h"))
     + re.findall(r"vob_answer vob_(inline_sources)", text("bindings/c/vob.h")),
+    "bindings/rust/src/raw.rs": re.findall(r"vob_(\w+)", part("bindings/rust/src/raw.rs", "section_calls! {", "}"))
+    + re.findall(r"fn vob_(inline_sources)", text("bindings/rust/src/raw.rs")),
     "bindings/rust/src/section.rs": rust_variants(part("bindings/rust/src/section.rs", "pub enum Section {", "\n}")),
     "oracle/check/reader.py": sections_of_python(),
 })
