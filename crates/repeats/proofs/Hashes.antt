@@ -18,7 +18,7 @@ use Rattle.items.specs.Tables.{formatIn}
 use Rattle.items.specs.Contract.{TextAt, WordIs, PackageIs, Placed}
 use Rattle.items.proofs.Texts.{text-room, text-part}
 use Rattle.items.proofs.Keys.{key-name, key-package}
-use Rattle.repeats.specs.Hashes.{mixed, folded, otherKey, wordIn, shortHash, lanesHash, bytesHash, textHash, keyHash, PartAt, JoinIs, HashIs, TextHash, PackageHash, KeyHash}
+use Rattle.repeats.specs.Hashes.{mixed, folded, secondKey, wordIn, shortHash, lanesHash, bytesHash, textHash, keyHash, PartAt, JoinIs, HashIs, TextHash, PackageHash, KeyHash}
 
 -- ---- a turn stays below 2 ^ 64
 
@@ -61,7 +61,7 @@ unfolding wordIn
 word-in s p k j q h e = ap little (ap (take 4) (drop-part j k (drop p s)) ∙ take-take 4 (k - j) (drop j (drop p s)) (omega arith) ∙ ap (take 4) (drop-drop j p s ∙ ap (λ m. drop m s) e))
 
 -- ---- fewer than eight bytes
-module _ {a b : ℕ} {s : List ℕ} {start n : ℕ} (f : PartAt a b s start n) where
+module _ {a : ℕ} {s : List ℕ} {start n : ℕ} (f : PartAt a s start n) where
   short-bytes : (h : ℕ) → n < 8 → bytesHash a h (part s start n) ≡ shortHash a h (part s start n)
   unfolding bytesHash pick
   short-bytes h d = rw (part-length s start n (f .room), lt-ltb n 8 d)
@@ -72,7 +72,7 @@ module _ {a b : ℕ} {s : List ℕ} {start n : ℕ} (f : PartAt a b s start n) w
     short-none e = record { is = sym (short-bytes h (omega arith) ∙ rw (part-length s start n (f .room), eq-eqb n 0 e)) }
 
     pub short-three : {v₁ v₂ v₃ q : ℕ} → (n ≡ 0 → ⊥) → n < 4 → v₁ ≡ getD s start 0 → v₂ ≡ getD s (start + n / 2) 0 → v₃ ≡ getD s (start + n - 1) 0
-        → q ≡ folded a b h (v₁ + 256 * v₂) v₃ → HashIs a h (part s start n) q
+        → q ≡ folded a h (v₁ + 256 * v₂) v₃ → HashIs a h (part s start n) q
     unfolding shortHash pick
     short-three d l x y z i =
         let m : start + (n - 1) ≡ start + n - 1 = omega arith in
@@ -80,15 +80,15 @@ module _ {a b : ℕ} {s : List ℕ} {start n : ℕ} (f : PartAt a b s start n) w
         record {
           is =
               i
-              ∙ sym (short-bytes h (omega arith) ∙ rw (part-length s start n (f .room), ne-eqb n 0 d, lt-ltb n 4 l, byte-in s start n 0 (omega arith), byte-in s start n (n / 2) (omega arith), byte-in s start n (n - 1) (omega arith), m, o, x, y, z, f .other));
+              ∙ sym (short-bytes h (omega arith) ∙ rw (part-length s start n (f .room), ne-eqb n 0 d, lt-ltb n 4 l, byte-in s start n 0 (omega arith), byte-in s start n (n / 2) (omega arith), byte-in s start n (n - 1) (omega arith), m, o, x, y, z));
         }
 
-    pub short-words : {v w q : ℕ} → 4 ≤ n → n < 8 → WordIs s start v → WordIs s (start + n - 4) w → q ≡ folded a b h v w → HashIs a h (part s start n) q
+    pub short-words : {v w q : ℕ} → 4 ≤ n → n < 8 → WordIs s start v → WordIs s (start + n - 4) w → q ≡ folded a h v w → HashIs a h (part s start n) q
     unfolding shortHash pick
     short-words d l x y i =
         record {
           is = i
-              ∙ sym (short-bytes h l ∙ rw (part-length s start n (f .room), ne-eqb n 0 (λ e. omega arith), le-ltb n 4 d, word-in s start n 0 start (omega arith) (omega arith), word-in s start n (n - 4) (start + n - 4) (omega arith) (omega arith), x .is, y .is, f .other));
+              ∙ sym (short-bytes h l ∙ rw (part-length s start n (f .room), ne-eqb n 0 (λ e. omega arith), le-ltb n 4 d, word-in s start n 0 start (omega arith) (omega arith), word-in s start n (n - 4) (start + n - 4) (omega arith) (omega arith), x .is, y .is));
         }
 
 -- ---- two lanes
@@ -97,22 +97,22 @@ unfolding bytesHash pick
 lanes-bytes a h s start n f d = rw (part-length s start n f, le-ltb n 8 d)
 
 -- the last block, whose first half stands at p
-lanes-last : {a b g e : ℕ} {s : List ℕ} (start n j : ℕ) {p q : ℕ} → start + n ≤ length s → 8 ≤ n → b ≡ otherKey a → p ≡ start + (n - 16) → JoinIs a b g e s p (start + n) q → lanesHash a g e (part s start n) j 0 ≡ q
+lanes-last : {a g e : ℕ} {s : List ℕ} (start n j : ℕ) {p q : ℕ} → start + n ≤ length s → 8 ≤ n → p ≡ start + (n - 16) → JoinIs a g e s p (start + n) q → lanesHash a g e (part s start n) j 0 ≡ q
 unfolding lanesHash
-lanes-last {s = s} start n j {p} f d k e i =
-    rw (part-length s start n f, word-in s start n (n - 16) p (omega arith) (omega arith), word-in s start n (n - 16 + 4) (p + 4) (omega arith) (omega arith), word-in s start n (n - 8) (start + n - 8) (omega arith) (omega arith), word-in s start n (n - 4) (start + n - 4) (omega arith) (omega arith), ← k)
+lanes-last {s = s} start n j {p} f d e i =
+    rw (part-length s start n f, word-in s start n (n - 16) p (omega arith) (omega arith), word-in s start n (n - 16 + 4) (p + 4) (omega arith) (omega arith), word-in s start n (n - 8) (start + n - 8) (omega arith) (omega arith), word-in s start n (n - 4) (start + n - 4) (omega arith) (omega arith))
     (sym (i .is))
 
-pub joined : {a b g e : ℕ} {s : List ℕ} {p end v₁ w₁ v₂ w₂ x y : ℕ} → WordIs s p v₁ → WordIs s (p + 4) w₁ → WordIs s (end - 8) v₂ → WordIs s (end - 4) w₂ → x ≡ folded a b g v₁ w₁ → y ≡ folded b a e v₂ w₂
-    → JoinIs a b g e s p end (bitXor x y)
-joined i₁ j₁ i₂ j₂ x y = record { is = rw (x, y, i₁ .is, j₁ .is, i₂ .is, j₂ .is) }
+pub joined : {a b g e : ℕ} {s : List ℕ} {p end v₁ w₁ v₂ w₂ x y : ℕ} → WordIs s p v₁ → WordIs s (p + 4) w₁ → WordIs s (end - 8) v₂ → WordIs s (end - 4) w₂ → b ≡ secondKey a → x ≡ folded a g v₁ w₁ → y ≡ folded b e v₂ w₂
+    → JoinIs a g e s p end (bitXor x y)
+joined i₁ j₁ i₂ j₂ k x y = record { is = rw (x, y, k, i₁ .is, j₁ .is, i₂ .is, j₂ .is) }
 
-pub lanes-joined : {a b h : ℕ} {s : List ℕ} {start n q : ℕ} → PartAt a b s start n → 8 ≤ n → n ≤ 16 → JoinIs a b h h s start (start + n) q → HashIs a h (part s start n) q
-lanes-joined {a} {b} {h} {s} {start} {n} f d l i = let z : (n - 1) / 16 ≡ 0 = omega arith in record { is = sym (lanes-bytes a h s start n (f .room) d ∙ rw z (lanes-last start n 0 (f .room) d (f .other) (omega arith) i)) }
+pub lanes-joined : {a h : ℕ} {s : List ℕ} {start n q : ℕ} → PartAt a s start n → 8 ≤ n → n ≤ 16 → JoinIs a h h s start (start + n) q → HashIs a h (part s start n) q
+lanes-joined {a} {h} {s} {start} {n} f d l i = let z : (n - 1) / 16 ≡ 0 = omega arith in record { is = sym (lanes-bytes a h s start n (f .room) d ∙ rw z (lanes-last start n 0 (f .room) d (omega arith) i)) }
 
 -- the loop of `hash_long`: of n bytes at start, k from p on are left
 pub record Blocks (a b h : ℕ) (s : List ℕ) (start n g e p k : ℕ) : Type 0 where
-  pub other : b ≡ otherKey a
+  pub second : b ≡ secondKey a
   pub room : start + n ≤ length s
   pub long : 16 < n
   pub some : 0 < k
@@ -120,30 +120,30 @@ pub record Blocks (a b h : ℕ) (s : List ℕ) (start n g e p k : ℕ) : Type 0 
   pub fit : p + k ≡ start + n
   pub leads : bytesHash a h (part s start n) ≡ lanesHash a g e (part s start n) (p - start) ((k - 1) / 16)
 
-block : (a g e : ℕ) (x : List ℕ) (j m : ℕ) → lanesHash a g e x j (suc m) ≡ lanesHash a (folded a (otherKey a) g (wordIn x j) (wordIn x (j + 4))) (folded (otherKey a) a e (wordIn x (j + 8)) (wordIn x (j + 12))) x (j + 16) m
+block : (a g e : ℕ) (x : List ℕ) (j m : ℕ) → lanesHash a g e x j (suc m) ≡ lanesHash a (folded a g (wordIn x j) (wordIn x (j + 4))) (folded (secondKey a) e (wordIn x (j + 8)) (wordIn x (j + 12))) x (j + 16) m
 unfolding lanesHash
 block a g e x j m = refl
 
 module _ {a b h : ℕ} {s : List ℕ} {start n : ℕ} where
-  pub blocks-start : PartAt a b s start n → 16 < n → Blocks a b h s start n h h start n
-  blocks-start f l = let z : start - start ≡ 0 = omega arith in record { other = f .other; room = f .room; long = l; some = omega arith; from = omega arith; fit = omega arith; leads = lanes-bytes a h s start n (f .room) (omega arith) ∙ rw z }
+  pub blocks-start : PartAt a s start n → b ≡ secondKey a → 16 < n → Blocks a b h s start n h h start n
+  blocks-start f k l = let z : start - start ≡ 0 = omega arith in record { second = k; room = f .room; long = l; some = omega arith; from = omega arith; fit = omega arith; leads = lanes-bytes a h s start n (f .room) (omega arith) ∙ rw z }
 
   module _ {g e p k : ℕ} (l : Blocks a b h s start n g e p k) where
-    pub blocks-other : b < 4294967296
-    blocks-other = omega (arith, l .other)
+    pub blocks-second : b < 4294967296
+    blocks-second = omega (arith, l .second)
 
     pub blocks-room : p + k ≤ length s
     blocks-room = omega (arith, l .fit, l .room)
 
     pub blocks-more : {v₁ w₁ v₂ w₂ g′ e′ : ℕ} → 16 < k → WordIs s p v₁ → WordIs s (p + 4) w₁ → WordIs s (p + 8) v₂ → WordIs s (p + 12) w₂
-        → g′ ≡ folded a b g v₁ w₁ → e′ ≡ folded b a e v₂ w₂ → Blocks a b h s start n g′ e′ (p + 16) (k - 16)
+        → g′ ≡ folded a g v₁ w₁ → e′ ≡ folded b e v₂ w₂ → Blocks a b h s start n g′ e′ (p + 16) (k - 16)
     blocks-more d i₁ j₁ i₂ j₂ x y =
         let i : (k - 1) / 16 ≡ suc ((k - 16 - 1) / 16) = omega arith in
         let j : p - start + 16 ≡ p + 16 - start = omega (arith, l .from) in
         let f = l .fit in
         let o = l .from in
         record {
-          other = l .other;
+          second = l .second;
           room = l .room;
           long = l .long;
           some = omega arith;
@@ -153,14 +153,14 @@ module _ {a b h : ℕ} {s : List ℕ} {start n : ℕ} where
               l .leads
               ∙ ap (lanesHash a g e (part s start n) (p - start)) i
               ∙ block a g e (part s start n) (p - start) ((k - 16 - 1) / 16)
-              ∙ rw (word-in s start n (p - start) p (omega arith) (omega arith), word-in s start n (p - start + 4) (p + 4) (omega arith) (omega arith), word-in s start n (p - start + 8) (p + 8) (omega arith) (omega arith), word-in s start n (p - start + 12) (p + 12) (omega arith) (omega arith), j, x, y, i₁ .is, j₁ .is, i₂ .is, j₂ .is, l .other);
+              ∙ rw (word-in s start n (p - start) p (omega arith) (omega arith), word-in s start n (p - start + 4) (p + 4) (omega arith) (omega arith), word-in s start n (p - start + 8) (p + 8) (omega arith) (omega arith), word-in s start n (p - start + 12) (p + 12) (omega arith) (omega arith), j, x, y, i₁ .is, j₁ .is, i₂ .is, j₂ .is, l .second);
         }
 
-    pub blocks-end : {q : ℕ} → k ≤ 16 → JoinIs a b g e s (p + k - 16) (p + k) q → HashIs a h (part s start n) q
+    pub blocks-end : {q : ℕ} → k ≤ 16 → JoinIs a g e s (p + k - 16) (p + k) q → HashIs a h (part s start n) q
     blocks-end d i =
         let z : (k - 1) / 16 ≡ 0 = omega (arith, l .some) in
         let f = l .fit in
-        record { is = sym (l .leads ∙ rw z (lanes-last start n (p - start) (l .room) (omega (arith, l .long)) (l .other) (omega (arith, l .long)) (rw f at i))) }
+        record { is = sym (l .leads ∙ rw z (lanes-last start n (p - start) (l .room) (omega (arith, l .long)) (omega (arith, l .long)) (rw f at i))) }
 
 -- ---- the hash of a text, and of a key
 
@@ -187,4 +187,4 @@ module _ {t : Table} {a : ℕ} {s : List ℕ} {p : ℕ} where
   unfolding keyHash
   hash-key w i j k l = record { is = l ∙ rw (k, j .is, i .is, key-name t (w .stands), key-package t (w .stands)) }
 
-pub ruleset hashing = (short-none, short-three, short-words, lanes-joined, blocks-start, blocks-other, blocks-room, blocks-more, blocks-end, text-hash, hash-field, hash-method, hash-identity, hash-key)
+pub ruleset hashing = (short-none, short-three, short-words, lanes-joined, blocks-start, blocks-second, blocks-room, blocks-more, blocks-end, text-hash, hash-field, hash-method, hash-identity, hash-key)

@@ -8,7 +8,7 @@ ghost use Rattle.items.specs.Tables.{formatIn};
 ghost use Rattle.repeats.specs.Keys.{repeatAt, FirstRepeat};
 ghost use Rattle.repeats.specs.Tables.{keysAt, ExemptIs, Standing, Within};
 ghost use Rattle.repeats.specs.Marks.{MarkIs, Marked, AllNew};
-ghost use Rattle.repeats.specs.Hashes.{mixed, folded, PartAt, JoinIs, HashIs, TextHash, PackageHash, KeyHash};
+ghost use Rattle.repeats.specs.Hashes.{mixed, folded, secondKey, PartAt, JoinIs, HashIs, TextHash, PackageHash, KeyHash};
 ghost use Rattle.repeats.specs.Filters.{maskOf, Lacks, Entered, Outside, Classed, Chosen, Noted, Filter, Probed, PassedOr, Suspects, FirstOr};
 ghost use Rattle.items.specs.Contract.{TextAt, Placed, Items};
 use items::Table;
@@ -133,19 +133,20 @@ fn mix(key: u64, h: u64, w: u64) -> u64
     (x % 4294967296) * key + x / 4294967296
 }
 
-// Two words at once: half of the hash and a word by each key.
-fn fold(key: u64, other: u64, h: u64, v: u64, w: u64) -> u64
-    requires { ⌜ (key < 4294967296) × (other < 4294967296) × (v < 4294967296) × (w < 4294967296) ⌝ }
-    ensures { λ q. ⌜ q ≡ folded key other h v w ⌝ }
+// Two words at once: half of the hash and a word by the key, and by another.
+fn fold(key: u64, h: u64, v: u64, w: u64) -> u64
+    requires { ⌜ (key < 4294967296) × (v < 4294967296) × (w < 4294967296) ⌝ }
+    ensures { λ q. ⌜ q ≡ folded key h v w ⌝ }
 {
     let x = (h % 4294967296) ^ v;
     let y = (h / 4294967296) ^ w;
+    let other = (key + 1013904242) % 4294967296;
     (x * key) ^ (y * other)
 }
 
 // Fewer than eight bytes: the first four and the last four, or else the first, the middle and the last.
-fn hash_short(s: &[u8], start: usize, len: usize, key: u64, other: u64, h: u64) -> u64
-    requires { ⌜ (PartAt key other (now s) start len) × (len < 8) ⌝ }
+fn hash_short(s: &[u8], start: usize, len: usize, key: u64, h: u64) -> u64
+    requires { ⌜ (PartAt key (now s) start len) × (len < 8) ⌝ }
     ensures { λ q. ⌜ HashIs key h (part (now (s .entry)) start len) q ⌝ }
 {
     if len == 0 {
@@ -154,30 +155,39 @@ fn hash_short(s: &[u8], start: usize, len: usize, key: u64, other: u64, h: u64) 
     let end = start + len;
     if len < 4 {
         let v = wide(s[start]) + 256 * wide(s[start + len / 2]);
-        return fold(key, other, h, v, wide(s[end - 1]));
+        return fold(key, h, v, wide(s[end - 1]));
     }
     let v = items::word_at(s, start) as u64;
     let w = items::word_at(s, end - 4) as u64;
-    fold(key, other, h, v, w)
+    fold(key, h, v, w)
+}
+
+// Of the second lane. No two words are taken in by one factor, or a bit of one could make up for a bit of the other under many keys.
+fn second_key(key: u64) -> u64
+    requires { ⌜ key < 4294967296 ⌝ }
+    ensures { λ q. ⌜ q ≡ secondKey key ⌝ }
+{
+    (key + 2773480762) % 4294967296
 }
 
 // The two lanes taken on over the eight bytes at p and the eight before end, and joined.
-fn join(s: &[u8], p: usize, end: usize, key: u64, other: u64, lane1: u64, lane2: u64) -> u64
-    requires { ⌜ (p + 8 ≤ end) × (end ≤ length (now s)) × (key < 4294967296) × (other < 4294967296) ⌝ }
-    ensures { λ q. ⌜ JoinIs key other lane1 lane2 (now (s .entry)) p end q ⌝ }
+fn join(s: &[u8], p: usize, end: usize, key: u64, lane1: u64, lane2: u64) -> u64
+    requires { ⌜ (p + 8 ≤ end) × (end ≤ length (now s)) × (key < 4294967296) ⌝ }
+    ensures { λ q. ⌜ JoinIs key lane1 lane2 (now (s .entry)) p end q ⌝ }
 {
     let v1 = items::word_at(s, p) as u64;
     let w1 = items::word_at(s, p + 4) as u64;
     let v2 = items::word_at(s, end - 8) as u64;
     let w2 = items::word_at(s, end - 4) as u64;
-    fold(key, other, lane1, v1, w1) ^ fold(other, key, lane2, v2, w2)
+    fold(key, lane1, v1, w1) ^ fold(second_key(key), lane2, v2, w2)
 }
 
 // More than sixteen bytes: sixteen at a time in two lanes, which do not wait for each other, and then the last sixteen.
-fn hash_long(s: &[u8], start: usize, len: usize, key: u64, other: u64, h: u64) -> u64
-    requires { ⌜ (PartAt key other (now s) start len) × (16 < len) ⌝ }
+fn hash_long(s: &[u8], start: usize, len: usize, key: u64, h: u64) -> u64
+    requires { ⌜ (PartAt key (now s) start len) × (16 < len) ⌝ }
     ensures { λ q. ⌜ HashIs key h (part (now (s .entry)) start len) q ⌝ }
 {
+    let second = second_key(key);
     let mut lane1 = h;
     let mut lane2 = h;
     let mut p = start;
@@ -187,28 +197,27 @@ fn hash_long(s: &[u8], start: usize, len: usize, key: u64, other: u64, h: u64) -
         let w1 = items::word_at(s, p + 4) as u64;
         let v2 = items::word_at(s, p + 8) as u64;
         let w2 = items::word_at(s, p + 12) as u64;
-        lane1 = fold(key, other, lane1, v1, w1);
-        lane2 = fold(other, key, lane2, v2, w2);
+        lane1 = fold(key, lane1, v1, w1);
+        lane2 = fold(second, lane2, v2, w2);
         p += 16;
         k -= 16;
     }
     let end = p + k;
-    join(s, end - 16, end, key, other, lane1, lane2)
+    join(s, end - 16, end, key, lane1, lane2)
 }
 
 // The hash h taken on over the len bytes at start.
 fn hash_bytes(s: &[u8], start: usize, len: usize, key: u64, h: u64) -> u64
-    requires { ⌜ (start + len ≤ length (now s)) × (key < 4294967296) ⌝ }
+    requires { ⌜ PartAt key (now s) start len ⌝ }
     ensures { λ q. ⌜ HashIs key h (part (now (s .entry)) start len) q ⌝ }
 {
-    let other = (key + 1013904242) % 4294967296;
     if len < 8 {
-        return hash_short(s, start, len, key, other, h);
+        return hash_short(s, start, len, key, h);
     }
     if 16 < len {
-        return hash_long(s, start, len, key, other, h);
+        return hash_long(s, start, len, key, h);
     }
-    join(s, start, start + len, key, other, h, h)
+    join(s, start, start + len, key, h, h)
 }
 
 // The hash h taken on over the text at p. Its length goes in first, times the key: or a name and a package would have the hash of each other

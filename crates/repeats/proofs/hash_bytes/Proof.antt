@@ -3,9 +3,6 @@ use borrow.Author.Needs.{needs}
 use Rattle.repeats.proofs.hash_bytes.Statement.{statement}
 use Rattle.repeats.proofs.hash_bytes.Tie as tie
 
-add-other : tie.Need-add-other
-add-other c = search needs
-
 hash-short-requires : tie.Need-hash-short-requires
 hash-short-requires c κs = search needs
 
@@ -31,7 +28,6 @@ pub hash-bytes-spec : {M : Type 1} → statement M
 hash-bytes-spec =
     tie.close
     (tie.spec
-    add-other
     hash-short-requires
     returns
     hash-long-requires

@@ -5,10 +5,13 @@ use Rattle.repeats.proofs.hash_long.Statement.{statement}
 use Rattle.repeats.proofs.hash_long.Tie as tie
 
 abbrev Inv-loop : tie.InvT-loop
-Inv-loop s start len key other h lane1₀ lane2₀ p₀ k₀ lane1 lane2 p k = Blocks key other h s start len lane1 lane2 p k
+Inv-loop s start len key h second lane1₀ lane2₀ p₀ k₀ lane1 lane2 p k = Blocks key second h s start len lane1 lane2 p k
 
 abbrev μ-loop : tie.MeasureT-loop
-μ-loop s start len key other h lane1₀ lane2₀ p₀ k₀ lane1 lane2 p k = k
+μ-loop s start len key h second lane1₀ lane2₀ p₀ k₀ lane1 lane2 p k = k
+
+second-key-requires : tie.Need-second-key-requires Inv-loop μ-loop
+second-key-requires c κs = search (needs, hashing)
 
 loop-holds : tie.Need-loop-holds Inv-loop μ-loop
 loop-holds c = search (needs, hashing)
@@ -50,7 +53,7 @@ loop-less : tie.Need-loop-less Inv-loop μ-loop
 loop-less c = search (needs, hashing)
 
 loop-again : tie.Need-loop-again Inv-loop μ-loop
-loop-again c = blocks-more ((c .before .before .before .before .before .before .before .loop) .inv) ((c .before .before .before .before .before .before .loop-test) .taken) ((c .before .before .before .before .before .word-at) .ensures) ((c .before .before .before .before .word-at2) .ensures) ((c .before .before .before .word-at3) .ensures) ((c .before .before .word-at4) .ensures) ((c .before .fold) .ensures) ((c .fold2) .ensures)
+loop-again c = blocks-more (c .before .before .before .before .before .before .before .loop .inv) (c .before .before .before .before .before .before .loop-test .taken) (c .before .before .before .before .before .word-at .ensures) (c .before .before .before .before .word-at2 .ensures) (c .before .before .before .word-at3 .ensures) (c .before .before .word-at4 .ensures) (c .before .fold .ensures) (c .fold2 .ensures)
 
 add-end : tie.Need-add-end Inv-loop μ-loop
 add-end c = search (needs, hashing)
@@ -70,6 +73,7 @@ hash-long-spec =
     (tie.spec
     Inv-loop
     μ-loop
+    second-key-requires
     loop-holds
     word-at-requires
     add-word-at
