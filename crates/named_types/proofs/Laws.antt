@@ -25,7 +25,8 @@ use Rattle.items.specs.declared.Item.the-variants.{NamedMethod}
 use Rattle.items.specs.declared.Table.the-variants.{Methods as methodTable}
 use Rattle.items.specs.Walk.{nextAt, lastAt, stand, items-nil, stand-snoc, last-snoc}
 use Rattle.items.specs.Contract.{Items}
-use Rattle.repeats.specs.Repeats.{repeatAt, FirstRepeat}
+use Rattle.repeats.specs.Keys.{repeatAt, FirstRepeat}
+use Rattle.repeats.specs.Tables.{keysAt}
 use Rattle.names.specs.Contract.{MethodBehind, MethodAsked}
 use Rattle.names.proofs.Lists.{method-repeat, method-refused}
 use Rattle.names.proofs.Methods.{Methods, methods-start, methods-more, methods-refused, methods-done, all-new}
@@ -41,17 +42,17 @@ apart : {X : Type 0} {c : Cursor} {x : Refusal} → Taken c ≡ Refused x → X
 apart e = let z : _≡_ {A = ℕ} 0 1 = cc in absurd (omega arith)
 
 -- ---- THE invariant of the loop that reads them: if the i methods are all new, they have been judged
-pub record Unjudged (s t₀ : List ℕ) (r₀ : Step) (n lim from : ℕ) (t : List ℕ) (r : Step) (i : ℕ) : Type 0 where
+pub record Unjudged (s t₀ : List ℕ) (r₀ : Step) (n first from : ℕ) (t : List ℕ) (r : Step) (i : ℕ) : Type 0 where
   pub items : Items namedMethod i s from
   pub here : (c : Cursor) → r ≡ Taken c → c .place ≡ lastAt namedMethod i s from
   pub ready : Ready s r
   pub within : i ≤ n
-  pub below : i ≤ lim
+  pub below : i ≤ first
   pub long : length t ≡ length t₀
   pub judged : AllNew s from i → Methods s t₀ r₀ n from t r i
 
 -- a method that is new
-new-asked : {s : List ℕ} {from i : ℕ} {r r₁ : Step} → ((c : Cursor) → r ≡ Taken c → c .place ≡ lastAt namedMethod i s from) → repeatAt (methodTable NamedMethod) s from i ≡ false → MethodAsked s from i r r₁ r₁
+new-asked : {s : List ℕ} {from i : ℕ} {r r₁ : Step} → ((c : Cursor) → r ≡ Taken c → c .place ≡ lastAt namedMethod i s from) → repeatAt (keysAt (methodTable NamedMethod) s from) i ≡ false → MethodAsked s from i r r₁ r₁
 unfolding pick
 new-asked {s} {from} {i} {r} {r₁} h e = record { stays = λ x j. refl; asks = λ c d j k. rw (h c j, method-repeat i s from, e, k) asks-none }
 
@@ -61,7 +62,7 @@ unfolding traceAsk settle
 denied (passes e f) = let z : _≡_ {A = ℕ} 0 1 = cc in absurd (omega arith)
 denied (denies {x = x} e) = (x, refl)
 
-old-asked : {s : List ℕ} {from i : ℕ} {r r₁ q : Step} → ((d : Cursor) → r₁ ≡ Taken d → (c : Cursor) × (r ≡ Taken c)) → ((c : Cursor) → r ≡ Taken c → c .place ≡ lastAt namedMethod i s from) → repeatAt (methodTable NamedMethod) s from i ≡ true
+old-asked : {s : List ℕ} {from i : ℕ} {r r₁ q : Step} → ((d : Cursor) → r₁ ≡ Taken d → (c : Cursor) × (r ≡ Taken c)) → ((c : Cursor) → r ≡ Taken c → c .place ≡ lastAt namedMethod i s from) → repeatAt (keysAt (methodTable NamedMethod) s from) i ≡ true
     → MethodAsked s from i r r₁ q → (x : Refusal) × (q ≡ Refused x)
 unfolding pick
 old-asked {s} {from} {i} {r} {r₁} {q} t h e a = go r₁ refl
@@ -76,8 +77,8 @@ was-taken (takes {c = c} a) d e = (c, refl)
 was-taken (refuses {c = c} a) d e = (c, refl)
 was-taken skips d e = apart (sym e)
 
-pub unjudged-start : {s t₀ : List ℕ} {d : Cursor} {n lim : ℕ} → ReadyAt s d → Unjudged s t₀ (Taken d) n lim (d .place) t₀ (Taken d) 0
-unjudged-start {s} {t₀} {d} {n} {lim} h =
+pub unjudged-start : {s t₀ : List ℕ} {d : Cursor} {n first : ℕ} → ReadyAt s d → Unjudged s t₀ (Taken d) n first (d .place) t₀ (Taken d) 0
+unjudged-start {s} {t₀} {d} {n} {first} h =
     let z = items-nil namedMethod s (d .place) in
     record {
       items = record { small = h .small; all = z .1 };
@@ -89,8 +90,8 @@ unjudged-start {s} {t₀} {d} {n} {lim} h =
       judged = λ a. methods-start h;
     }
 
-module _ {s t₀ : List ℕ} {d : Cursor} {n lim : ℕ} {t : List ℕ} {r : Step} {i : ℕ} (l : Unjudged s t₀ (Taken d) n lim (d .place) t r i) where
-  pub unjudged-done : n ≤ i → MethodsRead s d n lim t₀ n r t
+module _ {s t₀ : List ℕ} {d : Cursor} {n first : ℕ} {t : List ℕ} {r : Step} {i : ℕ} (l : Unjudged s t₀ (Taken d) n first (d .place) t r i) where
+  pub unjudged-done : n ≤ i → MethodsRead s d n first t₀ n r t
   unjudged-done h =
       let e : i ≡ n = omega (arith, l .within) in
       record {
@@ -105,9 +106,9 @@ module _ {s t₀ : List ℕ} {d : Cursor} {n lim : ℕ} {t : List ℕ} {r : Step
     pub unjudged-behind : MethodBehind s (d .place) i r r₁
     unjudged-behind = record { items = l .items; ready = a .ready; comes = λ c e j k. stand (behind (l .ready) a .comes c e j k .1) .stands }
 
-    -- method lim
-    pub unjudged-lim : {q : Step} → i ≡ lim → MethodAsked s (d .place) i r r₁ q → MethodsRead s d n lim t₀ i q t₁
-    unjudged-lim {q} e b =
+    -- method `first`
+    pub unjudged-last : {q : Step} → i ≡ first → MethodAsked s (d .place) i r r₁ q → MethodsRead s d n first t₀ i q t₁
+    unjudged-last {q} e b =
         record {
           within = omega arith;
           below = l .below;
@@ -116,8 +117,8 @@ module _ {s t₀ : List ℕ} {d : Cursor} {n lim : ℕ} {t : List ℕ} {r : Step
           stops = λ u v w. old-asked (was-taken (a .reads)) (l .here) (rw e w) b;
         }
 
-    module _ (k : i ≡ lim → ⊥) where
-      pub unjudged-refused : {x : Refusal} → r₁ ≡ Refused x → MethodsRead s d n lim t₀ i r₁ t₁
+    module _ (k : i ≡ first → ⊥) where
+      pub unjudged-refused : {x : Refusal} → r₁ ≡ Refused x → MethodsRead s d n first t₀ i r₁ t₁
       unjudged-refused {x} e =
           record {
             within = omega arith;
@@ -127,13 +128,13 @@ module _ {s t₀ : List ℕ} {d : Cursor} {n lim : ℕ} {t : List ℕ} {r : Step
             stops = λ u v w. (x, e);
           }
 
-      pub unjudged-more : {e : Cursor} → r₁ ≡ Taken e → length t₁ ≡ length t → Unjudged s t₀ (Taken d) n lim (d .place) t₁ r₁ (i + 1)
+      pub unjudged-more : {e : Cursor} → r₁ ≡ Taken e → length t₁ ≡ length t → Unjudged s t₀ (Taken d) n first (d .place) t₁ r₁ (i + 1)
       unjudged-more {e} j o = go r r₁ (a .reads) (l .here) j
         where
           judge : AllNew s (d .place) (i + 1) → Methods s t₀ (Taken d) n (d .place) t₁ r₁ (i + 1)
           judge u = methods-more (l .judged (record { new = λ m b. u .new m (omega arith) })) a (new-asked (l .here) (u .new i (omega arith))) h j o
 
-          go : (r₀ r₂ : Step) → Reads namedMethod s r₀ t r₂ t₁ → ((c : Cursor) → r₀ ≡ Taken c → c .place ≡ lastAt namedMethod i s (d .place)) → r₂ ≡ Taken e → Unjudged s t₀ (Taken d) n lim (d .place) t₁ r₁ (i + 1)
+          go : (r₀ r₂ : Step) → Reads namedMethod s r₀ t r₂ t₁ → ((c : Cursor) → r₀ ≡ Taken c → c .place ≡ lastAt namedMethod i s (d .place)) → r₂ ≡ Taken e → Unjudged s t₀ (Taken d) n first (d .place) t₁ r₁ (i + 1)
           go (Taken c) (Taken g) (takes y) p f =
               let z = stand (takes-ends y) in
               let x : c .place ≡ lastAt namedMethod i s (d .place) = p c refl in
@@ -150,22 +151,22 @@ module _ {s t₀ : List ℕ} {d : Cursor} {n lim : ℕ} {t : List ℕ} {r : Step
           go (Taken c) (Refused x) (refuses y) p f = apart (sym f)
           go (Refused x) (Refused z) skips p f = apart (sym f)
 
-pub ruleset unjudged = (unjudged-start, unjudged-done, unjudged-behind, unjudged-lim, unjudged-refused, unjudged-more)
+pub ruleset unjudged = (unjudged-start, unjudged-done, unjudged-behind, unjudged-last, unjudged-refused, unjudged-more)
 
 -- ---- the first repeat among those that were read
-module _ {s : List ℕ} {d : Cursor} {n m lim : ℕ} {t t₁ : List ℕ} {q : Step} (a : MethodsRead s d n n t m q t₁) (f : FirstRepeat (methodTable NamedMethod) s (d .place) m lim) where
+module _ {s : List ℕ} {d : Cursor} {n m first : ℕ} {t t₁ : List ℕ} {q : Step} (a : MethodsRead s d n n t m q t₁) (f : FirstRepeat (keysAt (methodTable NamedMethod) s (d .place)) m first) where
   -- there is none
-  pub first-run : lim ≡ m → Reader (newMethods n) s (Taken d) t q t₁
+  pub first-run : first ≡ m → Reader (newMethods n) s (Taken d) t q t₁
   first-run e = a .reads (record { new = λ k h. f .new k (omega arith) }) (λ h. absurd (omega arith))
 
   -- a refusal tells nothing of the tape
-  pub second-run : {t₂ : List ℕ} {m₂ : ℕ} {q₂ : Step} → (lim ≡ m → ⊥) → MethodsRead s d n lim t₁ m₂ q₂ t₂ → Reader (newMethods n) s (Taken d) t q₂ t₂
+  pub second-run : {t₂ : List ℕ} {m₂ : ℕ} {q₂ : Step} → (first ≡ m → ⊥) → MethodsRead s d n first t₁ m₂ q₂ t₂ → Reader (newMethods n) s (Taken d) t q₂ t₂
   second-run {t₂} {m₂} {q₂} k b = go q₂ (b .stops news (omega (arith, f .within, a .within)) old) (b .reads news (λ h. old))
     where
       news : AllNew s (d .place) m₂
       news = record { new = λ j h. f .new j (omega (arith, b .below)) }
 
-      old : repeatAt (methodTable NamedMethod) s (d .place) lim ≡ true
+      old : repeatAt (keysAt (methodTable NamedMethod) s (d .place)) first ≡ true
       old = f .found (omega (arith, f .within))
 
       again : {x : Refusal} → Reads (newMethods n) s (Taken d) t₁ (Refused x) t₂ → Reads (newMethods n) s (Taken d) t (Refused x) t₂

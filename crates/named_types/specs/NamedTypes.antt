@@ -15,7 +15,8 @@ use Rattle.reader.specs.declared.Step.the-variants.{Taken, Refused}
 use Rattle.items.specs.declared.Item.the-variants.{NamedMethod}
 use Rattle.items.specs.declared.Table.the-variants.{Methods}
 use Rattle.items.specs.Contract.{Items}
-use Rattle.repeats.specs.Repeats.{repeatAt}
+use Rattle.repeats.specs.Keys.{repeatAt}
+use Rattle.repeats.specs.Tables.{keysAt}
 
 abbrev pub namedMethod : Format
 namedMethod = vob.method
@@ -36,12 +37,12 @@ newMethods n = chain vob.newMethod vob.alsoSeen [] n
 
 -- none of the first m methods repeats one before it
 pub record AllNew (s : List ℕ) (from m : ℕ) : Type 0 where
-  pub new : (k : ℕ) → k < m → repeatAt (Methods NamedMethod) s from k ≡ false
+  pub new : (k : ℕ) → k < m → repeatAt (keysAt (Methods NamedMethod) s from) k ≡ false
 
--- Of n methods m were read, up to the one numbered lim; the answer stands if these are all new, and lim is a repeat.
-pub record MethodsRead (s : List ℕ) (d : Cursor) (n lim : ℕ) (t : List ℕ) (m : ℕ) (q : Step) (t′ : List ℕ) : Type 0 where
+-- Of n methods m were read, up to the one numbered `first`; the answer stands if these are all new, and that one is a repeat.
+pub record MethodsRead (s : List ℕ) (d : Cursor) (n first : ℕ) (t : List ℕ) (m : ℕ) (q : Step) (t′ : List ℕ) : Type 0 where
   pub within : m ≤ n
-  pub below : m ≤ lim
+  pub below : m ≤ first
   pub items : Items namedMethod m s (d .place)
-  pub reads : AllNew s (d .place) m → (lim < n → repeatAt (Methods NamedMethod) s (d .place) lim ≡ true) → Reader (newMethods n) s (Taken d) t q t′
-  pub stops : AllNew s (d .place) m → lim < n → repeatAt (Methods NamedMethod) s (d .place) lim ≡ true → (x : Refusal) × (q ≡ Refused x)
+  pub reads : AllNew s (d .place) m → (first < n → repeatAt (keysAt (Methods NamedMethod) s (d .place)) first ≡ true) → Reader (newMethods n) s (Taken d) t q t′
+  pub stops : AllNew s (d .place) m → first < n → repeatAt (keysAt (Methods NamedMethod) s (d .place)) first ≡ true → (x : Refusal) × (q ≡ Refused x)

@@ -29,17 +29,17 @@ pub struct Run {
     pub step: Step,
 }
 
-// Up to n methods, one after the other. Method lim is compared with those before it, once its whole record was read, and ends the run.
-fn read_methods(s: &[u8], d: Cursor, n: usize, lim: usize, tape: &mut [u32]) -> Run
+// Up to n methods, one after the other. Method `first` is compared with those before it, once its whole record was read, and ends the run.
+fn read_methods(s: &[u8], d: Cursor, n: usize, first: usize, tape: &mut [u32]) -> Run
     requires { ⌜ ReadyAt (now s) d ⌝ }
-    ensures { λ q. ⌜ MethodsRead (now (s .entry)) d n lim (now (tape .entry)) (q .count) (q .step) (now (tape .exit)) ⌝ }
+    ensures { λ q. ⌜ MethodsRead (now (s .entry)) d n first (now (tape .entry)) (q .count) (q .step) (now (tape .exit)) ⌝ }
 {
     let from = d.place;
     let mut i = 0;
     let mut here = Step::Taken(d);
     while i < n {
         let read = method(s, here, tape);
-        if i == lim {
+        if i == first {
             let step = names::new_method(s, from, i, here, read);
             return Run { count: i, step };
         }
@@ -76,11 +76,11 @@ pub fn methods(s: &[u8], set: &Settings, r: Step, again: bool, tape: &mut [u32])
     if again {
         return run.step;
     }
-    let lim = repeats::first_repeat(s, Table::Methods(Item::NamedMethod), d.place, run.count);
-    if lim == run.count {
+    let first = repeats::first_repeat(s, Table::Methods(Item::NamedMethod), d.place, run.count);
+    if first == run.count {
         return run.step;
     }
-    let judged = read_methods(s, d, count, lim, tape);
+    let judged = read_methods(s, d, count, first, tape);
     judged.step
 }
 

@@ -29,8 +29,9 @@ use Rattle.items.proofs.Texts.{text-length}
 use Rattle.items.proofs.Places.{name-stands, item-name, runtime-stands}
 use Rattle.items.proofs.Keys.{name-content}
 use Rattle.items.proofs.Asking.{Asking, asking-start, asking-here, asking-not, asking-more, asking-done}
-use Rattle.repeats.specs.Repeats.{repeats, repeatAt, FirstRepeat}
-use Rattle.repeats.proofs.Repeats.{walking-stands, repeat-is}
+use Rattle.repeats.specs.Keys.{repeatAt, FirstRepeat}
+use Rattle.repeats.specs.Tables.{repeats, keysAt}
+use Rattle.repeats.proofs.Tables.{walking-stands, repeat-is}
 use Rattle.names.specs.Asking.{wrongIn, tableAsks}
 use Rattle.names.specs.Contract.{Charged, Repeated, RepeatTold}
 
@@ -96,15 +97,15 @@ module _ {t : Table} {s : List ℕ} {p : ℕ} {c : Cursor} where
   charge-identity e = rw e (record { asks = asks-none })
 
 -- ---- the loop of `distinct`, up to the first repeat
-pub record Judging (t : Table) (s : List ℕ) (from n lim : ℕ) (c₀ : Cursor) (p i : ℕ) (c : Cursor) : Type 0 where
+pub record Judging (t : Table) (s : List ℕ) (from n first : ℕ) (c₀ : Cursor) (p i : ℕ) (c : Cursor) : Type 0 where
   pub asked : Asking (formatIn t) (tableAsks t) s from n c₀ p i c
-  pub below : i ≤ lim
+  pub below : i ≤ first
 
-module _ {t : Table} {s : List ℕ} {from n lim : ℕ} {c₀ : Cursor} where
-  pub judging-start : Items (formatIn t) n s from → Judging t s from n lim c₀ from 0 c₀
+module _ {t : Table} {s : List ℕ} {from n first : ℕ} {c₀ : Cursor} where
+  pub judging-start : Items (formatIn t) n s from → Judging t s from n first c₀ from 0 c₀
   judging-start h = record { asked = asking-start h; below = omega arith }
 
-  module _ {p i : ℕ} {c : Cursor} (l : Judging t s from n lim c₀ p i c) where
+  module _ {p i : ℕ} {c : Cursor} (l : Judging t s from n first c₀ p i c) where
     pub judging-done : n ≤ i → Asks (over (tableAsks t) [] (itemsAt (formatIn t) n s from)) c₀ (Taken c)
     judging-done h = asking-done h (l .asked)
 
@@ -118,20 +119,20 @@ module _ {t : Table} {s : List ℕ} {from n lim : ℕ} {c₀ : Cursor} where
         unfolding tableAsks
         judging-poor {x} e = rw e (asking-not h (l .asked) (asks-not _ (rw e at (a .asks))) refl)
 
-        module _ (f : FirstRepeat t s from n lim) {d : Cursor} (e : y ≡ Taken d) where
-          repeats-is : {b : Bool} → repeatAt t s from i ≡ b → repeats t (itemsAt (formatIn t) i s from) (valueAt (formatIn t) s p) ≡ b
+        module _ (f : FirstRepeat (keysAt t s from) n first) {d : Cursor} (e : y ≡ Taken d) where
+          repeats-is : {b : Bool} → repeatAt (keysAt t s from) i ≡ b → repeats t (itemsAt (formatIn t) i s from) (valueAt (formatIn t) s p) ≡ b
           repeats-is r = sym (repeat-is (walking-stands h (l .asked .walk))) ∙ r
 
-          pub judging-repeat : {q : Step} → i ≡ lim → RepeatTold t s p d q → Asks (over (tableAsks t) [] (itemsAt (formatIn t) n s from)) c₀ q
+          pub judging-repeat : {q : Step} → i ≡ first → RepeatTold t s p d q → Asks (over (tableAsks t) [] (itemsAt (formatIn t) n s from)) c₀ q
           unfolding tableAsks
           judging-repeat k r =
-              let z : repeatAt t s from i ≡ true = rw k (f .found (omega arith)) in
+              let z : repeatAt (keysAt t s from) i ≡ true = rw k (f .found (omega arith)) in
               rw (r .is) (asking-not h (l .asked) (asks-then _ (rw e at (a .asks)) (refuse-yes _ (repeats-is z) refl)) refl)
 
-          pub judging-more : {z : ℕ} → (i ≡ lim → ⊥) → Past (formatIn t) s p z → Judging t s from n lim c₀ z (i + 1) d
+          pub judging-more : {z : ℕ} → (i ≡ first → ⊥) → Past (formatIn t) s p z → Judging t s from n first c₀ z (i + 1) d
           unfolding tableAsks
           judging-more {z} k w =
-              let j : i < lim = omega (arith, l .below) in
+              let j : i < first = omega (arith, l .below) in
               record { asked = asking-more h (l .asked) (asks-then _ (rw e at (a .asks)) (refuse-no _ (repeats-is (f .new i j)))) refl w; below = omega arith }
 
 pub ruleset answering = (told-field, told-method, told-identity, charge-none, charge-one, charge-field, charge-method, charge-identity)

@@ -1,6 +1,6 @@
 -- What a second pass knows of questions on names: none is refused, so no item of a table repeats another.
 use Prim.Native.Nat.{ℕ, suc, zero, _+_, _≤_, _<_}
-use mathlib.Core.Path.{_≡_, refl}
+use mathlib.Core.Path.{_≡_, refl, sym, _∙_}
 use mathlib.Core.List.{List, [], _∷_}
 use mathlib.Core.Bool.{Bool, true, false, not}
 use native.Mathlib.Omega.{arith}
@@ -17,7 +17,9 @@ use Rattle.items.specs.Walk.{valueAt, itemsAt, lastAt, items-snoc, items-nil, l
 use Rattle.items.specs.Tables.{formatIn}
 use Rattle.items.specs.Contract.{over, ListAsked}
 use Rattle.items.proofs.Asking.{apart}
-use Rattle.repeats.specs.Repeats.{repeats, repeatAt, FirstRepeat}
+use Rattle.repeats.specs.Keys.{repeatAt, FirstRepeat}
+use Rattle.repeats.specs.Tables.{keysAt}
+use Rattle.repeats.proofs.Tables.{repeats-at}
 use Rattle.second_pass.specs.Granted.{Granted, AsksGranted}
 use Rattle.second_pass.proofs.Laws.{denied}
 use Rattle.names.specs.Asking.{charges, wrongIn, tableAsks}
@@ -35,29 +37,29 @@ answered (pay k n ∷ l) c = go (answered l) (paid k n c) refl
 answered (deny w ∷ l) c = (Refused (refusal w (c .place) (c .left)), asks-deny)
 
 -- item k, of the m items after the first i
-refused-at : (t : Table) (s : List ℕ) (from k m i : ℕ) (c : Cursor) → i ≤ k → k < i + m → repeatAt t s from k ≡ true
+refused-at : (t : Table) (s : List ℕ) (from k m i : ℕ) (c : Cursor) → i ≤ k → k < i + m → repeatAt (keysAt t s from) k ≡ true
     → (x : Refusal) × Asks (over (tableAsks t) (itemsAt (formatIn t) i s from) (itemsAt (formatIn t) m s (lastAt (formatIn t) i s from))) c (Refused x)
-unfolding over itemsAt tableAsks repeatAt
+unfolding over itemsAt tableAsks
 refused-at t s from k zero i c h j e = absurd (omega arith)
 refused-at t s from k (suc m) i c h j e =
     let a = answered (charges t (valueAt (formatIn t) s (lastAt (formatIn t) i s from))) c in
-    go (λ d. refused-at t s from k m (suc i) d) (a .0) (a .1) (repeatAt t s from i) refl (leb (suc i) k) (leb→le _ _) (nleb→lt _ _)
+    go (λ d. refused-at t s from k m (suc i) d) (a .0) (a .1) (repeatAt (keysAt t s from) i) refl (leb (suc i) k) (leb→le _ _) (nleb→lt _ _)
   where
-    go : ((d : Cursor) → suc i ≤ k → k < suc i + m → repeatAt t s from k ≡ true → (x : Refusal) × Asks (over (tableAsks t) (itemsAt (formatIn t) (suc i) s from) (itemsAt (formatIn t) m s (lastAt (formatIn t) (suc i) s from))) d (Refused x))
-        → (q : Step) → Asks (charges t (valueAt (formatIn t) s (lastAt (formatIn t) i s from))) c q → (b : Bool) → repeatAt t s from i ≡ b → (z : Bool) → (T z → suc i ≤ k) → (T (not z) → k < suc i)
+    go : ((d : Cursor) → suc i ≤ k → k < suc i + m → repeatAt (keysAt t s from) k ≡ true → (x : Refusal) × Asks (over (tableAsks t) (itemsAt (formatIn t) (suc i) s from) (itemsAt (formatIn t) m s (lastAt (formatIn t) (suc i) s from))) d (Refused x))
+        → (q : Step) → Asks (charges t (valueAt (formatIn t) s (lastAt (formatIn t) i s from))) c q → (b : Bool) → repeatAt (keysAt t s from) i ≡ b → (z : Bool) → (T z → suc i ≤ k) → (T (not z) → k < suc i)
         → (x : Refusal) × Asks (over (tableAsks t) (itemsAt (formatIn t) i s from) (itemsAt (formatIn t) (suc m) s (lastAt (formatIn t) i s from))) c (Refused x)
     go r (Refused x) a b y z u w = (x, asks-not _ (asks-not _ a))
-    go r (Taken d) a true y z u w = (refusal (wrongIn t (valueAt (formatIn t) s (lastAt (formatIn t) i s from))) (d .place) (d .left), asks-not _ (asks-then _ a (refuse-yes _ y refl)))
+    go r (Taken d) a true y z u w = (refusal (wrongIn t (valueAt (formatIn t) s (lastAt (formatIn t) i s from))) (d .place) (d .left), asks-not _ (asks-then _ a (refuse-yes _ (sym (repeats-at t s from i) ∙ y) refl)))
     go r (Taken d) a false y true u w =
         let n = r d (u tt) (omega arith) e in
         let o = rw (items-snoc (formatIn t) i s from) at (rw (last-snoc (formatIn t) i s from) at (n .1)) in
-        (n .0, asks-then _ (asks-then _ a (refuse-no _ y)) o)
+        (n .0, asks-then _ (asks-then _ a (refuse-no _ (sym (repeats-at t s from i) ∙ y))) o)
     go r (Taken d) a false y false u w = let x : k ≡ i = omega (arith, w tt) in let no : _≡_ {A = ℕ} 0 1 = cc in absurd (omega arith)
 
-pub none-repeats : {t : Table} {s : List ℕ} {from n : ℕ} {b : Bool} {c : Cursor} → b ≡ true → AsksGranted b (over (tableAsks t) [] (itemsAt (formatIn t) n s from)) c → FirstRepeat t s from n n
-none-repeats {t} {s} {from} {n} {b} {c} e g = record { within = omega arith; new = λ k h. go k h (repeatAt t s from k) refl; found = λ h. absurd (omega arith) }
+pub none-repeats : (t : Table) (s : List ℕ) (from n : ℕ) {b : Bool} {c : Cursor} → b ≡ true → AsksGranted b (over (tableAsks t) [] (itemsAt (formatIn t) n s from)) c → FirstRepeat (keysAt t s from) n n
+none-repeats t s from n {b} {c} e g = record { within = omega arith; new = λ k h. go k h (repeatAt (keysAt t s from) k) refl; found = λ h. absurd (omega arith) }
   where
-    go : (k : ℕ) → k < n → (d : Bool) → repeatAt t s from k ≡ d → d ≡ false
+    go : (k : ℕ) → k < n → (d : Bool) → repeatAt (keysAt t s from) k ≡ d → d ≡ false
     go k h false i = refl
     go k h true i =
         let z = items-nil (formatIn t) s from in

@@ -25,8 +25,10 @@ use Rattle.items.specs.Items.{formatOf, nameOf, namesOf, contents}
 use Rattle.items.specs.Tables.{keyOf}
 use Rattle.items.specs.Contract.{over, Items, Seen, After}
 use Rattle.items.proofs.Asking.{apart}
-use Rattle.repeats.specs.Repeats.{repeats, repeatAt}
+use Rattle.repeats.specs.Keys.{repeatAt}
+use Rattle.repeats.specs.Tables.{repeats, keysAt}
 use Rattle.names.specs.Asking.{tableAsks, seenAt, methodAsks}
+use Rattle.repeats.proofs.Tables.{repeats-at}
 use Rattle.names.specs.Contract.{Repeated, Named, MethodBehind, MethodAsked}
 use Rattle.names.proofs.Asking.{refuse-yes, refuse-no, repeat-told}
 use Rattle.names.proofs.Orders.{names-map, map-length, contents-snoc, plain-keys, names-over, keys-over, identities-over}
@@ -75,9 +77,9 @@ seen-methods x (suc n) s from =
     ap (λ b. pick (same x (content (methodName v))) true b) (seen-methods x n s from)
     ∙ sym (ap (λ vs. among x (contents NamedMethod vs)) (items-snoc method n s from) ∙ contents-snoc NamedMethod x (itemsAt method n s from) v)
 
-pub method-repeat : (n : ℕ) (s : List ℕ) (from : ℕ) → among (content (methodName (valueAt method s (lastAt method n s from)))) (seenAt n s from) ≡ repeatAt (Methods NamedMethod) s from n
-unfolding repeatAt repeats pick
-method-repeat n s from = seen-methods _ n s from ∙ sym (plain-keys (keyOf (Methods NamedMethod)) (λ v. refl) (valueAt method s (lastAt method n s from)) (itemsAt method n s from))
+pub method-repeat : (n : ℕ) (s : List ℕ) (from : ℕ) → among (content (methodName (valueAt method s (lastAt method n s from)))) (seenAt n s from) ≡ repeatAt (keysAt (Methods NamedMethod) s from) n
+unfolding repeats pick
+method-repeat n s from = seen-methods _ n s from ∙ sym (plain-keys (keyOf (Methods NamedMethod)) (λ v. refl) (valueAt method s (lastAt method n s from)) (itemsAt method n s from)) ∙ sym (repeats-at (Methods NamedMethod) s from n)
 
 module _ {s : List ℕ} {from n : ℕ} {r r₁ : Step} where
   pub method-refused : {x : Refusal} → r₁ ≡ Refused x → MethodAsked s from n r r₁ r₁

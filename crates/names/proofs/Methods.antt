@@ -26,7 +26,8 @@ use Rattle.items.specs.Contract.{Items}
 use Rattle.items.proofs.Asking.{apart}
 use Rattle.items.specs.declared.Item.the-variants.{NamedMethod}
 use Rattle.items.specs.declared.Table.the-variants.{Methods as methodTable}
-use Rattle.repeats.specs.Repeats.{repeatAt}
+use Rattle.repeats.specs.Keys.{repeatAt}
+use Rattle.repeats.specs.Tables.{keysAt}
 use Rattle.names.specs.Asking.{seenAt, methodAsks}
 use Rattle.names.specs.Contract.{MethodAsked}
 use Rattle.names.proofs.Lists.{method-repeat}
@@ -128,7 +129,7 @@ module _ {s t₀ : List ℕ} {r₀ : Step} {n from : ℕ} {t : List ℕ} {r : St
   methods-done h = chained-done (omega arith) (l .chained)
 
 -- where all of them can be read, none repeats one before it
-new-from : (s : List ℕ) (from m i : ℕ) {p : ℕ} {w : Value} {q : ℕ} → p ≡ lastAt method i s from → Ends (trace (chain newMethod alsoSeen (seenAt i s from) m) s p) w q → (k : ℕ) → i ≤ k → k < i + m → repeatAt (methodTable NamedMethod) s from k ≡ false
+new-from : (s : List ℕ) (from m i : ℕ) {p : ℕ} {w : Value} {q : ℕ} → p ≡ lastAt method i s from → Ends (trace (chain newMethod alsoSeen (seenAt i s from) m) s p) w q → (k : ℕ) → i ≤ k → k < i + m → repeatAt (keysAt (methodTable NamedMethod) s from) k ≡ false
 unfolding chain newMethod trace traceLeaf
 new-from s from zero i e h k a b = absurd (omega arith)
 new-from s from (suc m) i {p} {w} e h k a b =
@@ -137,11 +138,11 @@ new-from s from (suc m) i {p} {w} e h k a b =
     let o : x .mid ≡ lastAt method (i + 1) s from = y .next ∙ ap (nextAt method s) e ∙ sym (last-snoc method i s from) ∙ ap (λ j. lastAt method j s from) (sym (add-one i)) in
     go (new-from s from m (i + 1) o (rw (seen-more i s from (first w) e (y .value)) at (x .back)) k) (leb (i + 1) k) (leb→le _ _) (nleb→lt _ _) (sym (method-repeat i s from) ∙ rw (← e, y .value) (y .new))
   where
-    go : (i + 1 ≤ k → k < i + 1 + m → repeatAt (methodTable NamedMethod) s from k ≡ false) → (z : Bool) → (T z → i + 1 ≤ k) → (T (not z) → k < i + 1) → repeatAt (methodTable NamedMethod) s from i ≡ false → repeatAt (methodTable NamedMethod) s from k ≡ false
+    go : (i + 1 ≤ k → k < i + 1 + m → repeatAt (keysAt (methodTable NamedMethod) s from) k ≡ false) → (z : Bool) → (T z → i + 1 ≤ k) → (T (not z) → k < i + 1) → repeatAt (keysAt (methodTable NamedMethod) s from) i ≡ false → repeatAt (keysAt (methodTable NamedMethod) s from) k ≡ false
     go r true u v n = r (u tt) (omega arith)
     go r false u v n = let j : k ≡ i = omega (arith, v tt) in rw j n
 
-pub all-new : (s : List ℕ) (from n : ℕ) {w : Value} {q : ℕ} → Ends (trace (chain newMethod alsoSeen [] n) s from) w q → (k : ℕ) → k < n → repeatAt (methodTable NamedMethod) s from k ≡ false
+pub all-new : (s : List ℕ) (from n : ℕ) {w : Value} {q : ℕ} → Ends (trace (chain newMethod alsoSeen [] n) s from) w q → (k : ℕ) → k < n → repeatAt (keysAt (methodTable NamedMethod) s from) k ≡ false
 all-new s from n {w} {q} h k a =
     let h′ : Ends (trace (chain newMethod alsoSeen (seenAt 0 s from) n) s from) w q = rw (unseen s from) h in
     new-from s from n 0 (sym (items-nil method s from .2)) h′ k (omega arith) (omega arith)

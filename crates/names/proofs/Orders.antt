@@ -17,7 +17,7 @@ use Rattle.items.specs.declared.Table.the-variants.{Fields, Methods, Identities
 use Rattle.items.specs.Items.{nameOf, namesOf, contents}
 use Rattle.items.specs.Tables.{keyOf}
 use Rattle.items.specs.Contract.{over}
-use Rattle.repeats.specs.Repeats.{repeats}
+use Rattle.repeats.specs.Tables.{repeats}
 use Rattle.names.specs.Asking.{tableAsks}
 
 pub names-map : (i : Item) (vs : List Value) → namesOf i vs ≡ map (nameOf i) vs

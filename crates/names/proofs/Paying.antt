@@ -1,6 +1,6 @@
 -- The laws of a table whose items repeat none and can all be paid: one charge for all of them.
 use Prim.Native.Nat.{ℕ, zero, suc, _+_, _-_, _≤_, _<_}
-use mathlib.Core.Path.{_≡_, refl, sym}
+use mathlib.Core.Path.{_≡_, refl, sym, _∙_}
 use mathlib.Core.List.{List, [], _∷_}
 use mathlib.Core.Bool.{Bool, true, false}
 use native.Mathlib.Omega.{arith}
@@ -23,7 +23,9 @@ use Rattle.items.specs.Walk.{valueAt, nextAt, itemsAt, lastAt, items-snoc, item
 use Rattle.items.specs.Items.{nameOf}
 use Rattle.items.specs.Tables.{formatIn}
 use Rattle.items.specs.Contract.{over}
-use Rattle.repeats.specs.Repeats.{repeatAt, FirstRepeat}
+use Rattle.repeats.specs.Keys.{repeatAt, FirstRepeat}
+use Rattle.repeats.specs.Tables.{keysAt}
+use Rattle.repeats.proofs.Tables.{repeats-at}
 use Rattle.names.specs.Asking.{charges, priceOf, price, tableAsks}
 use Rattle.names.specs.Contract.{Cost}
 use Rattle.names.proofs.Asking.{refuse-no}
@@ -52,9 +54,9 @@ charged (Methods i) v h = nothing-paid
 charged Identities v h = nothing-paid
 
 -- the m items after the first i
-rest-paid : (t : Table) (s : List ℕ) (from m i : ℕ) (c : Cursor) → ((k : ℕ) → k < i + m → repeatAt t s from k ≡ false) → price t (itemsAt (formatIn t) m s (lastAt (formatIn t) i s from)) ≤ c .left
+rest-paid : (t : Table) (s : List ℕ) (from m i : ℕ) (c : Cursor) → ((k : ℕ) → k < i + m → repeatAt (keysAt t s from) k ≡ false) → price t (itemsAt (formatIn t) m s (lastAt (formatIn t) i s from)) ≤ c .left
     → Asks (over (tableAsks t) (itemsAt (formatIn t) i s from) (itemsAt (formatIn t) m s (lastAt (formatIn t) i s from))) c (Taken (spentAt c (price t (itemsAt (formatIn t) m s (lastAt (formatIn t) i s from)))))
-unfolding over itemsAt price tableAsks repeatAt
+unfolding over itemsAt price tableAsks
 rest-paid t s from zero i c h l = nothing-paid
 rest-paid t s from (suc m) i c h l =
     let f = formatIn t in
@@ -62,14 +64,14 @@ rest-paid t s from (suc m) i c h l =
     let v = valueAt f s p in
     let d = spentAt c (priceOf t v) in
     let u = itemsAt f m s (nextAt f s p) in
-    let x : Asks (tableAsks t (itemsAt f i s from) v) c (Taken d) = asks-then _ (charged t v (omega arith)) (refuse-no _ (h i (omega arith))) in
+    let x : Asks (tableAsks t (itemsAt f i s from) v) c (Taken d) = asks-then _ (charged t v (omega arith)) (refuse-no _ (sym (repeats-at t s from i) ∙ h i (omega arith))) in
     let j = rw (last-snoc f i s from) at (rest-paid t s from m (suc i) d (λ k b. h k (omega arith)) (rw (last-snoc f i s from) (omega arith))) in
     let y = rw (items-snoc f i s from) at j in
     let e : c .left - (priceOf t v + price t u) ≡ c .left - priceOf t v - price t u = omega arith in
     rw e (asks-then _ x y)
 
-pub all-paid : {t : Table} {s : List ℕ} {from n lim q : ℕ} {c : Cursor} → FirstRepeat t s from n lim → n ≤ lim → Cost t s from n q → q ≤ c .left → Asks (over (tableAsks t) [] (itemsAt (formatIn t) n s from)) c (Taken (spentAt c q))
-all-paid {t} {s} {from} {n} {lim} {q} {c} f h e l =
+pub all-paid : {t : Table} {s : List ℕ} {from n first q : ℕ} {c : Cursor} → FirstRepeat (keysAt t s from) n first → n ≤ first → Cost t s from n q → q ≤ c .left → Asks (over (tableAsks t) [] (itemsAt (formatIn t) n s from)) c (Taken (spentAt c q))
+all-paid {t} {s} {from} {n} {first} {q} {c} f h e l =
     let z = items-nil (formatIn t) s from in
     rw (e .is) (rw (z .0, z .2) at (rest-paid t s from n 0 c (λ k d. f .new k (omega arith)) (rw (z .2) (rw (e .is) at l))))
 

@@ -12,7 +12,7 @@ use Rattle.items.specs.declared.Table.{Table}
 use Rattle.items.specs.declared.Table.the-variants.{Fields, Methods, Identities}
 use Rattle.items.specs.Items.{nameOf}
 use Rattle.items.specs.Walk.{valueAt, lastAt}
-use Rattle.repeats.specs.Repeats.{repeats}
+use Rattle.repeats.specs.Tables.{repeats}
 
 -- 16: a struct field's name is charged; "_" is no key
 abbrev pub charges : Table → Value → List Ask

@@ -13,7 +13,8 @@ ghost use Rattle.items.specs.Items.{formatOf, namesOf};
 ghost use Rattle.items.specs.Tables.{formatIn};
 ghost use Rattle.items.specs.Contract.{over, TextAt, Placed, Items, ListBehind, ListAsked};
 ghost use Rattle.second_pass.specs.Granted.{AsksGranted};
-ghost use Rattle.repeats.specs.Repeats.{FirstRepeat};
+ghost use Rattle.repeats.specs.Keys.{FirstRepeat};
+ghost use Rattle.repeats.specs.Tables.{keysAt};
 ghost use Rattle.names.specs.Asking.{tableAsks};
 ghost use Rattle.names.specs.Contract.{ListGranted, Charged, Repeated, RepeatTold, Cost, Tallied, MethodBehind, MethodAsked};
 use items::Item;
@@ -87,9 +88,10 @@ fn charge_key(s: &[u8], table: Table, p: usize, c: Cursor) -> Step
     }
 }
 
-// The questions on n items, one by one: an item's key is charged just before it is compared, and item lim is the first that repeats another.
-fn judged(s: &[u8], table: Table, from: usize, n: usize, lim: usize, c: Cursor) -> Step
-    requires { ⌜ (Items (formatIn table) n (now s) from) × (FirstRepeat table (now s) from n lim) ⌝ }
+// The questions on n items, one by one: an item's key is charged just before it is compared, and item `first` is the first that
+// repeats another.
+fn judged(s: &[u8], table: Table, from: usize, n: usize, first: usize, c: Cursor) -> Step
+    requires { ⌜ (Items (formatIn table) n (now s) from) × (FirstRepeat (keysAt table (now s) from) n first) ⌝ }
     ensures { λ q. ⌜ Asks (over (tableAsks table) [] (itemsAt (formatIn table) n (now (s .entry)) from)) c q ⌝ }
 {
     let mut p = from;
@@ -100,7 +102,7 @@ fn judged(s: &[u8], table: Table, from: usize, n: usize, lim: usize, c: Cursor) 
         let Step::Taken(d) = paid else {
             return paid;
         };
-        if i == lim {
+        if i == first {
             return refuse_repeat(s, table, p, d);
         }
         here = d;
@@ -110,18 +112,26 @@ fn judged(s: &[u8], table: Table, from: usize, n: usize, lim: usize, c: Cursor) 
     Step::Taken(here)
 }
 
-// The questions on n items whose keys cost so much in all, item lim being the first that repeats another: at once where there is none and
-// all can be paid.
-fn settled(s: &[u8], table: Table, from: usize, n: usize, lim: usize, cost: u64, c: Cursor) -> Step
-    requires { ⌜ (Items (formatIn table) n (now s) from) × (FirstRepeat table (now s) from n lim) × (Cost table (now s) from n cost) ⌝ }
+// The questions on n items whose keys cost so much in all, item `first` being the first that repeats another: at once where there is none
+// and all can be paid.
+fn settled(
+    s: &[u8],
+    table: Table,
+    from: usize,
+    n: usize,
+    first: usize,
+    cost: u64,
+    c: Cursor,
+) -> Step
+    requires { ⌜ (Items (formatIn table) n (now s) from) × (FirstRepeat (keysAt table (now s) from) n first) × (Cost table (now s) from n cost) ⌝ }
     ensures { λ q. ⌜ Asks (over (tableAsks table) [] (itemsAt (formatIn table) n (now (s .entry)) from)) c q ⌝ }
 {
-    if lim < n {
-        return judged(s, table, from, n, lim, c);
+    if first < n {
+        return judged(s, table, from, n, first, c);
     }
     let left = c.left;
     if left < cost {
-        return judged(s, table, from, n, lim, c);
+        return judged(s, table, from, n, first, c);
     }
     Step::Taken(Cursor {
         place: c.place,
@@ -146,8 +156,8 @@ fn distinct(
     if again {
         return settled(s, table, from, n, n, cost, c);
     }
-    let lim = repeats::first_repeat(s, table, from, n);
-    settled(s, table, from, n, lim, cost, c)
+    let first = repeats::first_repeat(s, table, from, n);
+    settled(s, table, from, n, first, cost, c)
 }
 
 // ---- 16: the fields of a struct

@@ -1,31 +1,35 @@
--- The laws of the filter: what is not in it was not seen, so the first repeat that the passes find is the first of all.
-use Prim.Native.Nat.{ℕ, suc, zero, _+_, _-_, _≤_, _<_}
+-- The laws of filters: what is not in one was not seen, so the first repeat that the passes find is the first of all.
+use Prim.Native.Nat.{ℕ, _+_, _-_, _*_, _/_, _%_, _^_, _≤_, _<_}
 use mathlib.Core.Path.{_≡_, refl, ap, sym, _∙_}
 use mathlib.Core.List.{List}
-use mathlib.Core.Bool.{Bool, true, false}
+use mathlib.Core.Bool.{Bool, true, false, not}
 use native.Mathlib.Omega.{arith}
-use lib.ListN.{length, getD, set, replicate, length-set, length-replicate}
+use lib.ListN.{length, getD, set, replicate, length-set}
 use lib.Seq.{getD-set-same, getD-set-other}
-use lib.Bits.{bitAnd, bitOr, and-le-r}
+use lib.Bits.{bitAnd, bitOr, and-le-r, and-zero-r, and-comm, and-mask, or-lt}
 use lib.Dec.{eqb, ltb}
 use borrow.Author.Count.{below-more}
-use borrow.Author.Tests.{eqb-true, eqb-false, ltb-true, ltb-false}
-use Rattle.format.specs.Ending.{trace-within}
+use borrow.Author.Tests.{eqb-true, eqb-false, not-true, ltb-true, ltb-false}
 use Rattle.items.specs.declared.Table.{Table}
-use Rattle.items.specs.Walk.{AllStand, nextAt, lastAt}
-use Rattle.items.specs.Items.{textAt}
-use Rattle.items.specs.Tables.{itemOf, formatIn, packageText}
-use Rattle.items.specs.Contract.{Placed, Past, Items, Seen}
-use Rattle.items.proofs.Places.{item-name}
-use Rattle.items.proofs.Walking.{Walking, walking-start, walking-next, items-here, items-next}
-use Rattle.repeats.specs.declared.Told.{Told}
-use Rattle.repeats.specs.declared.Told.the-variants.{Old, Stop, On}
+use Rattle.items.specs.Tables.{formatIn}
+use Rattle.items.specs.Contract.{Past, Items, Seen}
+use Rattle.items.proofs.Walking.{Walking, walking-start, walking-next}
+use Rattle.repeats.specs.declared.Probe.{Probe}
+use Rattle.repeats.specs.declared.Probe.the-variants.{Repeat, TooMany, Next}
 use Rattle.repeats.specs.declared.Outcome.{Outcome}
-use Rattle.repeats.specs.declared.Outcome.the-variants.{Done, Tired}
-use Rattle.repeats.specs.Repeats.{repeatAt, ExemptIs, Standing, FirstRepeat}
-use Rattle.repeats.specs.Filter.{keyHash, KeyHash, hashAt, class, spot, maskOf, Classed, Filter, Known, isOld, isStop, isOn, Passed, PassedOr, done, tired, FirstOr, first, none, Within}
+use Rattle.repeats.specs.declared.Outcome.the-variants.{First, GaveUp}
+use Rattle.repeats.specs.Keys.{Key, repeatAt, FirstRepeat}
+use Rattle.repeats.specs.Tables.{keysAt, ExemptIs, Standing}
+use Rattle.repeats.specs.Hashes.{keyHash, KeyHash}
+use Rattle.repeats.specs.Filters.{class, spot, maskOf, Has, Lacks, Entered, Classed, Outside, Chosen, Noted, Filter, Probed, isRepeat, isTooMany, isNext, Passed, PassedOr, passed, gaveUp, Suspects, FirstOr, first, none}
 use Rattle.repeats.proofs.Bits.{bits-stay, bits-set}
-use Rattle.repeats.proofs.Repeats.{walking-stands, repeat-none, repeat-exempt, repeat-seen}
+use Rattle.repeats.proofs.Keys.{repeat-none}
+use Rattle.repeats.proofs.Tables.{walking-stands, standing-key, standing-exempt, standing-seen}
+
+-- ---- a hash in a filter
+
+pub spot-fits : (f : List ℕ) (h : ℕ) → 0 < length f → spot f h < length f
+spot-fits f h z = omega (arith, and-le-r h (length f - 1))
 
 word-stays : (f : List ℕ) (i j v m : ℕ) → i < length f → bitAnd (getD f j 0) m ≡ m → bitAnd (getD (set f i (bitOr (getD f i 0) v)) j 0) m ≡ m
 word-stays f i j v m small e = go (eqb j i) refl
@@ -34,187 +38,242 @@ word-stays f i j v m small e = go (eqb j i) refl
     go true q = let z : j ≡ i = eqb-true j i q in rw (z, getD-set-same f i (bitOr (getD f i 0) v) 0 small) (bits-stay (getD f i 0) v m (rw z at e))
     go false q = rw (getD-set-other f i j (bitOr (getD f i 0) v) 0 (eqb-false _ _ q)) e
 
--- ---- the filter
-module _ {a : ℕ} {t : Table} {s : List ℕ} {from i lo hi top : ℕ} {f : List ℕ} (l : Filter a t s from i lo hi top f) where
-  -- an item whose bits are not all there repeats none
-  filter-new : {p : ℕ} → Standing t s from i p → Classed a t s from lo hi i → (bitAnd (getD f (spot top (hashAt a t s from i)) 0) (maskOf (hashAt a t s from i)) ≡ maskOf (hashAt a t s from i) → ⊥) → repeatAt t s from i ≡ false
-  unfolding hashAt keyHash
-  filter-new {p} w c h = repeat-none w none-before
-    where
-      same-hash : (k : ℕ) → textAt s p ≡ textAt s (lastAt (formatIn t) k s from) → packageText t s p ≡ packageText t s (lastAt (formatIn t) k s from) → hashAt a t s from i ≡ hashAt a t s from k
-      same-hash k e g = rw (← w .place, e, g)
+module _ {f : List ℕ} {h m : ℕ} (e : m ≡ maskOf h) where
+  lacks-bits : not (eqb (bitAnd (getD f (spot f h) 0) m) m) ≡ true → Has f h → ⊥
+  lacks-bits t w = eqb-false (bitAnd (getD f (spot f h) 0) m) m (not-true (eqb (bitAnd (getD f (spot f h) 0) m) m) t) (rw e (w .bits))
 
-      none-before : (k : ℕ) → k < i → textAt s p ≡ textAt s (lastAt (formatIn t) k s from) → packageText t s p ≡ packageText t s (lastAt (formatIn t) k s from) → ⊥
-      none-before k d e g = let z = same-hash k e g in h (rw z (l .has k d (record { low = rw z at (c .low); high = rw z at (c .high) })))
+  pub lacks-is : Lacks f h (not (eqb (bitAnd (getD f (spot f h) 0) m) m))
+  lacks-is = record { lacks = lacks-bits }
 
-  -- its word is there
-  pub filter-spot : (h : ℕ) → bitAnd h top < length f
-  filter-spot h = omega (arith, l .size, and-le-r h top)
-
-  filter-out : (Classed a t s from lo hi i → ⊥) → Filter a t s from (i + 1) lo hi top f
-  filter-out h = record { size = l .size; has = below-more _ i (l .has) (λ c. absurd (h c)) }
-
-  filter-in : Filter a t s from (i + 1) lo hi top (set f (spot top (hashAt a t s from i)) (bitOr (getD f (spot top (hashAt a t s from i)) 0) (maskOf (hashAt a t s from i))))
-  filter-in =
-      let small : spot top (hashAt a t s from i) < length f = filter-spot (hashAt a t s from i) in
+  pub enters : 0 < length f → Entered f h (set f (spot f h) (bitOr (getD f (spot f h) 0) m)) (not (eqb (bitAnd (getD f (spot f h) 0) m) m))
+  enters z =
+      let w = bitOr (getD f (spot f h) 0) m in
+      let small = spot-fits f h z in
       record {
-        size = simp length-set (l .size);
-        has = below-more _ i (λ k d c. word-stays f _ _ _ (maskOf (hashAt a t s from k)) small (l .has k d c)) (λ c. rw (getD-set-same f (spot top (hashAt a t s from i)) (bitOr (getD f (spot top (hashAt a t s from i)) 0) (maskOf (hashAt a t s from i))) 0 small) (bits-set (getD f (spot top (hashAt a t s from i)) 0) (maskOf (hashAt a t s from i))));
+        has = record { bits = rw (length-set f (spot f h) w, getD-set-same f (spot f h) w 0 small, e) (bits-set (getD f (spot f h) 0) (maskOf h)) };
+        keeps = λ k i. record { bits = rw (length-set f (spot f h) w) (word-stays f (spot f h) (spot f k) m (maskOf k) small (i .bits)) };
+        size = length-set f (spot f h) w;
+        new = lacks-bits;
       }
 
--- ---- the answers of `known`, for an item of hash h
-module _ {a : ℕ} {t : Table} {s : List ℕ} {from i p lo hi top h : ℕ} {f : List ℕ} (w : Standing t s from i p) (e : KeyHash a t s p h) (l : Filter a t s from i lo hi top f) where
-  hash-is : hashAt a t s from i ≡ h
-  unfolding hashAt
-  hash-is = ap (keyHash a t s) (sym (w .place)) ∙ sym (e .is)
+-- what has every bit
+bit-fits : (k : ℕ) → 1 * 2 ^ k % 2 ^ 64 < 2 ^ 64
+bit-fits k = omega arith
 
-  known-out : {left : ℕ} → (lo ≤ class h → class h < hi → ⊥) → Known a t s from i lo hi top f (On left)
-  known-out {left} b = let z = hash-is in isOn {left = left} (filter-out l (λ c. b (rw z at (c .low)) (rw z at (c .high)))) (λ c. absurd (b (rw z at (c .low)) (rw z at (c .high))))
+or-fits : {x y : ℕ} → x < 2 ^ 64 → y < 2 ^ 64 → bitOr x y < 2 ^ 64
+or-fits {x} {y} h k = or-lt 64 x y h k
 
-  pub known-below : {left : ℕ} → class h < lo → Known a t s from i lo hi top f (On left)
-  known-below b = known-out (λ x y. omega arith)
+mask-fits : (h : ℕ) → maskOf h < 2 ^ 64
+unfolding maskOf
+mask-fits h = or-fits (or-fits (or-fits (or-fits (or-fits (bit-fits (h / 1048576 % 64)) (bit-fits (h / 4294967296 % 64))) (bit-fits (h / 274877906944 % 64))) (bit-fits (h / 17592186044416 % 64))) (bit-fits (h / 1125899906842624 % 64))) (bit-fits (h / 72057594037927936 % 64))
 
-  pub known-above : {left : ℕ} → hi ≤ class h → Known a t s from i lo hi top f (On left)
-  known-above b = known-out (λ x y. omega arith)
+pub has-all : (h : ℕ) → Has (replicate 1 18446744073709551615) h
+has-all h = record { bits = go (bitAnd h 0) (and-zero-r h) }
+  where
+    full : bitAnd 18446744073709551615 (maskOf h) ≡ maskOf h
+    full = let m = mask-fits h in and-comm 18446744073709551615 (maskOf h) ∙ and-mask (maskOf h) 64 ∙ omega arith
 
-  module _ {v : ℕ} (y : v ≡ maskOf h) where
-    pub known-new : {left : ℕ} → (bitAnd (getD f (bitAnd h top) 0) v ≡ v → ⊥) → Known a t s from i lo hi top (set f (bitAnd h top) (bitOr (getD f (bitAnd h top) 0) v)) (On left)
-    known-new {left} b = let z = hash-is in rw (y, ← z) (isOn {left = left} (filter-in l) (λ c. filter-new l w c (rw (y, ← z) at b)))
+    go : (k : ℕ) → k ≡ 0 → bitAnd (getD (replicate 1 18446744073709551615) k 0) (maskOf h) ≡ maskOf h
+    go k e = rw e full
 
-    known-not : {left : ℕ} → repeatAt t s from i ≡ false → Known a t s from i lo hi top (set f (bitAnd h top) (bitOr (getD f (bitAnd h top) 0) v)) (On left)
-    known-not {left} b = let z = hash-is in rw (y, ← z) (isOn {left = left} (filter-in l) (λ c. b))
+-- the answers of `outside` and of `note`
+module _ {lo hi h : ℕ} where
+  pub outside-low : class h < lo → Outside lo hi h true
+  outside-low l = record { out = λ _ c. omega (arith, c .low) }
 
-    module _ {b : Bool} (x : ExemptIs t s p b) where
-      pub known-exempt : {left : ℕ} → b ≡ true → Known a t s from i lo hi top (set f (bitAnd h top) (bitOr (getD f (bitAnd h top) 0) v)) (On left)
-      known-exempt q = known-not (repeat-exempt w x q)
+  pub outside-high : {q : Bool} → (q ≡ true → hi ≤ class h) → Outside lo hi h q
+  outside-high l = record { out = λ e c. let x = l e in omega (arith, c .high) }
 
-      pub known-unseen : {left : ℕ} {q : Bool} → b ≡ false → Seen t s from i p q → q ≡ false → Known a t s from i lo hi top (set f (bitAnd h top) (bitOr (getD f (bitAnd h top) 0) v)) (On left)
-      known-unseen g u r = known-not (repeat-seen w x g u ∙ r)
+  module _ {f u : List ℕ} where
+    pub note-outside : {q : Bool} → Outside lo hi h q → q ≡ true → Noted lo hi h f f u u
+    note-outside o e = record { has = λ c. absurd (o .out e c); keeps = λ k i. i; size = refl; suspect = λ c. absurd (o .out e c); suspects = λ k i. i; width = refl }
 
-pub known-old : {a : ℕ} {t : Table} {s : List ℕ} {from i p lo hi top : ℕ} {f : List ℕ} {b q : Bool} → Standing t s from i p → ExemptIs t s p b → b ≡ false → Seen t s from i p q → q ≡ true → Known a t s from i lo hi top f Old
-known-old w x g u r = isOld (repeat-seen w x g u ∙ r)
+    module _ {f′ : List ℕ} {q : Bool} (n : Entered f h f′ q) where
+      pub note-new : q ≡ true → Noted lo hi h f f′ u u
+      note-new e = record { has = λ c. n .has; keeps = n .keeps; size = n .size; suspect = λ c i. absurd (n .new e i); suspects = λ k i. i; width = refl }
 
-pub known-stop : {a : ℕ} {t : Table} {s : List ℕ} {from i lo hi top : ℕ} {f : List ℕ} → Known a t s from i lo hi top f Stop
-known-stop = isStop
+      pub note-suspect : {u′ : List ℕ} {r : Bool} → Entered u h u′ r → Noted lo hi h f f′ u u′
+      note-suspect m = record { has = λ c. n .has; keeps = n .keeps; size = n .size; suspect = λ c i. m .has; suspects = m .keeps; width = m .size }
 
-pub ruleset knowing = (known-below, known-above, known-new, known-exempt, known-unseen, known-old, known-stop)
+pub ruleset noting = (outside-low, note-outside, note-new, note-suspect)
+
+-- ---- the hashes of keys in a filter
+
+pub filter-none : {Kind : ℕ → Type 0} {a : ℕ} {keys : ℕ → Key} {f : List ℕ} → 0 < length f → Filter Kind a keys 0 f
+filter-none z = record { size = z; has = λ k d. absurd (omega arith) }
+
+module _ {Kind : ℕ → Type 0} {a : ℕ} {keys : ℕ → Key} {i : ℕ} {f : List ℕ} (l : Filter Kind a keys i f) where
+  -- a key that is not there repeats none
+  pub filter-new : Kind (keyHash a (keys i)) → (Has f (keyHash a (keys i)) → ⊥) → repeatAt keys i ≡ false
+  unfolding keyHash
+  filter-new c h = repeat-none keys i (λ k d x y. let z : keyHash a (keys i) ≡ keyHash a (keys k) = rw (x, y) in h (rw z (l .has k d (rw z at c))))
+
+  -- so one that repeats another is there
+  pub filter-repeat : Kind (keyHash a (keys i)) → repeatAt keys i ≡ true → Has f (keyHash a (keys i))
+  filter-repeat c r = go (eqb (bitAnd (getD f (spot f (keyHash a (keys i))) 0) (maskOf (keyHash a (keys i)))) (maskOf (keyHash a (keys i)))) refl
+    where
+      go : (b : Bool) → eqb (bitAnd (getD f (spot f (keyHash a (keys i))) 0) (maskOf (keyHash a (keys i)))) (maskOf (keyHash a (keys i))) ≡ b → Has f (keyHash a (keys i))
+      go true e = record { bits = eqb-true _ _ e }
+      go false e = let x = filter-new c (λ w. eqb-false _ _ e (w .bits)) in let z : _≡_ {A = ℕ} 0 1 = cc in absurd (omega arith)
+
+  pub filter-more : {g : List ℕ} → length g ≡ length f → ((k : ℕ) → Has f k → Has g k) → (Kind (keyHash a (keys i)) → Has g (keyHash a (keys i))) → Filter Kind a keys (i + 1) g
+  filter-more {g} z keeps here = record { size = omega (arith, l .size); has = below-more (λ k. Kind (keyHash a (keys k)) → Has g (keyHash a (keys k))) i (λ k d c. keeps _ (l .has k d c)) here }
+
+-- the answers of `probed`, for an item of hash h
+module _ {a : ℕ} {t : Table} {s : List ℕ} {from i p h : ℕ} (w : Standing t s from i p) (e : KeyHash a t s p h) where
+  hash-is : keyHash a (keysAt t s from i) ≡ h
+  hash-is = ap (keyHash a) (standing-key w) ∙ sym (e .is)
+
+  module _ {lo hi : ℕ} {f u : List ℕ} (l : Filter (Chosen lo hi u) a (keysAt t s from) i f) where
+    not-chosen : {left : ℕ} → (Chosen lo hi u h → ⊥) → Probed (Chosen lo hi u) a (keysAt t s from) i f (Next left)
+    not-chosen {left} n = let z = hash-is in let o : Chosen lo hi u (keyHash a (keysAt t s from i)) → ⊥ = λ c. n (rw z at c) in isNext {left = left} (filter-more l refl (λ k i. i) (λ c. absurd (o c))) (λ c. absurd (o c))
+
+    pub probed-outside : {left : ℕ} {q : Bool} → Outside lo hi h q → q ≡ true → Probed (Chosen lo hi u) a (keysAt t s from) i f (Next left)
+    probed-outside o r = not-chosen (λ c. o .out r (c .classed))
+
+    pub probed-lacks : {left : ℕ} {q : Bool} → Lacks u h q → q ≡ true → Probed (Chosen lo hi u) a (keysAt t s from) i f (Next left)
+    probed-lacks o r = not-chosen (λ c. o .lacks r (c .suspect))
+
+    module _ {g : List ℕ} {n : Bool} (x : Entered f h g n) where
+      entered : Filter (Chosen lo hi u) a (keysAt t s from) (i + 1) g
+      entered = let z = hash-is in filter-more l (x .size) (x .keeps) (λ c. rw z (x .has))
+
+      pub probed-new : {left : ℕ} → n ≡ true → Probed (Chosen lo hi u) a (keysAt t s from) i g (Next left)
+      probed-new {left} r = let z = hash-is in isNext {left = left} entered (λ c. filter-new l c (rw z (x .new r)))
+
+      module _ {b : Bool} (y : ExemptIs t s p b) where
+        pub probed-exempt : {left : ℕ} → b ≡ true → Probed (Chosen lo hi u) a (keysAt t s from) i g (Next left)
+        probed-exempt {left} r = isNext {left = left} entered (λ c. standing-exempt w y r)
+
+        pub probed-unseen : {left : ℕ} {q : Bool} → b ≡ false → Seen t s from i p q → q ≡ false → Probed (Chosen lo hi u) a (keysAt t s from) i g (Next left)
+        probed-unseen {left} d v r = isNext {left = left} entered (λ c. standing-seen w y d v ∙ r)
+
+pub probed-seen : {Kind : ℕ → Type 0} {a : ℕ} {t : Table} {s : List ℕ} {from i p : ℕ} {f : List ℕ} {b q : Bool} → Standing t s from i p → ExemptIs t s p b → b ≡ false → Seen t s from i p q → q ≡ true → Probed Kind a (keysAt t s from) i f Repeat
+probed-seen w y d v r = isRepeat (standing-seen w y d v ∙ r)
+
+pub probed-many : {Kind : ℕ → Type 0} {a : ℕ} {keys : ℕ → Key} {i : ℕ} {f : List ℕ} → Probed Kind a keys i f TooMany
+probed-many = isTooMany
+
+pub ruleset probing = (probed-outside, probed-lacks, probed-new, probed-exempt, probed-unseen, probed-seen, probed-many)
 
 -- ---- the loop of `pass`
-pub record Passing (a : ℕ) (t : Table) (s : List ℕ) (from n lo hi top : ℕ) (f : List ℕ) (p i : ℕ) : Type 0 where
+pub record Passing (Kind : ℕ → Type 0) (a : ℕ) (t : Table) (s : List ℕ) (from n : ℕ) (f : List ℕ) (p i : ℕ) : Type 0 where
   pub walk : Walking (formatIn t) s from n p i
-  pub filter : Filter a t s from i lo hi top f
-  pub new : (k : ℕ) → k < i → Classed a t s from lo hi k → repeatAt t s from k ≡ false
+  pub filter : Filter Kind a (keysAt t s from) i f
+  pub new : (k : ℕ) → k < i → Kind (keyHash a (keysAt t s from k)) → repeatAt (keysAt t s from) k ≡ false
 
--- an empty filter
-pub filter-empty : (a : ℕ) (t : Table) (s : List ℕ) (from lo hi top m : ℕ) → top < m → Filter a t s from 0 lo hi top (replicate m 0)
-filter-empty a t s from lo hi top m h = record { size = rw (length-replicate {A = ℕ} m 0) h; has = λ k d. absurd (omega arith) }
+module _ {Kind : ℕ → Type 0} {a : ℕ} {t : Table} {s : List ℕ} {from n : ℕ} where
+  pub passing-start : {f : List ℕ} → Items (formatIn t) n s from → 0 < length f → Passing Kind a t s from n f from 0
+  passing-start h z = record { walk = walking-start h; filter = filter-none z; new = λ k d. absurd (omega arith) }
 
-module _ {a : ℕ} {t : Table} {s : List ℕ} {from n lo hi top : ℕ} where
-  pub passing-start : {f : List ℕ} → Items (formatIn t) n s from → Filter a t s from 0 lo hi top f → Passing a t s from n lo hi top f from 0
-  passing-start h l = record { walk = walking-start h; filter = l; new = λ k d. absurd (omega arith) }
+  module _ {f : List ℕ} {p i : ℕ} (l : Passing Kind a t s from n f p i) where
+    pub passing-done : n ≤ i → PassedOr Kind a (keysAt t s from) n (First n)
+    passing-done h = passed {q = n} (record { within = omega arith; new = λ k d. l .new k (omega arith); found = λ d. absurd (omega arith) })
 
-  module _ {f : List ℕ} {p i : ℕ} (l : Passing a t s from n lo hi top f p i) where
-    pub passing-done : n ≤ i → PassedOr a t s from n lo hi (Done n)
-    passing-done h = done {q = n} (record { within = omega arith; new = λ k d. l .new k (omega arith); found = λ d. absurd (omega arith) })
-
-    module _ (h : i < n) {g : List ℕ} {r : Told} (k : Known a t s from i lo hi top g r) where
-      pub passing-found : r ≡ Old → PassedOr a t s from n lo hi (Done i)
+    module _ (h : i < n) {g : List ℕ} {r : Probe} (k : Probed Kind a (keysAt t s from) i g r) where
+      pub passing-found : r ≡ Repeat → PassedOr Kind a (keysAt t s from) n (First i)
       passing-found e = go (rw e at k)
         where
-          go : Known a t s from i lo hi top g Old → PassedOr a t s from n lo hi (Done i)
-          go (isOld x) = done {q = i} (record { within = omega arith; new = l .new; found = λ d. x })
+          go : Probed Kind a (keysAt t s from) i g Repeat → PassedOr Kind a (keysAt t s from) n (First i)
+          go (isRepeat x) = passed {q = i} (record { within = omega arith; new = l .new; found = λ d. x })
 
-      pub passing-more : {left z : ℕ} → r ≡ On left → Past (formatIn t) s p z → Passing a t s from n lo hi top g z (i + 1)
+      pub passing-more : {left z : ℕ} → r ≡ Next left → Past (formatIn t) s p z → Passing Kind a t s from n g z (i + 1)
       passing-more {left} {z} e w = go (rw e at k)
         where
-          go : Known a t s from i lo hi top g (On left) → Passing a t s from n lo hi top g z (i + 1)
-          go (isOn u v) = record { walk = walking-next h (l .walk) w; filter = u; new = below-more _ i (l .new) v }
+          go : Probed Kind a (keysAt t s from) i g (Next left) → Passing Kind a t s from n g z (i + 1)
+          go (isNext u v) = record { walk = walking-next h (l .walk) w; filter = u; new = below-more (λ k. Kind (keyHash a (keysAt t s from k)) → repeatAt (keysAt t s from) k ≡ false) i (l .new) v }
 
-pub passing-tired : {a : ℕ} {t : Table} {s : List ℕ} {from n lo hi : ℕ} → PassedOr a t s from n lo hi Tired
-passing-tired = tired
+pub passing-gave-up : {Kind : ℕ → Type 0} {a : ℕ} {keys : ℕ → Key} {n : ℕ} → PassedOr Kind a keys n GaveUp
+passing-gave-up = gaveUp
 
-pub ruleset passing = (passing-start, walking-stands, passing-done, passing-found, passing-more, passing-tired)
+pub ruleset passing = (passing-start, walking-stands, passing-done, passing-found, passing-more, passing-gave-up)
 
--- ---- the loop of `filtered`: all the classes below lo
-pub record Firsts (a : ℕ) (t : Table) (s : List ℕ) (from n lo q : ℕ) : Type 0 where
+-- ---- the loop of `suspect`
+pub record Suspecting (lo hi a : ℕ) (t : Table) (s : List ℕ) (from n : ℕ) (f u : List ℕ) (p i : ℕ) : Type 0 where
+  pub walk : Walking (formatIn t) s from n p i
+  pub filter : Filter (Classed lo hi) a (keysAt t s from) i f
+  pub suspects : Suspects lo hi a (keysAt t s from) i u
+  pub width : 0 < length u
+
+module _ {lo hi a : ℕ} {t : Table} {s : List ℕ} {from n : ℕ} where
+  pub suspecting-start : {f u : List ℕ} → Items (formatIn t) n s from → 0 < length f → 0 < length u → Suspecting lo hi a t s from n f u from 0
+  suspecting-start h z y = record { walk = walking-start h; filter = filter-none z; suspects = record { has = λ k d. absurd (omega arith) }; width = y }
+
+  module _ {f u : List ℕ} {p i : ℕ} (l : Suspecting lo hi a t s from n f u p i) where
+    pub suspecting-done : n ≤ i → Suspects lo hi a (keysAt t s from) n u
+    suspecting-done h = record { has = λ k d. l .suspects .has k (omega arith) }
+
+    pub suspecting-more : {h z : ℕ} {f′ u′ : List ℕ} → i < n → KeyHash a t s p h → Noted lo hi h f f′ u u′ → Past (formatIn t) s p z → Suspecting lo hi a t s from n f′ u′ z (i + 1)
+    suspecting-more {h} {z} {f′} {u′} d e m w =
+        let x : keyHash a (keysAt t s from i) ≡ h = hash-is (walking-stands d (l .walk)) e in
+        record {
+          walk = walking-next d (l .walk) w;
+          filter = filter-more (l .filter) (m .size) (m .keeps) (rw x (m .has));
+          suspects = record { has = below-more (λ k. Classed lo hi (keyHash a (keysAt t s from k)) → repeatAt (keysAt t s from) k ≡ true → Has u′ (keyHash a (keysAt t s from k))) i (λ k d c r. m .suspects _ (l .suspects .has k d c r)) (λ c r. let y = filter-repeat (l .filter) c r in rw x (m .suspect (rw x at c) (rw x at y))) };
+          width = omega (arith, l .width, m .width);
+        }
+
+pub ruleset suspecting = (suspecting-start, suspecting-done)
+
+suspects-passed : {lo hi a : ℕ} {keys : ℕ → Key} {n q : ℕ} {u : List ℕ} → Suspects lo hi a keys n u → Passed (Chosen lo hi u) a keys n q → Passed (Classed lo hi) a keys n q
+suspects-passed {lo} {hi} {a} {keys} {q = q} l p = record { within = p .within; new = λ k d c. go k d c (repeatAt keys k) refl; found = p .found }
+  where
+    go : (k : ℕ) → k < q → Classed lo hi (keyHash a (keys k)) → (b : Bool) → repeatAt keys k ≡ b → repeatAt keys k ≡ false
+    go k d c true e = p .new k d (record { classed = c; suspect = l .has k (omega (arith, p .within)) c e })
+    go k d c false e = e
+
+-- what a pass over the suspects finds is the first repeat of their classes
+pub suspects-first : {lo hi a : ℕ} {keys : ℕ → Key} {n : ℕ} {u : List ℕ} {o : Outcome} → Suspects lo hi a keys n u → PassedOr (Chosen lo hi u) a keys n o → PassedOr (Classed lo hi) a keys n o
+suspects-first l (passed p) = passed (suspects-passed l p)
+suspects-first l gaveUp = gaveUp
+
+-- ---- the loop of `many`: all the classes below lo
+pub record Firsts (a : ℕ) (keys : ℕ → Key) (n lo q : ℕ) : Type 0 where
   pub within : q ≤ n
-  pub new : (k : ℕ) → k < q → class (hashAt a t s from k) < lo → repeatAt t s from k ≡ false
-  pub found : q < n → repeatAt t s from q ≡ true
+  pub new : (k : ℕ) → k < q → class (keyHash a (keys k)) < lo → repeatAt keys k ≡ false
+  pub found : q < n → repeatAt keys q ≡ true
 
-stand-less : (t : Table) (s : List ℕ) (m n p : ℕ) → m ≤ n → AllStand (formatIn t) n s p → AllStand (formatIn t) m s p
-unfolding AllStand
-stand-less t s zero n p h a = tt
-stand-less t s (suc m) zero p h a = absurd (omega arith)
-stand-less t s (suc m) (suc n) p h a = (a .0, stand-less t s m n (nextAt (formatIn t) s p) (omega arith) (a .1))
-
-module _ {a : ℕ} {t : Table} {s : List ℕ} {from n : ℕ} where
-  pub firsts-items : {lo q : ℕ} → Firsts a t s from n lo q → Items (formatIn t) n s from → Items (formatIn t) q s from
-  firsts-items {lo} {q} l h = record { small = h .small; all = stand-less t s q n from (l .within) (h .all) }
-
-  pub firsts-start : Firsts a t s from n 0 n
+module _ {a : ℕ} {keys : ℕ → Key} {n : ℕ} where
+  pub firsts-start : Firsts a keys n 0 n
   firsts-start = record { within = omega arith; new = λ k d b. absurd (omega arith); found = λ d. absurd (omega arith) }
 
-  firsts-passed : {lo hi lim q : ℕ} → Passed a t s from lim lo hi q → Firsts a t s from n lo lim → Firsts a t s from n hi q
-  firsts-passed {lo} {hi} {lim} {q} p l =
+  firsts-passed : {lo hi m q : ℕ} → Passed (Classed lo hi) a keys m q → Firsts a keys n lo m → Firsts a keys n hi q
+  firsts-passed {lo} {hi} {m} {q} p l =
       record {
         within = omega (arith, p .within, l .within);
-        new = λ k d b. below k d b (ltb (class (hashAt a t s from k)) lo) refl;
-        found = λ d. ends d (ltb q lim) refl;
+        new = λ k d b. below k d b (ltb (class (keyHash a (keys k))) lo) refl;
+        found = λ d. ends d (ltb q m) refl;
       }
     where
-      below : (k : ℕ) → k < q → class (hashAt a t s from k) < hi → (b : Bool) → ltb (class (hashAt a t s from k)) lo ≡ b → repeatAt t s from k ≡ false
+      below : (k : ℕ) → k < q → class (keyHash a (keys k)) < hi → (b : Bool) → ltb (class (keyHash a (keys k))) lo ≡ b → repeatAt keys k ≡ false
       below k d b true e = l .new k (omega (arith, p .within)) (ltb-true _ _ e)
       below k d b false e = p .new k d (record { low = ltb-false _ _ e; high = b })
 
-      ends : q < n → (b : Bool) → ltb q lim ≡ b → repeatAt t s from q ≡ true
+      ends : q < n → (b : Bool) → ltb q m ≡ b → repeatAt keys q ≡ true
       ends d true e = p .found (ltb-true _ _ e)
-      ends d false e = let z : q ≡ lim = omega (arith, p .within, ltb-false q lim e) in rw z (l .found (omega arith))
+      ends d false e = let z : q ≡ m = omega (arith, p .within, ltb-false q m e) in rw z (l .found (omega arith))
 
-  pub firsts-more : {lo hi lim q : ℕ} {o : Outcome} → PassedOr a t s from lim lo hi o → o ≡ Done q → Firsts a t s from n lo lim → Firsts a t s from n hi q
-  firsts-more {lo} {hi} {lim} {q} p e l = go (rw e at p)
+  pub firsts-more : {lo hi m q : ℕ} {o : Outcome} → PassedOr (Classed lo hi) a keys m o → o ≡ First q → Firsts a keys n lo m → Firsts a keys n hi q
+  firsts-more {lo} {hi} {m} {q} p e l = go (rw e at p)
     where
-      go : PassedOr a t s from lim lo hi (Done q) → Firsts a t s from n hi q
-      go (done q) = firsts-passed q l
+      go : PassedOr (Classed lo hi) a keys m (First q) → Firsts a keys n hi q
+      go (passed q) = firsts-passed q l
 
-  pub firsts-done : {lo q : ℕ} → Firsts a t s from n lo q → 65536 ≤ lo → FirstOr t s from n (Done q)
+  pub firsts-done : {lo q : ℕ} → Firsts a keys n lo q → 65536 ≤ lo → FirstOr keys n (First q)
   firsts-done l h = first (record { within = l .within; new = λ k d. l .new k d (omega arith); found = l .found })
 
--- one pass over all classes
-pub pass-first : {a : ℕ} {t : Table} {s : List ℕ} {from n : ℕ} {o : Outcome} → PassedOr a t s from n 0 65536 o → FirstOr t s from n o
-pass-first (done p) = first (record { within = p .within; new = λ k d. p .new k d (record { low = omega arith; high = omega arith }); found = p .found })
-pass-first tired = none
+-- one pass over all classes, each key being a suspect
+pub pass-first : {a : ℕ} {keys : ℕ → Key} {n : ℕ} {o : Outcome} → PassedOr (Chosen 0 65536 (replicate 1 18446744073709551615)) a keys n o → FirstOr keys n o
+pass-first (passed p) = first (record { within = p .within; new = λ k d. p .new k d (record { classed = record { low = omega arith; high = omega arith }; suspect = has-all _ }); found = p .found })
+pass-first gaveUp = none
 
-pub firsts-tired : {t : Table} {s : List ℕ} {from n : ℕ} → FirstOr t s from n Tired
-firsts-tired = none
+pub firsts-gave-up : {keys : ℕ → Key} {n : ℕ} → FirstOr keys n GaveUp
+firsts-gave-up = none
 
-pub is-first : {t : Table} {s : List ℕ} {from n q : ℕ} {o : Outcome} → FirstOr t s from n o → o ≡ Done q → FirstRepeat t s from n q
-is-first {t} {s} {from} {n} {q} f e = go (rw e at f)
+pub is-first : {keys : ℕ → Key} {n q : ℕ} {o : Outcome} → FirstOr keys n o → o ≡ First q → FirstRepeat keys n q
+is-first {keys} {n} {q} f e = go (rw e at f)
   where
-    go : FirstOr t s from n (Done q) → FirstRepeat t s from n q
+    go : FirstOr keys n (First q) → FirstRepeat keys n q
     go (first x) = x
 
-pub ruleset firsts = (firsts-start, firsts-more, firsts-done, firsts-tired, is-first)
-
--- ---- the loop of `past_items`
-pub record Leaving (t : Table) (s : List ℕ) (from p k : ℕ) : Type 0 where
-  pub items : Items (formatIn t) k s p
-  pub room : from < p → p ≤ length s
-
-module _ {t : Table} {s : List ℕ} {from : ℕ} where
-  pub leaving-start : {n : ℕ} → Items (formatIn t) n s from → Leaving t s from from n
-  leaving-start h = record { items = h; room = λ h. absurd (omega arith) }
-
-  module _ {p k : ℕ} (l : Leaving t s from p k) where
-    pub leaving-done : Within s from p
-    leaving-done = record { room = l .room }
-
-    module _ (h : 0 < k) where
-      pub leaving-here : Placed (formatIn t) s p
-      leaving-here = items-here h (l .items)
-
-      pub leaving-more : {q : ℕ} → Past (formatIn t) s p q → Leaving t s from q (k - 1)
-      leaving-more w =
-          let i = leaving-here in
-          record { items = items-next h (l .items) w; room = λ _. rw (w .is) (trace-within (formatIn t) s p (i .stands .ends) .1 (omega (arith, item-name (itemOf t) i .room))) }
-
-pub ruleset leaving = (leaving-start, leaving-done, leaving-here, leaving-more)
+pub ruleset firsts = (firsts-start, firsts-more, firsts-done, firsts-gave-up, is-first)

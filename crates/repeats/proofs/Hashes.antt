@@ -1,20 +1,24 @@
--- The laws of the hash: the loop of blocks, that of words, then that of bytes.
+-- The laws of the hash: what the words and bytes that are read come to.
 use Prim.Native.Nat.{ℕ, suc, zero, _+_, _-_, _*_, _/_, _%_, _^_, _≤_, _<_}
 use mathlib.Core.Path.{_≡_, refl, ap, sym, _∙_}
 use mathlib.Core.List.{List, [], _∷_}
 use native.Mathlib.Omega.{arith}
 use native.Mathlib.Nat.{mul-le-mul}
 use lib.ListN.{length, getD, take, drop}
-use lib.Seq.{take-nil, take-take, drop-drop}
-use lib.Bits.{bitXor}
+use lib.Seq.{take-nil, take-take, drop-drop, getD-take, getD-drop}
+use lib.Bits.{bitXor, xor-zero-l}
+use borrow.Author.Tests.{lt-ltb, le-ltb, eq-eqb, ne-eqb}
+use Rattle.format.specs.Trace.{pick}
 use Rattle.format.specs.Reading.{little, part}
 use Rattle.format.specs.Ending.{part-length}
 use Rattle.items.specs.declared.Item.{Item}
 use Rattle.items.specs.declared.Table.{Table}
 use Rattle.items.specs.declared.Table.the-variants.{Fields, Methods, Identities}
-use Rattle.items.specs.Contract.{TextAt, WordIs, PackageIs}
-use Rattle.items.proofs.Texts.{piece, text-room, text-part}
-use Rattle.repeats.specs.Filter.{mixed, folded, otherKey, tailHash, wordIn, pastBlock, lanesHash, bytesHash, HashIs, textHash, TextHash, PackageHash, keyHash, KeyHash}
+use Rattle.items.specs.Tables.{formatIn}
+use Rattle.items.specs.Contract.{TextAt, WordIs, PackageIs, Placed}
+use Rattle.items.proofs.Texts.{text-room, text-part}
+use Rattle.items.proofs.Keys.{key-name, key-package}
+use Rattle.repeats.specs.Hashes.{mixed, folded, secondKey, wordIn, shortHash, lanesHash, bytesHash, textHash, keyHash, PartAt, JoinIs, HashIs, TextHash, PackageHash, KeyHash}
 
 -- ---- a turn stays below 2 ^ 64
 
@@ -40,103 +44,123 @@ module _ (a x : ℕ) (k : a < 4294967296) where
       go : (m q : ℕ) → m ≤ 18446744065119617025 → q < 4294967296 → m + q < 2 ^ 64
       go m q a b = omega arith
 
--- ---- the loops of `hash_bytes`: of n bytes at start, k from p on are left
-pub record Blocks (a b h : ℕ) (s : List ℕ) (start n g e p k : ℕ) : Type 0 where
-  pub key : b ≡ otherKey a
-  pub fit : p + k ≤ length s
-  pub leads : bytesHash a h (part s start n) ≡ lanesHash a g e (part s p k) (k / 16)
+-- ---- the bytes and words of a part
 
-pub record Hashing (a h : ℕ) (s : List ℕ) (start n g p k : ℕ) : Type 0 where
-  pub fit : p + k ≤ length s
-  pub leads : bytesHash a h (part s start n) ≡ tailHash a g (part s p k)
+pub byte-in : (s : List ℕ) (p k j : ℕ) → j < k → getD (part s p k) j 0 ≡ getD s (p + j) 0
+byte-in s p k j h = getD-take k (drop p s) j 0 h ∙ getD-drop p s j 0
 
-pub record Ending (a h : ℕ) (s : List ℕ) (start n g p k : ℕ) : Type 0 where
-  pub short : k < 4
-  pub so : Hashing a h s start n g p k
-
--- the bytes of a part
 drop-part : (j k : ℕ) (x : List ℕ) → drop j (take k x) ≡ take (k - j) (drop j x)
 drop-part zero k x = let e : k - 0 ≡ k = omega arith in rw e
 drop-part (suc j) zero x = let e : 0 - suc j ≡ 0 = omega arith in rw e
 drop-part (suc j) (suc k) [] = sym (take-nil (suc k - suc j))
 drop-part (suc j) (suc k) (b ∷ x) = let e : suc k - suc j ≡ k - j = omega arith in rw e (drop-part j k x)
 
-word-in : (s : List ℕ) (p k j : ℕ) → j + 4 ≤ k → wordIn (part s p k) j ≡ little (part s (p + j) 4)
+-- the word at j, which stands at q
+word-in : (s : List ℕ) (p k j q : ℕ) → j + 4 ≤ k → p + j ≡ q → wordIn (part s p k) j ≡ little (part s q 4)
 unfolding wordIn
-word-in s p k j h = ap little (ap (take 4) (drop-part j k (drop p s)) ∙ take-take 4 (k - j) (drop j (drop p s)) (omega arith) ∙ ap (take 4) (drop-drop j p s))
+word-in s p k j q h e = ap little (ap (take 4) (drop-part j k (drop p s)) ∙ take-take 4 (k - j) (drop j (drop p s)) (omega arith) ∙ ap (take 4) (drop-drop j p s ∙ ap (λ m. drop m s) e))
 
-past-block : (s : List ℕ) (p k : ℕ) → pastBlock (part s p k) ≡ part s (p + 16) (k - 16)
-unfolding pastBlock
-past-block s p k = drop-part 16 k (drop p s) ∙ ap (take (k - 16)) (drop-drop 16 p s)
+-- ---- fewer than eight bytes
+module _ {a : ℕ} {s : List ℕ} {start n : ℕ} (f : PartAt a s start n) where
+  short-bytes : (h : ℕ) → n < 8 → bytesHash a h (part s start n) ≡ shortHash a h (part s start n)
+  unfolding bytesHash pick
+  short-bytes h d = rw (part-length s start n (f .room), lt-ltb n 8 d)
 
-block : (a g e : ℕ) (x : List ℕ) (m : ℕ) → lanesHash a g e x (suc m) ≡ lanesHash a (folded a (otherKey a) g (wordIn x 0) (wordIn x 4)) (folded (otherKey a) a e (wordIn x 8) (wordIn x 12)) (pastBlock x) m
+  module _ {h : ℕ} where
+    pub short-none : n ≡ 0 → HashIs a h (part s start n) h
+    unfolding shortHash pick
+    short-none e = record { is = sym (short-bytes h (omega arith) ∙ rw (part-length s start n (f .room), eq-eqb n 0 e)) }
+
+    pub short-three : {v₁ v₂ v₃ q : ℕ} → (n ≡ 0 → ⊥) → n < 4 → v₁ ≡ getD s start 0 → v₂ ≡ getD s (start + n / 2) 0 → v₃ ≡ getD s (start + n - 1) 0
+        → q ≡ folded a h (v₁ + 256 * v₂) v₃ → HashIs a h (part s start n) q
+    unfolding shortHash pick
+    short-three d l x y z i =
+        let m : start + (n - 1) ≡ start + n - 1 = omega arith in
+        let o : start + 0 ≡ start = omega arith in
+        record {
+          is =
+              i
+              ∙ sym (short-bytes h (omega arith) ∙ rw (part-length s start n (f .room), ne-eqb n 0 d, lt-ltb n 4 l, byte-in s start n 0 (omega arith), byte-in s start n (n / 2) (omega arith), byte-in s start n (n - 1) (omega arith), m, o, x, y, z));
+        }
+
+    pub short-words : {v w q : ℕ} → 4 ≤ n → n < 8 → WordIs s start v → WordIs s (start + n - 4) w → q ≡ folded a h v w → HashIs a h (part s start n) q
+    unfolding shortHash pick
+    short-words d l x y i =
+        record {
+          is = i
+              ∙ sym (short-bytes h l ∙ rw (part-length s start n (f .room), ne-eqb n 0 (λ e. omega arith), le-ltb n 4 d, word-in s start n 0 start (omega arith) (omega arith), word-in s start n (n - 4) (start + n - 4) (omega arith) (omega arith), x .is, y .is));
+        }
+
+-- ---- two lanes
+lanes-bytes : (a h : ℕ) (s : List ℕ) (start n : ℕ) → start + n ≤ length s → 8 ≤ n → bytesHash a h (part s start n) ≡ lanesHash a h h (part s start n) 0 ((n - 1) / 16)
+unfolding bytesHash pick
+lanes-bytes a h s start n f d = rw (part-length s start n f, le-ltb n 8 d)
+
+-- the last block, whose first half stands at p
+lanes-last : {a g e : ℕ} {s : List ℕ} (start n j : ℕ) {p q : ℕ} → start + n ≤ length s → 8 ≤ n → p ≡ start + (n - 16) → JoinIs a g e s p (start + n) q → lanesHash a g e (part s start n) j 0 ≡ q
 unfolding lanesHash
-block a g e x m = refl
+lanes-last {s = s} start n j {p} f d e i =
+    rw (part-length s start n f, word-in s start n (n - 16) p (omega arith) (omega arith), word-in s start n (n - 16 + 4) (p + 4) (omega arith) (omega arith), word-in s start n (n - 8) (start + n - 8) (omega arith) (omega arith), word-in s start n (n - 4) (start + n - 4) (omega arith) (omega arith))
+    (sym (i .is))
 
-sixteen : (a : ℕ) (s : List ℕ) (g e p k : ℕ) → 16 ≤ k
-    → lanesHash a g e (part s p k) (k / 16)
-    ≡ lanesHash a (folded a (otherKey a) g (little (part s p 4)) (little (part s (p + 4) 4))) (folded (otherKey a) a e (little (part s (p + 8) 4)) (little (part s (p + 12) 4))) (part s (p + 16) (k - 16)) ((k - 16) / 16)
-sixteen a s g e p k h =
-    let i : k / 16 ≡ suc ((k - 16) / 16) = omega arith in
-    let z : p + 0 ≡ p = omega arith in
-    let x : wordIn (part s p k) 0 ≡ little (part s p 4) = word-in s p k 0 (omega arith) ∙ rw z in
-    ap (lanesHash a g e (part s p k)) i ∙ block a g e (part s p k) ((k - 16) / 16) ∙ rw (x, word-in s p k 4 (omega arith), word-in s p k 8 (omega arith), word-in s p k 12 (omega arith), past-block s p k)
+pub joined : {a b g e : ℕ} {s : List ℕ} {p end v₁ w₁ v₂ w₂ x y : ℕ} → WordIs s p v₁ → WordIs s (p + 4) w₁ → WordIs s (end - 8) v₂ → WordIs s (end - 4) w₂ → b ≡ secondKey a → x ≡ folded a g v₁ w₁ → y ≡ folded b e v₂ w₂
+    → JoinIs a g e s p end (bitXor x y)
+joined i₁ j₁ i₂ j₂ k x y = record { is = rw (x, y, k, i₁ .is, j₁ .is, i₂ .is, j₂ .is) }
 
-pub word-bytes : (s : List ℕ) (p : ℕ) → p + 4 ≤ length s → part s p 4 ≡ getD s p 0 ∷ getD s (p + 1) 0 ∷ getD s (p + 1 + 1) 0 ∷ getD s (p + 1 + 1 + 1) 0 ∷ []
-word-bytes s p f = rw (piece s p 4 (omega arith) f, piece s (p + 1) 3 (omega arith) (omega arith), piece s (p + 1 + 1) 2 (omega arith) (omega arith), piece s (p + 1 + 1 + 1) 1 (omega arith) (omega arith))
+pub lanes-joined : {a h : ℕ} {s : List ℕ} {start n q : ℕ} → PartAt a s start n → 8 ≤ n → n ≤ 16 → JoinIs a h h s start (start + n) q → HashIs a h (part s start n) q
+lanes-joined {a} {h} {s} {start} {n} f d l i = let z : (n - 1) / 16 ≡ 0 = omega arith in record { is = sym (lanes-bytes a h s start n (f .room) d ∙ rw z (lanes-last start n 0 (f .room) d (omega arith) i)) }
 
-four : (a : ℕ) (s : List ℕ) (g p k : ℕ) → 4 ≤ k → p + k ≤ length s → tailHash a g (part s p k) ≡ tailHash a (mixed a g (little (part s p 4))) (part s (p + 4) (k - 4))
-unfolding tailHash
-four a s g p k b f =
-    let e : p + 1 + 1 + 1 + 1 ≡ p + 4 = omega arith in
-    let i : k - 1 - 1 - 1 - 1 ≡ k - 4 = omega arith in
-    let x : part s p k ≡ getD s p 0 ∷ getD s (p + 1) 0 ∷ getD s (p + 1 + 1) 0 ∷ getD s (p + 1 + 1 + 1) 0 ∷ part s (p + 4) (k - 4) =
-    rw (piece s p k (omega arith) f, piece s (p + 1) (k - 1) (omega arith) (omega arith), piece s (p + 1 + 1) (k - 1 - 1) (omega arith) (omega arith), piece s (p + 1 + 1 + 1) (k - 1 - 1 - 1) (omega arith) (omega arith), e, i) in
-    rw (x, word-bytes s p (omega arith))
+-- the loop of `hash_long`: of n bytes at start, k from p on are left
+pub record Blocks (a b h : ℕ) (s : List ℕ) (start n g e p k : ℕ) : Type 0 where
+  pub second : b ≡ secondKey a
+  pub room : start + n ≤ length s
+  pub long : 16 < n
+  pub some : 0 < k
+  pub from : start ≤ p
+  pub fit : p + k ≡ start + n
+  pub leads : bytesHash a h (part s start n) ≡ lanesHash a g e (part s start n) (p - start) ((k - 1) / 16)
 
-short-hash : (a g x : ℕ) (r : List ℕ) → length r < 3 → tailHash a g (x ∷ r) ≡ tailHash a (mixed a g x) r
-unfolding tailHash
-short-hash a g x [] b = refl
-short-hash a g x (y ∷ []) b = refl
-short-hash a g x (y ∷ z ∷ []) b = refl
-short-hash a g x (y ∷ z ∷ w ∷ r) b = absurd (omega arith)
+block : (a g e : ℕ) (x : List ℕ) (j m : ℕ) → lanesHash a g e x j (suc m) ≡ lanesHash a (folded a g (wordIn x j) (wordIn x (j + 4))) (folded (secondKey a) e (wordIn x (j + 8)) (wordIn x (j + 12))) x (j + 16) m
+unfolding lanesHash
+block a g e x j m = refl
 
-one : (a : ℕ) (s : List ℕ) (g p k : ℕ) → 0 < k → k < 4 → p + k ≤ length s → tailHash a g (part s p k) ≡ tailHash a (mixed a g (getD s p 0)) (part s (p + 1) (k - 1))
-one a s g p k b c f = rw (piece s p k b f, short-hash a g (getD s p 0) (part s (p + 1) (k - 1)) (rw (part-length s (p + 1) (k - 1) (omega arith)) (omega arith)))
+module _ {a b h : ℕ} {s : List ℕ} {start n : ℕ} where
+  pub blocks-start : PartAt a s start n → b ≡ secondKey a → 16 < n → Blocks a b h s start n h h start n
+  blocks-start f k l = let z : start - start ≡ 0 = omega arith in record { second = k; room = f .room; long = l; some = omega arith; from = omega arith; fit = omega arith; leads = lanes-bytes a h s start n (f .room) (omega arith) ∙ rw z }
 
-nothing : (a : ℕ) (s : List ℕ) (g p k : ℕ) → k ≤ 0 → tailHash a g (part s p k) ≡ g
-unfolding tailHash
-nothing a s g p zero b = refl
-nothing a s g p (suc k) b = absurd (omega arith)
+  module _ {g e p k : ℕ} (l : Blocks a b h s start n g e p k) where
+    pub blocks-second : b < 4294967296
+    blocks-second = omega (arith, l .second)
 
-module _ {a h : ℕ} {s : List ℕ} {start n : ℕ} where
-  pub blocks-start : {b : ℕ} → b ≡ otherKey a → start + n ≤ length s → Blocks a b h s start n h 0 start n
-  blocks-start i f = record { key = i; fit = f; leads = rw (part-length s start n f) }
+    pub blocks-room : p + k ≤ length s
+    blocks-room = omega (arith, l .fit, l .room)
 
-  module _ {b g e p k : ℕ} where
-    pub blocks-key : Blocks a b h s start n g e p k → b < 4294967296
-    blocks-key l = omega (arith, l .key)
+    pub blocks-more : {v₁ w₁ v₂ w₂ g′ e′ : ℕ} → 16 < k → WordIs s p v₁ → WordIs s (p + 4) w₁ → WordIs s (p + 8) v₂ → WordIs s (p + 12) w₂
+        → g′ ≡ folded a g v₁ w₁ → e′ ≡ folded b e v₂ w₂ → Blocks a b h s start n g′ e′ (p + 16) (k - 16)
+    blocks-more d i₁ j₁ i₂ j₂ x y =
+        let i : (k - 1) / 16 ≡ suc ((k - 16 - 1) / 16) = omega arith in
+        let j : p - start + 16 ≡ p + 16 - start = omega (arith, l .from) in
+        let f = l .fit in
+        let o = l .from in
+        record {
+          second = l .second;
+          room = l .room;
+          long = l .long;
+          some = omega arith;
+          from = omega arith;
+          fit = omega arith;
+          leads =
+              l .leads
+              ∙ ap (lanesHash a g e (part s start n) (p - start)) i
+              ∙ block a g e (part s start n) (p - start) ((k - 16 - 1) / 16)
+              ∙ rw (word-in s start n (p - start) p (omega arith) (omega arith), word-in s start n (p - start + 4) (p + 4) (omega arith) (omega arith), word-in s start n (p - start + 8) (p + 8) (omega arith) (omega arith), word-in s start n (p - start + 12) (p + 12) (omega arith) (omega arith), j, x, y, i₁ .is, j₁ .is, i₂ .is, j₂ .is, l .second);
+        }
 
-    pub blocks-more : {v₁ w₁ v₂ w₂ g′ e′ : ℕ} → 16 ≤ k → WordIs s p v₁ → WordIs s (p + 4) w₁ → WordIs s (p + 8) v₂ → WordIs s (p + 12) w₂
-        → g′ ≡ folded a b g v₁ w₁ → e′ ≡ folded b a e v₂ w₂ → Blocks a b h s start n g e p k → Blocks a b h s start n g′ e′ (p + 16) (k - 16)
-    blocks-more d i₁ j₁ i₂ j₂ x y l = record { key = l .key; fit = omega (arith, l .fit); leads = l .leads ∙ sixteen a s g e p k d ∙ rw (x, y, i₁ .is, j₁ .is, i₂ .is, j₂ .is, l .key) }
-
-    pub blocks-end : k < 16 → Blocks a b h s start n g e p k → Hashing a h s start n (bitXor g e) p k
-    unfolding lanesHash
-    blocks-end d l = let z : k / 16 ≡ 0 = omega arith in record { fit = l .fit; leads = l .leads ∙ rw z }
-
-  pub hashing-ends : {g p k : ℕ} → k < 4 → Hashing a h s start n g p k → Ending a h s start n g p k
-  hashing-ends b l = record { short = b; so = l }
-
-  module _ {g p k w q : ℕ} where
-    pub hashing-four : 4 ≤ k → WordIs s p w → q ≡ mixed a g w → Hashing a h s start n g p k → Hashing a h s start n q (p + 4) (k - 4)
-    hashing-four b e i l = record { fit = omega (arith, l .fit); leads = l .leads ∙ four a s g p k b (l .fit) ∙ rw (i, e .is) }
-
-    pub hashing-one : 0 < k → w ≡ getD s p 0 → q ≡ mixed a g w → Ending a h s start n g p k → Ending a h s start n q (p + 1) (k - 1)
-    hashing-one b e i l = record { short = omega (arith, l .short); so = record { fit = omega (arith, l .so .fit); leads = l .so .leads ∙ one a s g p k b (l .short) (l .so .fit) ∙ rw (i, e) } }
-
-  pub hashing-done : {g p k : ℕ} → k ≤ 0 → Ending a h s start n g p k → HashIs a h (part s start n) g
-  hashing-done {g} {p} {k} b l = record { is = sym (l .so .leads ∙ nothing a s g p k b) }
+    pub blocks-end : {q : ℕ} → k ≤ 16 → JoinIs a g e s (p + k - 16) (p + k) q → HashIs a h (part s start n) q
+    blocks-end d i =
+        let z : (k - 1) / 16 ≡ 0 = omega (arith, l .some) in
+        let f = l .fit in
+        record { is = sym (l .leads ∙ rw z (lanes-last start n (p - start) (l .room) (omega (arith, l .long)) (omega (arith, l .long)) (rw f at i))) }
 
 -- ---- the hash of a text, and of a key
 
@@ -144,18 +168,23 @@ pub text-hash : {a h g q : ℕ} {s : List ℕ} {p n : ℕ} → TextAt s p → Wo
 unfolding textHash
 text-hash {a} {h} {s = s} {p} {n} t e i l = record { is = l .is ∙ sym (rw (text-part t e, part-length s (p + 4) n (text-room t e), ← i)) }
 
-module _ {t : Table} {a h q : ℕ} {s : List ℕ} {p : ℕ} where
-  pub hash-field : t ≡ Fields → q ≡ h → PackageHash a h t s p q
-  hash-field e i = rw e (record { is = i })
+-- no package has the hash of an empty one
+empty-hash : (a : ℕ) → textHash a 0 [] ≡ 0
+unfolding textHash bytesHash shortHash pick
+empty-hash a = rw (xor-zero-l 0) (omega arith)
 
-  pub hash-method : {m : Item} → t ≡ Methods m → q ≡ h → PackageHash a h t s p q
-  hash-method e i = rw e (record { is = i })
+module _ {t : Table} {a : ℕ} {s : List ℕ} {p : ℕ} where
+  pub hash-field : t ≡ Fields → PackageHash a t s p 0
+  hash-field e = rw e (record { is = sym (empty-hash a) })
 
-  pub hash-identity : {x : ℕ} → t ≡ Identities → PackageIs s p x → TextHash a h s x q → PackageHash a h t s p q
+  pub hash-method : {m : Item} → t ≡ Methods m → PackageHash a t s p 0
+  hash-method e = rw e (record { is = sym (empty-hash a) })
+
+  pub hash-identity : {x q : ℕ} → t ≡ Identities → PackageIs s p x → TextHash a 0 s x q → PackageHash a t s p q
   hash-identity e w i = rw e (record { is = i .is ∙ rw (w .is) })
 
-pub hash-key : {t : Table} {a n h g q : ℕ} {s : List ℕ} {p : ℕ} → TextHash a 0 s p n → PackageHash a n t s p h → g ≡ mixed a h 0 → q ≡ mixed a g 0 → KeyHash a t s p q
-unfolding keyHash
-hash-key i j k l = record { is = l ∙ rw (k, j .is, i .is) }
+  pub hash-key : {h g x q : ℕ} → Placed (formatIn t) s p → PackageHash a t s p h → TextHash a h s p g → x ≡ mixed a g 0 → q ≡ mixed a x 0 → KeyHash a t s p q
+  unfolding keyHash
+  hash-key w i j k l = record { is = l ∙ rw (k, j .is, i .is, key-name t (w .stands), key-package t (w .stands)) }
 
-pub ruleset hashing = (blocks-start, blocks-key, blocks-more, blocks-end, hashing-four, hashing-one, hashing-ends, hashing-done, text-hash, hash-field, hash-method, hash-identity, hash-key)
+pub ruleset hashing = (short-none, short-three, short-words, lanes-joined, blocks-start, blocks-second, blocks-room, blocks-more, blocks-end, text-hash, hash-field, hash-method, hash-identity, hash-key)

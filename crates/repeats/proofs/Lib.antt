@@ -1,5 +1,6 @@
 pub mod Bits
-pub mod Repeats
+pub mod Keys
+pub mod Tables
 pub mod Hashes
 pub mod Marks
 pub mod Filters

@@ -1,3 +1,5 @@
-pub mod Repeats
+pub mod Keys
+pub mod Tables
 pub mod Marks
-pub mod Filter
+pub mod Hashes
+pub mod Filters

@@ -5,29 +5,37 @@ ghost use Prim.Native.Nat.{_+_, _≤_, _<_};
 ghost use lib.ListN.{length};
 ghost use Rattle.format.specs.Reading.{part};
 ghost use Rattle.items.specs.Tables.{formatIn};
-ghost use Rattle.repeats.specs.Repeats.{repeatAt, ExemptIs, Standing, FirstRepeat};
+ghost use Rattle.repeats.specs.Keys.{repeatAt, FirstRepeat};
+ghost use Rattle.repeats.specs.Tables.{keysAt, ExemptIs, Standing, Within};
 ghost use Rattle.repeats.specs.Marks.{MarkIs, Marked, AllNew};
-ghost use Rattle.repeats.specs.Filter.{mixed, folded, HashIs, TextHash, PackageHash, KeyHash, maskOf, Filter, Known, PassedOr, FirstOr, Within};
+ghost use Rattle.repeats.specs.Hashes.{mixed, folded, secondKey, PartAt, JoinIs, HashIs, TextHash, PackageHash, KeyHash};
+ghost use Rattle.repeats.specs.Filters.{maskOf, Lacks, Entered, Outside, Classed, Chosen, Noted, Filter, Probed, PassedOr, Suspects, FirstOr};
 ghost use Rattle.items.specs.Contract.{TextAt, Placed, Items};
 use items::Table;
 
-// Fewer items are told apart by one word of marks; from there on a filter is small, then middling, then large.
+// Fewer items are told apart by one word of marks.
 const FEW: usize = 24;
 
+// Fewer have a small filter.
 const MIDDLING: usize = 1024;
 
-const MANY: usize = 16384;
+// Fewer have a large filter, of which each word then has 1.5 items; from here on suspects are looked for first.
+const MANY: usize = 24576;
 
-// An item's key was seen before; too many were compared in vain; or go on, with so many comparisons left.
-enum Told {
-    Old,
-    Stop,
-    On(usize),
+// The suspects of so many items are looked for at once: twelve to a word of the filter.
+const CLASS: usize = 196608;
+
+// An item repeats one before it; too many were compared in vain; or go on, with so many comparisons left.
+enum Probe {
+    Repeat,
+    TooMany,
+    Next(usize),
 }
 
+// The first repeat, or the number of items where there is none; or too many were compared in vain.
 enum Outcome {
-    Done(usize),
-    Tired,
+    First(usize),
+    GaveUp,
 }
 
 // ---- whether an item repeats one before it
@@ -61,8 +69,8 @@ fn mark(s: &[u8], p: usize) -> u64
 
 // Does the item at p, which has the mark m, repeat one of the i before it? It repeats none if its mark is new.
 fn repeats_one(s: &[u8], table: Table, from: usize, i: usize, p: usize, marks: u64, m: u64) -> bool
-    requires { ⌜ (Standing table (now s) from i p) × (Marked table (now s) from i marks) × (MarkIs (now s) p m) ⌝ }
-    ensures { λ q. ⌜ q ≡ repeatAt table (now (s .entry)) from i ⌝ }
+    requires { ⌜ (Standing table (now s) from i p) × (Marked (keysAt table (now s) from) i marks) × (MarkIs (now s) p m) ⌝ }
+    ensures { λ q. ⌜ q ≡ repeatAt (keysAt table (now (s .entry)) from) i ⌝ }
 {
     let x = marks & m;
     if x != m {
@@ -77,7 +85,7 @@ fn repeats_one(s: &[u8], table: Table, from: usize, i: usize, p: usize, marks: u
 // Have the n items from `from` on different marks? Most tables of a few have.
 fn all_new(s: &[u8], table: Table, from: usize, n: usize) -> bool
     requires { ⌜ Items (formatIn table) n (now s) from ⌝ }
-    ensures { λ q. ⌜ AllNew table (now (s .entry)) from n q ⌝ }
+    ensures { λ q. ⌜ AllNew (keysAt table (now (s .entry)) from) n q ⌝ }
 {
     let mut p = from;
     let mut i = 0;
@@ -98,7 +106,7 @@ fn all_new(s: &[u8], table: Table, from: usize, n: usize) -> bool
 // The first of the n items from `from` on that repeats one before it, or n: each whose mark is not new is compared with all before it.
 fn scan(s: &[u8], table: Table, from: usize, n: usize) -> usize
     requires { ⌜ Items (formatIn table) n (now s) from ⌝ }
-    ensures { λ q. ⌜ FirstRepeat table (now (s .entry)) from n q ⌝ }
+    ensures { λ q. ⌜ FirstRepeat (keysAt table (now (s .entry)) from) n q ⌝ }
 {
     let mut p = from;
     let mut i = 0;
@@ -115,92 +123,137 @@ fn scan(s: &[u8], table: Table, from: usize, n: usize) -> usize
     n
 }
 
-// ---- a hash of an item's key: sixteen bytes at a time in two lanes, then four, then one
+// ---- a hash of an item's key: its package, then its name
 
-fn mix(a: u64, h: u64, w: u64) -> u64
-    requires { ⌜ a < 4294967296 ⌝ }
-    ensures { λ q. ⌜ q ≡ mixed a h w ⌝ }
+fn mix(key: u64, h: u64, w: u64) -> u64
+    requires { ⌜ key < 4294967296 ⌝ }
+    ensures { λ q. ⌜ q ≡ mixed key h w ⌝ }
 {
     let x = h ^ w;
-    (x % 4294967296) * a + x / 4294967296
+    (x % 4294967296) * key + x / 4294967296
 }
 
-// Two words at once: half of the hash and a word by each key.
-fn fold(a: u64, b: u64, h: u64, v: u64, w: u64) -> u64
-    requires { ⌜ (a < 4294967296) × (b < 4294967296) × (v < 4294967296) × (w < 4294967296) ⌝ }
-    ensures { λ q. ⌜ q ≡ folded a b h v w ⌝ }
+// Two words at once: half of the hash and a word by the key, and by another.
+fn fold(key: u64, h: u64, v: u64, w: u64) -> u64
+    requires { ⌜ (key < 4294967296) × (v < 4294967296) × (w < 4294967296) ⌝ }
+    ensures { λ q. ⌜ q ≡ folded key h v w ⌝ }
 {
     let x = (h % 4294967296) ^ v;
     let y = (h / 4294967296) ^ w;
-    (x * a) ^ (y * b)
+    let other = (key + 1013904242) % 4294967296;
+    (x * key) ^ (y * other)
 }
 
-// The hash h taken on over the len bytes at start. The lanes do not wait for each other.
-fn hash_bytes(s: &[u8], start: usize, len: usize, a: u64, h: u64) -> u64
-    requires { ⌜ (start + len ≤ length (now s)) × (a < 4294967296) ⌝ }
-    ensures { λ q. ⌜ HashIs a h (part (now (s .entry)) start len) q ⌝ }
+// Fewer than eight bytes: the first four and the last four, or else the first, the middle and the last.
+fn hash_short(s: &[u8], start: usize, len: usize, key: u64, h: u64) -> u64
+    requires { ⌜ (PartAt key (now s) start len) × (len < 8) ⌝ }
+    ensures { λ q. ⌜ HashIs key h (part (now (s .entry)) start len) q ⌝ }
 {
-    let b = (a + 1013904242) % 4294967296;
-    let mut g = h;
-    let mut e: u64 = 0;
+    if len == 0 {
+        return h;
+    }
+    let end = start + len;
+    if len < 4 {
+        let v = wide(s[start]) + 256 * wide(s[start + len / 2]);
+        return fold(key, h, v, wide(s[end - 1]));
+    }
+    let v = items::word_at(s, start) as u64;
+    let w = items::word_at(s, end - 4) as u64;
+    fold(key, h, v, w)
+}
+
+// Of the second lane. No two words are taken in by one factor, or a bit of one could make up for a bit of the other under many keys.
+fn second_key(key: u64) -> u64
+    requires { ⌜ key < 4294967296 ⌝ }
+    ensures { λ q. ⌜ q ≡ secondKey key ⌝ }
+{
+    (key + 2773480762) % 4294967296
+}
+
+// The two lanes taken on over the eight bytes at p and the eight before end, and joined.
+fn join(s: &[u8], p: usize, end: usize, key: u64, lane1: u64, lane2: u64) -> u64
+    requires { ⌜ (p + 8 ≤ end) × (end ≤ length (now s)) × (key < 4294967296) ⌝ }
+    ensures { λ q. ⌜ JoinIs key lane1 lane2 (now (s .entry)) p end q ⌝ }
+{
+    let v1 = items::word_at(s, p) as u64;
+    let w1 = items::word_at(s, p + 4) as u64;
+    let v2 = items::word_at(s, end - 8) as u64;
+    let w2 = items::word_at(s, end - 4) as u64;
+    fold(key, lane1, v1, w1) ^ fold(second_key(key), lane2, v2, w2)
+}
+
+// More than sixteen bytes: sixteen at a time in two lanes, which do not wait for each other, and then the last sixteen.
+fn hash_long(s: &[u8], start: usize, len: usize, key: u64, h: u64) -> u64
+    requires { ⌜ (PartAt key (now s) start len) × (16 < len) ⌝ }
+    ensures { λ q. ⌜ HashIs key h (part (now (s .entry)) start len) q ⌝ }
+{
+    let second = second_key(key);
+    let mut lane1 = h;
+    let mut lane2 = h;
     let mut p = start;
     let mut k = len;
-    while 16 <= k {
+    while 16 < k {
         let v1 = items::word_at(s, p) as u64;
         let w1 = items::word_at(s, p + 4) as u64;
         let v2 = items::word_at(s, p + 8) as u64;
         let w2 = items::word_at(s, p + 12) as u64;
-        g = fold(a, b, g, v1, w1);
-        e = fold(b, a, e, v2, w2);
+        lane1 = fold(key, lane1, v1, w1);
+        lane2 = fold(second, lane2, v2, w2);
         p += 16;
         k -= 16;
     }
-    g = g ^ e;
-    while 4 <= k {
-        g = mix(a, g, items::word_at(s, p) as u64);
-        p += 4;
-        k -= 4;
-    }
-    while 0 < k {
-        g = mix(a, g, wide(s[p]));
-        p += 1;
-        k -= 1;
-    }
-    g
+    let end = p + k;
+    join(s, end - 16, end, key, lane1, lane2)
 }
 
-// The hash h taken on over the text at p. Its length goes in too, or a name and a package would have the hash of each other split of their bytes.
-fn hash_text(s: &[u8], p: usize, a: u64, h: u64) -> u64
-    requires { ⌜ (TextAt (now s) p) × (a < 4294967296) ⌝ }
-    ensures { λ q. ⌜ TextHash a h (now (s .entry)) p q ⌝ }
+// The hash h taken on over the len bytes at start.
+fn hash_bytes(s: &[u8], start: usize, len: usize, key: u64, h: u64) -> u64
+    requires { ⌜ PartAt key (now s) start len ⌝ }
+    ensures { λ q. ⌜ HashIs key h (part (now (s .entry)) start len) q ⌝ }
+{
+    if len < 8 {
+        return hash_short(s, start, len, key, h);
+    }
+    if 16 < len {
+        return hash_long(s, start, len, key, h);
+    }
+    join(s, start, start + len, key, h, h)
+}
+
+// The hash h taken on over the text at p. Its length goes in first, times the key: or a name and a package would have the hash of each other
+// split of their bytes, and two lanes that start from what is known could be made to cancel out under every key.
+fn hash_text(s: &[u8], p: usize, key: u64, h: u64) -> u64
+    requires { ⌜ (TextAt (now s) p) × (key < 4294967296) ⌝ }
+    ensures { λ q. ⌜ TextHash key h (now (s .entry)) p q ⌝ }
 {
     let n = items::word_at(s, p);
-    hash_bytes(s, p + 4, n, a, mix(a, h, n as u64))
+    hash_bytes(s, p + 4, n, key, mix(key, h, n as u64))
 }
 
-fn hash_package(s: &[u8], table: Table, p: usize, a: u64, h: u64) -> u64
-    requires { ⌜ (Placed (formatIn table) (now s) p) × (a < 4294967296) ⌝ }
-    ensures { λ q. ⌜ PackageHash a h table (now (s .entry)) p q ⌝ }
+// No package has the hash of an empty one.
+fn hash_package(s: &[u8], table: Table, p: usize, key: u64) -> u64
+    requires { ⌜ (Placed (formatIn table) (now s) p) × (key < 4294967296) ⌝ }
+    ensures { λ q. ⌜ PackageHash key table (now (s .entry)) p q ⌝ }
 {
     match table {
-        Table::Fields => h,
-        Table::Methods(_) => h,
+        Table::Fields => 0,
+        Table::Methods(_) => 0,
         Table::Identities => {
             let package = items::package_at(s, p);
-            hash_text(s, package, a, h)
+            hash_text(s, package, key, 0)
         }
     }
 }
 
-fn hash_key(s: &[u8], table: Table, p: usize, a: u64) -> u64
-    requires { ⌜ (Placed (formatIn table) (now s) p) × (a < 4294967296) ⌝ }
-    ensures { λ q. ⌜ KeyHash a table (now (s .entry)) p q ⌝ }
+fn hash_key(s: &[u8], table: Table, p: usize, key: u64) -> u64
+    requires { ⌜ (Placed (formatIn table) (now s) p) × (key < 4294967296) ⌝ }
+    ensures { λ q. ⌜ KeyHash key table (now (s .entry)) p q ⌝ }
 {
-    let h = hash_package(s, table, p, a, hash_text(s, p, a, 0));
-    mix(a, mix(a, h, 0), 0)
+    let h = hash_text(s, p, key, hash_package(s, table, p, key));
+    mix(key, mix(key, h, 0), 0)
 }
 
-// ---- the filter: a key that was seen has left six bits in one of its words
+// ---- filters: a hash that was entered has left six bits in one of the words
 
 fn mask(h: u64) -> u64
     ensures { λ q. ⌜ q ≡ maskOf h ⌝ }
@@ -213,9 +266,47 @@ fn mask(h: u64) -> u64
         | (1 << (h / 72057594037927936 % 64))
 }
 
-// Does the item at p repeat one of the i before it? Asked where its class is from lo to hi. At most `left` items are still to be compared
-// with all before them in vain.
-fn known(
+// Are some of h's bits not in the filter?
+fn lacks(filter: &[u64], h: u64) -> bool
+    requires { ⌜ 0 < length (now filter) ⌝ }
+    ensures { λ q. ⌜ Lacks (now (filter .entry)) h q ⌝ }
+{
+    let m = mask(h);
+    let k = (h as usize) & (filter.len() - 1);
+    let x = filter[k] & m;
+    x != m
+}
+
+// Enters h, and tells whether some of its bits were not there before.
+fn enter(filter: &mut [u64], h: u64) -> bool
+    requires { ⌜ 0 < length (now filter) ⌝ }
+    ensures { λ q. ⌜ Entered (now (filter .entry)) h (now (filter .exit)) q ⌝ }
+{
+    let m = mask(h);
+    let k = (h as usize) & (filter.len() - 1);
+    let w = filter[k];
+    filter[k] = w | m;
+    let x = w & m;
+    x != m
+}
+
+// Is the class of h not from lo to hi?
+fn outside(h: u64, lo: u64, hi: u64) -> bool
+    ensures { λ q. ⌜ Outside lo hi h q ⌝ }
+{
+    // Of the lower half, which is even: the upper half stays below the key.
+    let class = h / 65536 % 65536;
+    if class < lo {
+        return true;
+    }
+    hi <= class
+}
+
+// ---- a pass over the items
+
+// Does the item at p repeat one of the i before it? Asked where its class is from lo to hi and it is a suspect. At most `left` items are still
+// to be compared with all before them in vain.
+fn probed(
     s: &[u8],
     table: Table,
     from: usize,
@@ -223,44 +314,37 @@ fn known(
     p: usize,
     lo: u64,
     hi: u64,
-    a: u64,
+    key: u64,
     left: usize,
-    top: u64,
-    f: &mut [u64],
-) -> Told
-    requires { ⌜ (Standing table (now s) from i p) × (Filter a table (now s) from i lo hi top (now f)) × (a < 4294967296) ⌝ }
-    ensures { λ q. ⌜ Known a table (now (s .entry)) from i lo hi top (now (f .exit)) q ⌝ }
+    filter: &mut [u64],
+    suspects: &[u64],
+) -> Probe
+    requires { ⌜ (Standing table (now s) from i p) × (Filter (Chosen lo hi (now suspects)) key (keysAt table (now s) from) i (now filter)) × (key < 4294967296) × (0 < length (now suspects)) ⌝ }
+    ensures { λ q. ⌜ Probed (Chosen lo hi (now (suspects .entry))) key (keysAt table (now (s .entry)) from) i (now (filter .exit)) q ⌝ }
 {
-    let h = hash_key(s, table, p, a);
-    // Of the lower half, which is even: the upper half stays below the key.
-    let class = h / 65536 % 65536;
-    if class < lo {
-        return Told::On(left);
+    let h = hash_key(s, table, p, key);
+    if outside(h, lo, hi) {
+        return Probe::Next(left);
     }
-    if hi <= class {
-        return Told::On(left);
+    if lacks(suspects, h) {
+        return Probe::Next(left);
     }
-    let k = (h & top) as usize;
-    let m = mask(h);
-    let w = f[k];
-    f[k] = w | m;
-    let x = w & m;
-    if x != m {
-        return Told::On(left);
+    if enter(filter, h) {
+        return Probe::Next(left);
     }
     if exempt(s, table, p) {
-        return Told::On(left);
+        return Probe::Next(left);
     }
     if left == 0 {
-        return Told::Stop;
+        return Probe::TooMany;
     }
     if items::seen(s, table, from, i, p) {
-        return Told::Old;
+        return Probe::Repeat;
     }
-    Told::On(left - 1)
+    Probe::Next(left - 1)
 }
 
-// The first repeat, of the items whose class is from lo to hi, by a filter that is empty yet.
+// The first repeat, of the suspects whose class is from lo to hi, by a filter that is empty yet.
 fn pass(
     s: &[u8],
     table: Table,
@@ -268,80 +352,136 @@ fn pass(
     n: usize,
     lo: u64,
     hi: u64,
-    a: u64,
-    top: u64,
-    f: &mut [u64],
+    key: u64,
+    filter: &mut [u64],
+    suspects: &[u64],
 ) -> Outcome
-    requires { ⌜ (Items (formatIn table) n (now s) from) × (Filter a table (now s) from 0 lo hi top (now f)) × (a < 4294967296) ⌝ }
-    ensures { λ q. ⌜ PassedOr a table (now (s .entry)) from n lo hi q ⌝ }
+    requires { ⌜ (Items (formatIn table) n (now s) from) × (0 < length (now filter)) × (key < 4294967296) × (0 < length (now suspects)) ⌝ }
+    ensures { λ q. ⌜ PassedOr (Chosen lo hi (now (suspects .entry))) key (keysAt table (now (s .entry)) from) n q ⌝ }
 {
     let mut left: usize = 32;
     let mut p = from;
     let mut i = 0;
     while i < n {
-        match known(s, table, from, i, p, lo, hi, a, left, top, f) {
-            Told::Old => {
-                return Outcome::Done(i);
+        match probed(s, table, from, i, p, lo, hi, key, left, filter, suspects) {
+            Probe::Repeat => {
+                return Outcome::First(i);
             }
-            Told::Stop => {
-                return Outcome::Tired;
+            Probe::TooMany => {
+                return Outcome::GaveUp;
             }
-            Told::On(l) => {
+            Probe::Next(l) => {
                 left = l;
             }
         }
         p = items::past_item(s, table, p);
         i += 1;
     }
-    Outcome::Done(n)
+    Outcome::First(n)
 }
 
-// The first repeat of a small table by the key a: one pass with a small filter.
-fn few(s: &[u8], table: Table, from: usize, n: usize, a: u64) -> Outcome
-    requires { ⌜ (Items (formatIn table) n (now s) from) × (a < 4294967296) ⌝ }
-    ensures { λ q. ⌜ FirstOr table (now (s .entry)) from n q ⌝ }
+// Enters h, if it is of these classes, and among the suspects too if its bits were in the filter before.
+fn note(h: u64, lo: u64, hi: u64, filter: &mut [u64], suspects: &mut [u64])
+    requires { ⌜ (0 < length (now filter)) × (0 < length (now suspects)) ⌝ }
+    ensures { λ q. ⌜ Noted lo hi h (now (filter .entry)) (now (filter .exit)) (now (suspects .entry)) (now (suspects .exit)) ⌝ }
 {
-    let mut f = [0u64; 1024];
-    pass(s, table, from, n, 0, 65536, a, 1023, &mut f)
+    if outside(h, lo, hi) {
+        return;
+    }
+    if enter(filter, h) {
+        return;
+    }
+    enter(suspects, h);
 }
 
-fn middle(s: &[u8], table: Table, from: usize, n: usize, a: u64) -> Outcome
-    requires { ⌜ (Items (formatIn table) n (now s) from) × (a < 4294967296) ⌝ }
-    ensures { λ q. ⌜ FirstOr table (now (s .entry)) from n q ⌝ }
+// Finds the suspects among the n items of these classes, by a filter and a set of suspects that are empty yet.
+fn suspect(
+    s: &[u8],
+    table: Table,
+    from: usize,
+    n: usize,
+    lo: u64,
+    hi: u64,
+    key: u64,
+    filter: &mut [u64],
+    suspects: &mut [u64],
+)
+    requires { ⌜ (Items (formatIn table) n (now s) from) × (0 < length (now filter)) × (key < 4294967296) × (0 < length (now suspects)) ⌝ }
+    ensures { λ q. ⌜ Suspects lo hi key (keysAt table (now (s .entry)) from) n (now (suspects .exit)) ⌝ }
 {
-    let mut f = [0u64; 16384];
-    pass(s, table, from, n, 0, 65536, a, 16383, &mut f)
+    let mut p = from;
+    let mut i = 0;
+    while i < n {
+        let h = hash_key(s, table, p, key);
+        note(h, lo, hi, filter, suspects);
+        p = items::past_item(s, table, p);
+        i += 1;
+    }
 }
 
-fn large_pass(s: &[u8], table: Table, from: usize, n: usize, lo: u64, hi: u64, a: u64) -> Outcome
-    requires { ⌜ (Items (formatIn table) n (now s) from) × (a < 4294967296) ⌝ }
-    ensures { λ q. ⌜ PassedOr a table (now (s .entry)) from n lo hi q ⌝ }
+fn clear(filter: &mut [u64]) {
+    let mut i = 0;
+    while i < filter.len() {
+        filter[i] = 0;
+        i += 1;
+    }
+}
+
+// ---- tables of each size
+
+// The first repeat of a small table by this key: one pass with a small filter, each item being a suspect.
+fn few(s: &[u8], table: Table, from: usize, n: usize, key: u64) -> Outcome
+    requires { ⌜ (Items (formatIn table) n (now s) from) × (key < 4294967296) ⌝ }
+    ensures { λ q. ⌜ FirstOr (keysAt table (now (s .entry)) from) n q ⌝ }
 {
-    let mut f = [0u64; 131072];
-    pass(s, table, from, n, lo, hi, a, 131071, &mut f)
+    let mut filter = [0u64; 1024];
+    let suspects = [18446744073709551615u64; 1];
+    pass(s, table, from, n, 0, 65536, key, &mut filter, &suspects)
 }
 
-// The first repeat of any table by the key a: one pass with a middling filter, or a pass with a large one for each 131072 items.
-fn many(s: &[u8], table: Table, from: usize, n: usize, a: u64) -> Outcome
-    requires { ⌜ (Items (formatIn table) n (now s) from) × (a < 4294967296) ⌝ }
-    ensures { λ q. ⌜ FirstOr table (now (s .entry)) from n q ⌝ }
+fn middle(s: &[u8], table: Table, from: usize, n: usize, key: u64) -> Outcome
+    requires { ⌜ (Items (formatIn table) n (now s) from) × (key < 4294967296) ⌝ }
+    ensures { λ q. ⌜ FirstOr (keysAt table (now (s .entry)) from) n q ⌝ }
+{
+    let mut filter = [0u64; 16384];
+    let suspects = [18446744073709551615u64; 1];
+    pass(s, table, from, n, 0, 65536, key, &mut filter, &suspects)
+}
+
+// The first repeat of the items of these classes: a pass that finds the suspects, about one in thirty, and one that compares them. A filter that
+// the second alone could rest on has room for an eighth of the items.
+fn two_passes(s: &[u8], table: Table, from: usize, n: usize, lo: u64, hi: u64, key: u64) -> Outcome
+    requires { ⌜ (Items (formatIn table) n (now s) from) × (key < 4294967296) ⌝ }
+    ensures { λ q. ⌜ PassedOr (Classed lo hi) key (keysAt table (now (s .entry)) from) n q ⌝ }
+{
+    let mut filter = [0u64; 16384];
+    let mut suspects = [0u64; 2048];
+    suspect(s, table, from, n, lo, hi, key, &mut filter, &mut suspects);
+    clear(&mut filter);
+    pass(s, table, from, n, lo, hi, key, &mut filter, &suspects)
+}
+
+// The first repeat of any table by this key: one pass, or two for each 196608 items.
+fn many(s: &[u8], table: Table, from: usize, n: usize, key: u64) -> Outcome
+    requires { ⌜ (Items (formatIn table) n (now s) from) × (key < 4294967296) ⌝ }
+    ensures { λ q. ⌜ FirstOr (keysAt table (now (s .entry)) from) n q ⌝ }
 {
     if n < MANY {
-        return middle(s, table, from, n, a);
+        return middle(s, table, from, n, key);
     }
-    let parts = n / 131072 + 1;
+    let parts = n / CLASS + 1;
     let classes = 65536 / (parts as u64) + 1;
-    let mut lim = n;
+    let mut first = n;
     let mut lo: u64 = 0;
     while lo < 65536 {
         let hi = lo + classes;
-        let Outcome::Done(q) = large_pass(s, table, from, lim, lo, hi, a) else {
-            return Outcome::Tired;
+        let Outcome::First(q) = two_passes(s, table, from, first, lo, hi, key) else {
+            return Outcome::GaveUp;
         };
-        lim = q;
+        first = q;
         lo = hi;
     }
-    Outcome::Done(lim)
+    Outcome::First(first)
 }
 
 // The place past the n items from `from` on.
@@ -360,15 +500,15 @@ fn past_items(s: &[u8], table: Table, from: usize, n: usize) -> usize
 
 // A key that depends on every byte of the table, by a hash under a key that no filter takes: names can't be made to collide under it
 // without changing it.
-fn fresh_key(s: &[u8], table: Table, from: usize, n: usize, a: u64) -> u64
-    requires { ⌜ (Items (formatIn table) n (now s) from) × (a < 4294967296) ⌝ }
+fn fresh_key(s: &[u8], table: Table, from: usize, n: usize, key: u64) -> u64
+    requires { ⌜ (Items (formatIn table) n (now s) from) × (key < 4294967296) ⌝ }
     ensures { λ q. ⌜ q < 4294967296 ⌝ }
 {
     let end = past_items(s, table, from, n);
     if end <= from {
-        return a;
+        return key;
     }
-    let h = hash_bytes(s, from, end - from, 3266489917, a);
+    let h = hash_bytes(s, from, end - from, 3266489917, key);
     2147483649 + h / 65536 % 1073741824 * 2
 }
 
@@ -376,25 +516,25 @@ fn fresh_key(s: &[u8], table: Table, from: usize, n: usize, a: u64) -> u64
 // next. The first key stands apart: a function that is called twice is not merged into this one, and the large filter's frame stays out of it.
 fn searched(s: &[u8], table: Table, from: usize, n: usize, large: bool) -> usize
     requires { ⌜ Items (formatIn table) n (now s) from ⌝ }
-    ensures { λ q. ⌜ FirstRepeat table (now (s .entry)) from n q ⌝ }
+    ensures { λ q. ⌜ FirstRepeat (keysAt table (now (s .entry)) from) n q ⌝ }
 {
-    let mut a: u64 = 2654435761;
+    let mut key: u64 = 2654435761;
     if large {
-        if let Outcome::Done(lim) = many(s, table, from, n, a) {
-            return lim;
+        if let Outcome::First(first) = many(s, table, from, n, key) {
+            return first;
         }
-    } else if let Outcome::Done(lim) = few(s, table, from, n, a) {
-        return lim;
+    } else if let Outcome::First(first) = few(s, table, from, n, key) {
+        return first;
     }
     let mut k: usize = 1;
     while k < 16 {
-        a = fresh_key(s, table, from, n, a);
+        key = fresh_key(s, table, from, n, key);
         if large {
-            if let Outcome::Done(lim) = many(s, table, from, n, a) {
-                return lim;
+            if let Outcome::First(first) = many(s, table, from, n, key) {
+                return first;
             }
-        } else if let Outcome::Done(lim) = few(s, table, from, n, a) {
-            return lim;
+        } else if let Outcome::First(first) = few(s, table, from, n, key) {
+            return first;
         }
         k += 1;
     }
@@ -405,7 +545,7 @@ fn searched(s: &[u8], table: Table, from: usize, n: usize, large: bool) -> usize
 // this function: most tables need none.
 pub fn first_repeat(s: &[u8], table: Table, from: usize, n: usize) -> usize
     requires { ⌜ Items (formatIn table) n (now s) from ⌝ }
-    ensures { λ q. ⌜ FirstRepeat table (now (s .entry)) from n q ⌝ }
+    ensures { λ q. ⌜ FirstRepeat (keysAt table (now (s .entry)) from) n q ⌝ }
 {
     if n < FEW {
         if all_new(s, table, from, n) {

@@ -1,15 +1,15 @@
 use borrow.Author.Needs.{needs}
 use Rattle.named_types.proofs.Laws.{unjudged}
 use Prim.Native.Nat.{_-_}
-use Rattle.named_types.proofs.Laws.{Unjudged, unjudged-behind, unjudged-lim, unjudged-refused, unjudged-more}
+use Rattle.named_types.proofs.Laws.{Unjudged, unjudged-behind, unjudged-last, unjudged-refused, unjudged-more}
 use Rattle.named_types.proofs.read_methods.Statement.{statement}
 use Rattle.named_types.proofs.read_methods.Tie as tie
 
 abbrev Inv-loop : tie.InvT-loop
-Inv-loop s n lim tape₀ from i₀ here₀ tape i here = Unjudged s tape₀ here₀ n lim from tape here i
+Inv-loop s n first tape₀ from i₀ here₀ tape i here = Unjudged s tape₀ here₀ n first from tape here i
 
 abbrev μ-loop : tie.MeasureT-loop
-μ-loop s n lim tape₀ from i₀ here₀ tape i here = n - i
+μ-loop s n first tape₀ from i₀ here₀ tape i here = n - i
 
 loop-holds : tie.Need-loop-holds Inv-loop μ-loop
 loop-holds c = search (needs, unjudged)
@@ -24,7 +24,7 @@ same-length : tie.Need-same-length Inv-loop μ-loop
 same-length c = search (needs, unjudged)
 
 returns : tie.Need-returns Inv-loop μ-loop
-returns c = unjudged-lim ((c .before .before .before .before .before .before .before .loop) .inv) ((c .before .before .before .before .before .before .loop-test) .taken) ((c .before .before .before .before .method) .ensures) ((c .before .if1) .taken) ((c .new-method) .ensures)
+returns c = unjudged-last ((c .before .before .before .before .before .before .before .loop) .inv) ((c .before .before .before .before .before .before .loop-test) .taken) ((c .before .before .before .before .method) .ensures) ((c .before .if1) .taken) ((c .new-method) .ensures)
 
 enum-told : tie.Need-enum-told Inv-loop μ-loop
 enum-told c = search (needs, unjudged)

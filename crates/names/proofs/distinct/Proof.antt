@@ -4,7 +4,7 @@ use Rattle.names.proofs.distinct.Statement.{statement}
 use Rattle.names.proofs.distinct.Tie as tie
 
 settled-requires : tie.Need-settled-requires
-settled-requires c κs = search (needs, none-repeats)
+settled-requires c κs = (c .before .before .pre .0, none-repeats (c .before .before .args .table) (c .before .before .args .s .now) (c .before .before .args .from) (c .before .before .args .n) (c .if1 .taken) (c .before .before .pre .2), c .before .before .pre .1)
 
 returns : tie.Need-returns
 returns c = search needs

@@ -5,10 +5,10 @@ use Rattle.names.proofs.judged.Statement.{statement}
 use Rattle.names.proofs.judged.Tie as tie
 
 abbrev Inv-loop : tie.InvT-loop
-Inv-loop s table from n lim p₀ i₀ here₀ p i here = Judging table s from n lim here₀ p i here
+Inv-loop s table from n first p₀ i₀ here₀ p i here = Judging table s from n first here₀ p i here
 
 abbrev μ-loop : tie.MeasureT-loop
-μ-loop s table from n lim p₀ i₀ here₀ p i here = n - i
+μ-loop s table from n first p₀ i₀ here₀ p i here = n - i
 
 loop-holds : tie.Need-loop-holds Inv-loop μ-loop
 loop-holds c = search (needs, judging)

@@ -1,4 +1,4 @@
-use Rattle.repeats.proofs.Repeats.{repeating}
+use Rattle.repeats.proofs.Tables.{standing}
 use borrow.Author.Needs.{needs}
 use Rattle.repeats.proofs.exempt.Statement.{statement}
 use Rattle.repeats.proofs.exempt.Tie as tie
@@ -19,13 +19,13 @@ blank-requires-2 : tie.Need-blank-requires-2
 blank-requires-2 c κs = search needs
 
 returns : tie.Need-returns
-returns c = search (needs, repeating)
+returns c = search (needs, standing)
 
 returns-2 : tie.Need-returns-2
 returns-2 c = search needs
 
 returns-3 : tie.Need-returns-3
-returns-3 c = search (needs, repeating)
+returns-3 c = search (needs, standing)
 
 pub exempt-spec : {M : Type 1} → statement M
 exempt-spec =

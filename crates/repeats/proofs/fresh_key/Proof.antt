@@ -13,7 +13,7 @@ sub-hash-bytes : tie.Need-sub-hash-bytes
 sub-hash-bytes c = search needs
 
 hash-bytes-requires : tie.Need-hash-bytes-requires
-hash-bytes-requires c κs = (omega (arith, c .before .past-items .ensures .room (c .if1 .left)), omega arith)
+hash-bytes-requires c κs = record { room = omega (arith, c .before .past-items .ensures .room (c .if1 .left)); small = omega arith }
 
 mul-result : tie.Need-mul-result
 mul-result c = search needs

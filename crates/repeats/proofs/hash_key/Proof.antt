@@ -5,11 +5,11 @@ use Rattle.items.specs.Tables.{itemOf}
 use Rattle.repeats.proofs.hash_key.Statement.{statement}
 use Rattle.repeats.proofs.hash_key.Tie as tie
 
-hash-text-requires : tie.Need-hash-text-requires
-hash-text-requires c κs = (item-name (itemOf (c .before .args .table)) ((c .before .pre) .0), (c .before .pre) .1)
-
 hash-package-requires : tie.Need-hash-package-requires
 hash-package-requires c κs = search (needs, hashing)
+
+hash-text-requires : tie.Need-hash-text-requires
+hash-text-requires c κs = (item-name (itemOf ((c .before .before .args) .table)) ((c .before .before .pre) .0), (c .before .before .pre) .1)
 
 mix-requires : tie.Need-mix-requires
 mix-requires c κs = search (needs, hashing)
@@ -21,4 +21,9 @@ returns : tie.Need-returns
 returns c = search (needs, hashing)
 
 pub hash-key-spec : {M : Type 1} → statement M
-hash-key-spec = tie.close (tie.spec hash-text-requires hash-package-requires mix-requires mix-requires-2 returns)
+hash-key-spec = tie.close (tie.spec
+    hash-package-requires
+    hash-text-requires
+    mix-requires
+    mix-requires-2
+    returns)

@@ -1,17 +1,19 @@
 use borrow.Author.Needs.{needs}
 use Rattle.repeats.proofs.Filters.{firsts}
-use Rattle.repeats.proofs.Filters.{Firsts, firsts-start, firsts-items}
+use Rattle.repeats.proofs.Filters.{Firsts, firsts-start}
 use Prim.Native.Nat.{_+_, _/_, _-_, _≤_, _<_}
 use native.Mathlib.Nat.{div-le-self}
 use native.Mathlib.Omega.{arith}
+use Rattle.repeats.proofs.Tables.{items-less}
+use Rattle.repeats.specs.Tables.{keysAt}
 use Rattle.repeats.proofs.many.Statement.{statement}
 use Rattle.repeats.proofs.many.Tie as tie
 
 abbrev Inv-loop : tie.InvT-loop
-Inv-loop s table from n a parts classes lim₀ lo₀ lim lo = (Firsts a table s from n lo lim) × (0 < classes) × (classes ≤ 65537)
+Inv-loop s table from n key parts classes first₀ lo₀ first lo = (Firsts key (keysAt table s from) n lo first) × (0 < classes) × (classes ≤ 65537)
 
 abbrev μ-loop : tie.MeasureT-loop
-μ-loop s table from n a parts classes lim₀ lo₀ lim lo = 65536 - lo
+μ-loop s table from n key parts classes first₀ lo₀ first lo = 65536 - lo
 
 middle-requires : tie.Need-middle-requires Inv-loop μ-loop
 middle-requires c κs = search (needs, firsts)
@@ -26,16 +28,16 @@ div-classes : tie.Need-div-classes Inv-loop μ-loop
 div-classes c = search (needs, firsts)
 
 add-classes : tie.Need-add-classes Inv-loop μ-loop
-add-classes c = omega (arith, div-le-self 65536 (c .before .before .args .n / 131072 + 1))
+add-classes c = omega (arith, div-le-self 65536 ((c .before .before .args) .n / 196608 + 1))
 
 loop-holds : tie.Need-loop-holds Inv-loop μ-loop
-loop-holds c = (firsts-start, omega arith, omega (arith, div-le-self 65536 (c .before .before .args .n / 131072 + 1)))
+loop-holds c = (firsts-start, omega arith, omega (arith, div-le-self 65536 ((c .before .before .args) .n / 196608 + 1)))
 
 add-hi : tie.Need-add-hi Inv-loop μ-loop
 add-hi c = search (needs, firsts)
 
-large-pass-requires : tie.Need-large-pass-requires Inv-loop μ-loop
-large-pass-requires c κs = (firsts-items (c .before .loop .inv .0) (c .before .before .before .before .pre .0), c .before .before .before .before .pre .1)
+two-passes-requires : tie.Need-two-passes-requires Inv-loop μ-loop
+two-passes-requires c κs = (items-less ((c .before .loop) .inv .0 .within) ((c .before .before .before .before .pre) .0), (c .before .before .before .before .pre) .1)
 
 enum-known-q : tie.Need-enum-known-q Inv-loop μ-loop
 enum-known-q c = search (needs, firsts)
@@ -68,7 +70,7 @@ many-spec =
     add-classes
     loop-holds
     add-hi
-    large-pass-requires
+    two-passes-requires
     enum-known-q
     enum-told
     returns-2

@@ -1,5 +1,5 @@
 use mathlib.Core.Path.{refl}
-use Rattle.repeats.specs.Filter.{maskOf}
+use Rattle.repeats.specs.Filters.{maskOf}
 use borrow.Author.Needs.{needs}
 use Rattle.repeats.proofs.mask.Statement.{statement}
 use Rattle.repeats.proofs.mask.Tie as tie

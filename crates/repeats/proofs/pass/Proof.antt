@@ -4,20 +4,21 @@ use Rattle.items.proofs.Walking.{walking-here}
 use Prim.Native.Nat.{_-_}
 use mathlib.Core.Path.{_≡_}
 use lib.ListN.{length}
+use Rattle.repeats.specs.Filters.{Chosen}
 use Rattle.repeats.proofs.pass.Statement.{statement}
 use Rattle.repeats.proofs.pass.Tie as tie
 
 abbrev Inv-loop : tie.InvT-loop
-Inv-loop s table from n lo hi a top f₀ left₀ p₀ i₀ f left p i = Passing a table s from n lo hi top f p i × (length f ≡ length f₀)
+Inv-loop s table from n lo hi key filter₀ suspects left₀ p₀ i₀ filter left p i = Passing (Chosen lo hi suspects) key table s from n filter p i × (length filter ≡ length filter₀)
 
 abbrev μ-loop : tie.MeasureT-loop
-μ-loop s table from n lo hi a top f₀ left₀ p₀ i₀ f left p i = n - i
+μ-loop s table from n lo hi key filter₀ suspects left₀ p₀ i₀ filter left p i = n - i
 
 loop-holds : tie.Need-loop-holds Inv-loop μ-loop
 loop-holds c = search (needs, passing)
 
-known-requires : tie.Need-known-requires Inv-loop μ-loop
-known-requires c κs = search (needs, passing)
+probed-requires : tie.Need-probed-requires Inv-loop μ-loop
+probed-requires c κs = search (needs, passing)
 
 enum-told : tie.Need-enum-told Inv-loop μ-loop
 enum-told c = search (needs, passing)
@@ -41,7 +42,7 @@ enum-known-l : tie.Need-enum-known-l Inv-loop μ-loop
 enum-known-l c = search (needs, passing)
 
 past-item-requires : tie.Need-past-item-requires Inv-loop μ-loop
-past-item-requires c κs = walking-here ((c .before .before .before .before .before .before .before .loop-test) .taken) ((c .before .before .before .before .before .before .before .before .loop) .inv .0 .walk)
+past-item-requires c κs = walking-here ((c .before .before .before .before .before .before .before .loop-test) .taken) (((c .before .before .before .before .before .before .before .before .loop)) .inv .0 .walk)
 
 add-i : tie.Need-add-i Inv-loop μ-loop
 add-i c = search (needs, passing)
@@ -50,7 +51,7 @@ loop-less : tie.Need-loop-less Inv-loop μ-loop
 loop-less c = search (needs, passing)
 
 loop-again : tie.Need-loop-again Inv-loop μ-loop
-loop-again c = (passing-more ((c .before .before .before .before .before .before .before .before .before .loop) .inv .0) ((c .before .before .before .before .before .before .before .before .loop-test) .taken) ((c .before .before .before .before .before .before .known) .ensures) ((c .before .before .l) .given .1) ((c .past-item) .ensures), search (needs, passing))
+loop-again c = (passing-more (((c .before .before .before .before .before .before .before .before .before .loop)) .inv .0) ((c .before .before .before .before .before .before .before .before .loop-test) .taken) (((c .before .before .before .before .before .before .probed)) .ensures) ((c .before .before .l) .given .1) ((c .past-item) .ensures), search (needs, passing))
 
 same-length-3 : tie.Need-same-length-3 Inv-loop μ-loop
 same-length-3 c = search (needs, passing)
@@ -65,7 +66,7 @@ pass-spec =
     Inv-loop
     μ-loop
     loop-holds
-    known-requires
+    probed-requires
     enum-told
     same-length
     returns

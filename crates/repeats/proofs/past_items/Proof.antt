@@ -1,6 +1,5 @@
 use borrow.Author.Needs.{needs}
-use Rattle.repeats.proofs.Filters.{leaving}
-use Rattle.repeats.proofs.Filters.{Leaving}
+use Rattle.repeats.proofs.Tables.{leaving, Leaving}
 use Rattle.repeats.proofs.past_items.Statement.{statement}
 use Rattle.repeats.proofs.past_items.Tie as tie
 

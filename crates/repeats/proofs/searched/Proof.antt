@@ -5,16 +5,16 @@ use Rattle.repeats.proofs.searched.Statement.{statement}
 use Rattle.repeats.proofs.searched.Tie as tie
 
 abbrev Inv-loop : tie.InvT-loop
-Inv-loop s table from n large a₀ k₀ a k = a < 4294967296
+Inv-loop s table from n large key₀ k₀ key k = key < 4294967296
 
 abbrev μ-loop : tie.MeasureT-loop
-μ-loop s table from n large a₀ k₀ a k = 16 - k
+μ-loop s table from n large key₀ k₀ key k = 16 - k
 
 many-requires : tie.Need-many-requires Inv-loop μ-loop
 many-requires c κs = search (needs, firsts)
 
-enum-known-lim : tie.Need-enum-known-lim Inv-loop μ-loop
-enum-known-lim c = search (needs, firsts)
+enum-known-first : tie.Need-enum-known-first Inv-loop μ-loop
+enum-known-first c = search (needs, firsts)
 
 returns : tie.Need-returns Inv-loop μ-loop
 returns c = search (needs, firsts)
@@ -25,8 +25,8 @@ enum-told c = search (needs, firsts)
 few-requires : tie.Need-few-requires Inv-loop μ-loop
 few-requires c κs = search (needs, firsts)
 
-enum-known-lim-2 : tie.Need-enum-known-lim-2 Inv-loop μ-loop
-enum-known-lim-2 c = search (needs, firsts)
+enum-known-first-2 : tie.Need-enum-known-first-2 Inv-loop μ-loop
+enum-known-first-2 c = search (needs, firsts)
 
 returns-2 : tie.Need-returns-2 Inv-loop μ-loop
 returns-2 c = search (needs, firsts)
@@ -43,8 +43,8 @@ fresh-key-requires c κs = search (needs, firsts)
 many-requires-2 : tie.Need-many-requires-2 Inv-loop μ-loop
 many-requires-2 c κs = search (needs, firsts)
 
-enum-known-lim-3 : tie.Need-enum-known-lim-3 Inv-loop μ-loop
-enum-known-lim-3 c = search (needs, firsts)
+enum-known-first-3 : tie.Need-enum-known-first-3 Inv-loop μ-loop
+enum-known-first-3 c = search (needs, firsts)
 
 returns-3 : tie.Need-returns-3 Inv-loop μ-loop
 returns-3 c = search (needs, firsts)
@@ -55,8 +55,8 @@ enum-told-3 c = search (needs, firsts)
 few-requires-2 : tie.Need-few-requires-2 Inv-loop μ-loop
 few-requires-2 c κs = search (needs, firsts)
 
-enum-known-lim-4 : tie.Need-enum-known-lim-4 Inv-loop μ-loop
-enum-known-lim-4 c = search (needs, firsts)
+enum-known-first-4 : tie.Need-enum-known-first-4 Inv-loop μ-loop
+enum-known-first-4 c = search (needs, firsts)
 
 returns-4 : tie.Need-returns-4 Inv-loop μ-loop
 returns-4 c = search (needs, firsts)
@@ -86,21 +86,21 @@ searched-spec =
     Inv-loop
     μ-loop
     many-requires
-    enum-known-lim
+    enum-known-first
     returns
     enum-told
     few-requires
-    enum-known-lim-2
+    enum-known-first-2
     returns-2
     enum-told-2
     loop-holds
     fresh-key-requires
     many-requires-2
-    enum-known-lim-3
+    enum-known-first-3
     returns-3
     enum-told-3
     few-requires-2
-    enum-known-lim-4
+    enum-known-first-4
     returns-4
     enum-told-4
     add-k

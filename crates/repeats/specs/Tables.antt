@@ -1,18 +1,20 @@
--- Repeats in a table: an item whose key stands among those of the items before it.
+-- The keys of a table's items, where they stand in a pack.
 use Prim.Native.Nat.{ℕ, _≤_, _<_}
 use mathlib.Core.List.{List, [], _∷_, map}
-use mathlib.Core.Bool.{Bool, false, true}
+use mathlib.Core.Bool.{Bool, false}
 use mathlib.Core.Path.{_≡_}
+use lib.ListN.{length}
 use Rattle.format.specs.Trace.{pick}
 use Rattle.format.specs.Format.{Value, content}
 use Rattle.format.specs.Reading.{same}
 use Rattle.vob24.specs.Questions.{amongIdentities}
 use Rattle.items.specs.declared.Table.{Table}
 use Rattle.items.specs.declared.Table.the-variants.{Fields, Methods, Identities}
-use Rattle.items.specs.Walk.{valueAt, itemsAt, lastAt}
+use Rattle.items.specs.Walk.{valueAt, lastAt}
 use Rattle.items.specs.Items.{nameOf, textAt}
-use Rattle.items.specs.Tables.{itemOf, formatIn, keyOf}
+use Rattle.items.specs.Tables.{itemOf, formatIn, packageOf, keyOf}
 use Rattle.items.specs.Contract.{After}
+use Rattle.repeats.specs.Keys.{Key}
 
 -- "_" is exempt in 16 and 19
 abbrev pub exempt : Table → List ℕ → Bool
@@ -20,12 +22,19 @@ exempt Fields x = same x (95 ∷ [])
 exempt (Methods i) x = false
 exempt Identities x = same x (95 ∷ [])
 
+-- whether an item repeats one of those before it, by their values
 unfoldable pub repeats : Table → List Value → Value → Bool
 repeats t before v = pick (exempt t (content (nameOf (itemOf t) v))) false (amongIdentities (keyOf t v) (map (keyOf t) before))
 
--- whether item k of those from a place on repeats one before it
-unfoldable pub repeatAt : Table → List ℕ → ℕ → ℕ → Bool
-repeatAt t s from k = repeats t (itemsAt (formatIn t) k s from) (valueAt (formatIn t) s (lastAt (formatIn t) k s from))
+abbrev pub keyIn : Table → Value → Key
+keyIn t v = record { name = content (nameOf (itemOf t) v); packageName = content (packageOf t v); exempt = exempt t (content (nameOf (itemOf t) v)) }
+
+-- the key of the item at p, and of item k of those from a place on
+abbrev pub keyAt : Table → List ℕ → ℕ → Key
+keyAt t s p = keyIn t (valueAt (formatIn t) s p)
+
+unfoldable pub keysAt : Table → List ℕ → ℕ → ℕ → Key
+keysAt t s from k = keyAt t s (lastAt (formatIn t) k s from)
 
 pub record ExemptIs (t : Table) (s : List ℕ) (p : ℕ) (q : Bool) : Type 0 where
   pub is : q ≡ exempt t (textAt s p)
@@ -35,8 +44,6 @@ pub record Standing (t : Table) (s : List ℕ) (from i p : ℕ) : Type 0 where
   pub after : After (formatIn t) s from i p
   pub place : p ≡ lastAt (formatIn t) i s from
 
--- q is the first of n items that repeats one before it, or n.
-pub record FirstRepeat (t : Table) (s : List ℕ) (from n q : ℕ) : Type 0 where
-  pub within : q ≤ n
-  pub new : (k : ℕ) → k < q → repeatAt t s from k ≡ false
-  pub found : q < n → repeatAt t s from q ≡ true
+-- a place that a walk from another came to
+pub record Within (s : List ℕ) (from q : ℕ) : Type 0 where
+  pub room : from < q → q ≤ length s
