@@ -1,4 +1,2 @@
 pub mod Laws
-pub mod Moving
-pub mod Number
-pub mod Thin
+pub mod Walk

@@ -1,165 +1,43 @@
-// The section calls that are lent their place and budget and advance them: each calls its section's reader by value.
-// The Rust has no such calls; its ByteReader advances its pos and allocation_remaining so.
-ghost use Rattle.vob24.specs.Grammar as vob;
+// The section call that is lent its place and budget and advances them, over the section call by value.
+// The Rust has no such call; its ByteReader advances its pos and allocation_remaining so.
+ghost use Rattle.vob24.specs.Sections.{sectionOf, functionsOf};
 ghost use Rattle.lent_sections.specs.Call.{LentCall};
 use calls::Answer;
 pub use positions::Position;
+use vob24::Section;
 
-pub fn read_name(pack: &[u8], at: &mut Position, tape: &mut [u32]) -> Answer
-    ensures { λ q. ⌜ LentCall 0 vob.name (now (pack .entry)) (now (at .entry)) (now (tape .entry)) q (now (at .exit)) (now (tape .exit)) ⌝ }
-{
-    let from = *at;
-    let answer = sections::read_name(pack, from.place, from.budget, tape);
-    *at = positions::moved(from, answer);
-    answer
+// An answer, and the position after it.
+pub struct Lent {
+    pub answer: Answer,
+    pub next: Position,
 }
 
-pub fn read_structs(pack: &[u8], at: &mut Position, tape: &mut [u32]) -> Answer
-    ensures { λ q. ⌜ LentCall 0 vob.structs (now (pack .entry)) (now (at .entry)) (now (tape .entry)) q (now (at .exit)) (now (tape .exit)) ⌝ }
+fn step(pack: &[u8], section: Section, from: Position, tape: &mut [u32]) -> Lent
+    ensures { λ q. ⌜ LentCall (functionsOf section) (sectionOf section) (now (pack .entry)) from (now (tape .entry)) (q .answer) (q .next) (now (tape .exit)) ⌝ }
 {
-    let from = *at;
-    let answer = sections::read_structs(pack, from.place, from.budget, tape);
-    *at = positions::moved(from, answer);
-    answer
+    let answer = sections::read_section(pack, section, from.place, from.budget, tape);
+    Lent {
+        answer: answer,
+        next: positions::moved(from, answer),
+    }
 }
 
-pub fn read_interfaces(pack: &[u8], at: &mut Position, tape: &mut [u32]) -> Answer
-    ensures { λ q. ⌜ LentCall 0 vob.interfaces (now (pack .entry)) (now (at .entry)) (now (tape .entry)) q (now (at .exit)) (now (tape .exit)) ⌝ }
+pub fn read_section(pack: &[u8], section: Section, at: &mut Position, tape: &mut [u32]) -> Answer
+    ensures { λ q. ⌜ LentCall (functionsOf section) (sectionOf section) (now (pack .entry)) (now (at .entry)) (now (tape .entry)) q (now (at .exit)) (now (tape .exit)) ⌝ }
 {
-    let from = *at;
-    let answer = sections::read_interfaces(pack, from.place, from.budget, tape);
-    *at = positions::moved(from, answer);
-    answer
+    let d = step(pack, section, *at, tape);
+    *at = d.next;
+    d.answer
 }
 
-pub fn read_named_types(pack: &[u8], at: &mut Position, tape: &mut [u32]) -> Answer
-    ensures { λ q. ⌜ LentCall 0 vob.namedTypes (now (pack .entry)) (now (at .entry)) (now (tape .entry)) q (now (at .exit)) (now (tape .exit)) ⌝ }
+// By value, through the lent call: the borrow checker covers who calls this one.
+pub fn read_section_at(pack: &[u8], section: Section, from: Position, tape: &mut [u32]) -> Lent
+    ensures { λ q. ⌜ LentCall (functionsOf section) (sectionOf section) (now (pack .entry)) from (now (tape .entry)) (q .answer) (q .next) (now (tape .exit)) ⌝ }
 {
-    let from = *at;
-    let answer = sections::read_named_types(pack, from.place, from.budget, tape);
-    *at = positions::moved(from, answer);
-    answer
-}
-
-pub fn read_itabs(pack: &[u8], at: &mut Position, tape: &mut [u32]) -> Answer
-    ensures { λ q. ⌜ LentCall 0 vob.itabs (now (pack .entry)) (now (at .entry)) (now (tape .entry)) q (now (at .exit)) (now (tape .exit)) ⌝ }
-{
-    let from = *at;
-    let answer = sections::read_itabs(pack, from.place, from.budget, tape);
-    *at = positions::moved(from, answer);
-    answer
-}
-
-pub fn read_runtime_types(pack: &[u8], at: &mut Position, tape: &mut [u32]) -> Answer
-    ensures { λ q. ⌜ LentCall 0 vob.runtimeTypes (now (pack .entry)) (now (at .entry)) (now (tape .entry)) q (now (at .exit)) (now (tape .exit)) ⌝ }
-{
-    let from = *at;
-    let answer = sections::read_runtime_types(pack, from.place, from.budget, tape);
-    *at = positions::moved(from, answer);
-    answer
-}
-
-pub fn read_well_known(pack: &[u8], at: &mut Position, tape: &mut [u32]) -> Answer
-    ensures { λ q. ⌜ LentCall 0 vob.wellKnown (now (pack .entry)) (now (at .entry)) (now (tape .entry)) q (now (at .exit)) (now (tape .exit)) ⌝ }
-{
-    let from = *at;
-    let answer = sections::read_well_known(pack, from.place, from.budget, tape);
-    *at = positions::moved(from, answer);
-    answer
-}
-
-pub fn read_constants(pack: &[u8], at: &mut Position, tape: &mut [u32]) -> Answer
-    ensures { λ q. ⌜ LentCall 0 vob.constants (now (pack .entry)) (now (at .entry)) (now (tape .entry)) q (now (at .exit)) (now (tape .exit)) ⌝ }
-{
-    let from = *at;
-    let answer = sections::read_constants(pack, from.place, from.budget, tape);
-    *at = positions::moved(from, answer);
-    answer
-}
-
-pub fn read_globals(pack: &[u8], at: &mut Position, tape: &mut [u32]) -> Answer
-    ensures { λ q. ⌜ LentCall 0 vob.globals (now (pack .entry)) (now (at .entry)) (now (tape .entry)) q (now (at .exit)) (now (tape .exit)) ⌝ }
-{
-    let from = *at;
-    let answer = sections::read_globals(pack, from.place, from.budget, tape);
-    *at = positions::moved(from, answer);
-    answer
-}
-
-pub fn read_functions(pack: &[u8], at: &mut Position, tape: &mut [u32]) -> Answer
-    ensures { λ q. ⌜ LentCall 0 vob.functions (now (pack .entry)) (now (at .entry)) (now (tape .entry)) q (now (at .exit)) (now (tape .exit)) ⌝ }
-{
-    let from = *at;
-    let answer = sections::read_functions(pack, from.place, from.budget, tape);
-    *at = positions::moved(from, answer);
-    answer
-}
-
-pub fn read_externs(pack: &[u8], at: &mut Position, tape: &mut [u32]) -> Answer
-    ensures { λ q. ⌜ LentCall 0 vob.externs (now (pack .entry)) (now (at .entry)) (now (tape .entry)) q (now (at .exit)) (now (tape .exit)) ⌝ }
-{
-    let from = *at;
-    let answer = sections::read_externs(pack, from.place, from.budget, tape);
-    *at = positions::moved(from, answer);
-    answer
-}
-
-pub fn read_entry(pack: &[u8], at: &mut Position, tape: &mut [u32]) -> Answer
-    ensures { λ q. ⌜ LentCall 0 vob.entry (now (pack .entry)) (now (at .entry)) (now (tape .entry)) q (now (at .exit)) (now (tape .exit)) ⌝ }
-{
-    let from = *at;
-    let answer = sections::read_entry(pack, from.place, from.budget, tape);
-    *at = positions::moved(from, answer);
-    answer
-}
-
-pub fn read_island_init(pack: &[u8], at: &mut Position, tape: &mut [u32]) -> Answer
-    ensures { λ q. ⌜ LentCall 0 vob.islandInit (now (pack .entry)) (now (at .entry)) (now (tape .entry)) q (now (at .exit)) (now (tape .exit)) ⌝ }
-{
-    let from = *at;
-    let answer = sections::read_island_init(pack, from.place, from.budget, tape);
-    *at = positions::moved(from, answer);
-    answer
-}
-
-pub fn read_artifacts(pack: &[u8], at: &mut Position, tape: &mut [u32]) -> Answer
-    ensures { λ q. ⌜ LentCall 0 vob.artifacts (now (pack .entry)) (now (at .entry)) (now (tape .entry)) q (now (at .exit)) (now (tape .exit)) ⌝ }
-{
-    let from = *at;
-    let answer = sections::read_artifacts(pack, from.place, from.budget, tape);
-    *at = positions::moved(from, answer);
-    answer
-}
-
-pub fn read_files(pack: &[u8], at: &mut Position, tape: &mut [u32]) -> Answer
-    ensures { λ q. ⌜ LentCall 0 vob.files (now (pack .entry)) (now (at .entry)) (now (tape .entry)) q (now (at .exit)) (now (tape .exit)) ⌝ }
-{
-    let from = *at;
-    let answer = sections::read_files(pack, from.place, from.budget, tape);
-    *at = positions::moved(from, answer);
-    answer
-}
-
-pub fn read_function_locations(pack: &[u8], at: &mut Position, tape: &mut [u32]) -> Answer
-    ensures { λ q. ⌜ LentCall 0 vob.functionLocations (now (pack .entry)) (now (at .entry)) (now (tape .entry)) q (now (at .exit)) (now (tape .exit)) ⌝ }
-{
-    let from = *at;
-    let answer = sections::read_function_locations(pack, from.place, from.budget, tape);
-    *at = positions::moved(from, answer);
-    answer
-}
-
-// The number of functions bounds the list of functions with inline sources.
-pub fn read_inline_sources(
-    pack: &[u8],
-    at: &mut Position,
-    functions: u64,
-    tape: &mut [u32],
-) -> Answer
-    ensures { λ q. ⌜ LentCall functions vob.inlineSources (now (pack .entry)) (now (at .entry)) (now (tape .entry)) q (now (at .exit)) (now (tape .exit)) ⌝ }
-{
-    let from = *at;
-    let answer = sections::read_inline_sources(pack, from.place, from.budget, functions, tape);
-    *at = positions::moved(from, answer);
-    answer
+    let mut at = from;
+    let answer = read_section(pack, section, &mut at, tape);
+    Lent {
+        answer: answer,
+        next: at,
+    }
 }
