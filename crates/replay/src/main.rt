@@ -1,6 +1,6 @@
 // Replays the lists of the oracle's answers that its arguments name: whole packs, section calls, lookups, and texts alone.
 // Prints each difference, and a line for each list.
-use calls::Answer;
+use lent_sections::Position;
 use lookup::Found;
 use reader::Step;
 use reader::Text;
@@ -41,14 +41,22 @@ fn section_of(number: u64, functions: u64) -> Section {
     }
 }
 
+// The call by value, and the call that is lent its position, by the function by value over it.
 fn section(t: Tally, h: &[u8], pack: &[u8], words: &[u8], tape: &mut [u32]) -> Tally {
-    let number = stored::number(h, stored::SECTION);
     let place = stored::long(h, stored::PLACE) as usize;
     let budget = stored::long(h, stored::BUDGET);
-    let functions = stored::long(h, stored::FUNCTIONS);
+    let section = section_of(
+        stored::number(h, stored::SECTION),
+        stored::long(h, stored::FUNCTIONS),
+    );
     stored::mark(tape);
-    let answer = sections::read_section(pack, section_of(number, functions), place, budget, tape);
+    let answer = sections::read_section(pack, section, place, budget, tape);
     let t = stored::hold_answer(t, h, answer);
+    let t = stored::hold_tape(t, h, words, tape);
+    stored::mark(tape);
+    let lent = lent_sections::read_section_at(pack, section, Position { place, budget }, tape);
+    let t = stored::hold_answer(t, h, lent.answer);
+    let t = stored::hold_position(t, h, lent.next.place, lent.next.budget);
     stored::hold_tape(t, h, words, tape)
 }
 

@@ -371,6 +371,17 @@ pub fn hold_refusal(t: Tally, h: &[u8], r: Refusal) -> Tally {
     hold(t, b"left", long(h, FIELDS + 40), r.left)
 }
 
+// Holds the position after a section call: past the bytes taken, with the budget left, or as it was given.
+pub fn hold_position(t: Tally, h: &[u8], place: usize, budget: u64) -> Tally {
+    if long(h, STATUS) == 0 {
+        let past = wrapping_add_u64(long(h, PLACE), long(h, FIELDS + 8));
+        let t = hold(t, b"place after it", past, place as u64);
+        return hold(t, b"budget after it", long(h, FIELDS + 24), budget);
+    }
+    let t = hold(t, b"place after it", long(h, PLACE), place as u64);
+    hold(t, b"budget after it", long(h, BUDGET), budget)
+}
+
 pub fn hold_found(t: Tally, h: &[u8], start: usize, length: usize) -> Tally {
     let t = hold(t, b"status", long(h, STATUS), 0);
     let t = hold(t, b"count", number(h, COUNT), 0);
