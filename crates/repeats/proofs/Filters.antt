@@ -19,8 +19,8 @@ use Rattle.repeats.specs.declared.Probe.the-variants.{Repeat, TooMany, N
 use Rattle.repeats.specs.declared.Outcome.{Outcome}
 use Rattle.repeats.specs.declared.Outcome.the-variants.{First, GaveUp}
 use Rattle.repeats.specs.Keys.{Key, repeatAt, FirstRepeat}
-use Rattle.repeats.specs.Tables.{keysAt, ExemptIs, Standing}
-use Rattle.repeats.specs.Hashes.{keyHash, KeyHash}
+use Rattle.repeats.specs.Tables.{keysAt, ExemptIs, KeyHash, Standing}
+use Rattle.repeats.specs.Hashes.{keyHash}
 use Rattle.repeats.specs.Filters.{class, spot, maskOf, Has, Lacks, Entered, Classed, Outside, Chosen, Noted, Filter, Probed, isRepeat, isTooMany, isNext, Passed, PassedOr, passed, gaveUp, Suspects, FirstOr, first, none}
 use Rattle.repeats.proofs.Bits.{bits-stay, bits-set}
 use Rattle.repeats.proofs.Keys.{repeat-none}
@@ -78,9 +78,6 @@ has-all h = record { bits = go (bitAnd h 0) (and-zero-r h) }
 
 -- the answers of `outside` and of `note`
 module _ {lo hi h : ℕ} where
-  pub outside-low : class h < lo → Outside lo hi h true
-  outside-low l = record { out = λ _ c. omega (arith, c .low) }
-
   pub outside-high : {q : Bool} → (q ≡ true → hi ≤ class h) → Outside lo hi h q
   outside-high l = record { out = λ e c. let x = l e in omega (arith, c .high) }
 
@@ -95,7 +92,7 @@ module _ {lo hi h : ℕ} where
       pub note-suspect : {u′ : List ℕ} {r : Bool} → Entered u h u′ r → Noted lo hi h f f′ u u′
       note-suspect m = record { has = λ c. n .has; keeps = n .keeps; size = n .size; suspect = λ c i. m .has; stays = m .keeps; width = m .size }
 
-pub ruleset noting = (outside-low, note-outside, note-new, note-suspect)
+pub ruleset noting = (note-outside, note-new, note-suspect)
 
 -- ---- the hashes of keys in a filter
 
@@ -228,44 +225,43 @@ suspects-first l (passed p) = passed (suspects-passed l p)
 suspects-first l gaveUp = gaveUp
 
 -- ---- the loop of `many`: all the classes below lo
-pub record Firsts (seed : ℕ) (keys : ℕ → Key) (n lo q : ℕ) : Type 0 where
-  pub within : q ≤ n
-  pub new : (k : ℕ) → k < q → class (keyHash seed (keys k)) < lo → repeatAt keys k ≡ false
-  pub found : q < n → repeatAt keys q ≡ true
-
 module _ {seed : ℕ} {keys : ℕ → Key} {n : ℕ} where
-  pub firsts-start : Firsts seed keys n 0 n
-  firsts-start = record { within = omega arith; new = λ k d b. absurd (omega arith); found = λ d. absurd (omega arith) }
+  pub firsts-start : Passed (Classed 0 0) seed keys n n
+  firsts-start = record { within = omega arith; new = λ k d c. absurd (omega (arith, c .high)); found = λ d. absurd (omega arith) }
 
-  firsts-passed : {lo hi m q : ℕ} → Passed (Classed lo hi) seed keys m q → Firsts seed keys n lo m → Firsts seed keys n hi q
+  firsts-passed : {lo hi m q : ℕ} → Passed (Classed lo hi) seed keys m q → Passed (Classed 0 lo) seed keys n m → Passed (Classed 0 hi) seed keys n q
   firsts-passed {lo} {hi} {m} {q} p l =
       record {
         within = omega (arith, p .within, l .within);
-        new = λ k d b. below k d b (ltb (class (keyHash seed (keys k))) lo) refl;
+        new = λ k d c. below k d c (ltb (class (keyHash seed (keys k))) lo) refl;
         found = λ d. ends d (ltb q m) refl;
       }
     where
-      below : (k : ℕ) → k < q → class (keyHash seed (keys k)) < hi → (b : Bool) → ltb (class (keyHash seed (keys k))) lo ≡ b → repeatAt keys k ≡ false
-      below k d b true e = l .new k (omega (arith, p .within)) (ltb-true _ _ e)
-      below k d b false e = p .new k d (record { low = ltb-false _ _ e; high = b })
+      below : (k : ℕ) → k < q → Classed 0 hi (keyHash seed (keys k)) → (b : Bool) → ltb (class (keyHash seed (keys k))) lo ≡ b → repeatAt keys k ≡ false
+      below k d c true e = l .new k (omega (arith, p .within)) (record { low = omega arith; high = ltb-true _ _ e })
+      below k d c false e = p .new k d (record { low = ltb-false _ _ e; high = c .high })
 
       ends : q < n → (b : Bool) → ltb q m ≡ b → repeatAt keys q ≡ true
       ends d true e = p .found (ltb-true _ _ e)
       ends d false e = let z : q ≡ m = omega (arith, p .within, ltb-false q m e) in rw z (l .found (omega arith))
 
-  pub firsts-more : {lo hi m q : ℕ} {o : Outcome} → PassedOr (Classed lo hi) seed keys m o → o ≡ First q → Firsts seed keys n lo m → Firsts seed keys n hi q
+  pub firsts-more : {lo hi m q : ℕ} {o : Outcome} → PassedOr (Classed lo hi) seed keys m o → o ≡ First q → Passed (Classed 0 lo) seed keys n m → Passed (Classed 0 hi) seed keys n q
   firsts-more {lo} {hi} {m} {q} p e l = go (rw e at p)
     where
-      go : PassedOr (Classed lo hi) seed keys m (First q) → Firsts seed keys n hi q
+      go : PassedOr (Classed lo hi) seed keys m (First q) → Passed (Classed 0 hi) seed keys n q
       go (passed q) = firsts-passed q l
 
-  pub firsts-done : {lo q : ℕ} → Firsts seed keys n lo q → 65536 ≤ lo → FirstOr keys n (First q)
-  firsts-done l h = first (record { within = l .within; new = λ k d. l .new k d (omega arith); found = l .found })
+  -- where each key is of the kind
+  all-first : {Kind : ℕ → Type 0} {q : ℕ} → ((h : ℕ) → Kind h) → Passed Kind seed keys n q → FirstOr keys n (First q)
+  all-first a p = first (record { within = p .within; new = λ k d. p .new k d (a _); found = p .found })
 
--- one pass over all classes, each key being a suspect
-pub pass-first : {seed : ℕ} {keys : ℕ → Key} {n : ℕ} {o : Outcome} → PassedOr (Chosen 0 65536 (replicate 1 18446744073709551615)) seed keys n o → FirstOr keys n o
-pass-first (passed p) = first (record { within = p .within; new = λ k d. p .new k d (record { classed = record { low = omega arith; high = omega arith }; suspect = has-all _ }); found = p .found })
-pass-first gaveUp = none
+  pub firsts-done : {lo q : ℕ} → Passed (Classed 0 lo) seed keys n q → 65536 ≤ lo → FirstOr keys n (First q)
+  firsts-done l z = all-first (λ h. record { low = omega arith; high = omega arith }) l
+
+  -- one pass over all classes, each key being a suspect
+  pub pass-first : {o : Outcome} → PassedOr (Chosen 0 65536 (replicate 1 18446744073709551615)) seed keys n o → FirstOr keys n o
+  pass-first (passed p) = all-first (λ h. record { classed = record { low = omega arith; high = omega arith }; suspect = has-all h }) p
+  pass-first gaveUp = none
 
 pub firsts-gave-up : {keys : ℕ → Key} {n : ℕ} → FirstOr keys n GaveUp
 firsts-gave-up = none

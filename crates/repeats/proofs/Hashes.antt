@@ -18,7 +18,8 @@ use Rattle.items.specs.Tables.{formatIn}
 use Rattle.items.specs.Contract.{TextAt, WordIs, PackageIs, Placed}
 use Rattle.items.proofs.Texts.{text-room, text-part}
 use Rattle.items.proofs.Keys.{key-name, key-package}
-use Rattle.repeats.specs.Hashes.{mixed, folded, secondSeed, wordIn, shortHash, lanesHash, bytesHash, textHash, keyHash, PartAt, JoinIs, HashIs, TextHash, PackageHash, KeyHash}
+use Rattle.repeats.specs.Hashes.{mixed, folded, secondSeed, wordIn, shortHash, lanesHash, bytesHash, textHash, keyHash, PartAt, JoinIs, HashIs}
+use Rattle.repeats.specs.Tables.{TextHash, PackageHash, KeyHash}
 
 -- ---- a turn stays below 2 ^ 64
 

@@ -7,11 +7,7 @@ use lib.Bits.{bitXor}
 use lib.Dec.{eqb, ltb}
 use Rattle.format.specs.Trace.{pick}
 use Rattle.format.specs.Reading.{little, part}
-use Rattle.items.specs.declared.Table.{Table}
-use Rattle.items.specs.Items.{textAt}
-use Rattle.items.specs.Tables.{packageText}
 use Rattle.repeats.specs.Keys.{Key}
-use Rattle.repeats.specs.Tables.{keyAt}
 
 abbrev pub mixed : ℕ → ℕ → ℕ → ℕ
 mixed seed h w = bitXor h w % 4294967296 * seed + bitXor h w / 4294967296
@@ -50,7 +46,7 @@ textHash seed h x = bytesHash seed (mixed seed h (length x)) x
 unfoldable pub keyHash : ℕ → Key → ℕ
 keyHash seed x = mixed seed (mixed seed (textHash seed (textHash seed 0 (x .packageName)) (x .name)) 0) 0
 
--- ---- what the code asks and tells of them
+-- ---- of bytes in a row: what the code asks and tells
 
 -- n bytes at start, to be hashed under a seed
 pub record PartAt (seed : ℕ) (s : List ℕ) (start n : ℕ) : Type 0 where
@@ -62,12 +58,3 @@ pub record JoinIs (seed lane1 lane2 : ℕ) (s : List ℕ) (p end q : ℕ) : Type
 
 pub record HashIs (seed h : ℕ) (x : List ℕ) (q : ℕ) : Type 0 where
   pub is : q ≡ bytesHash seed h x
-
-pub record TextHash (seed h : ℕ) (s : List ℕ) (p q : ℕ) : Type 0 where
-  pub is : q ≡ textHash seed h (textAt s p)
-
-pub record PackageHash (seed : ℕ) (t : Table) (s : List ℕ) (p q : ℕ) : Type 0 where
-  pub is : q ≡ textHash seed 0 (packageText t s p)
-
-pub record KeyHash (seed : ℕ) (t : Table) (s : List ℕ) (p q : ℕ) : Type 0 where
-  pub is : q ≡ keyHash seed (keyAt t s p)

@@ -6,10 +6,10 @@ ghost use lib.ListN.{length};
 ghost use Rattle.format.specs.Reading.{part};
 ghost use Rattle.items.specs.Tables.{formatIn};
 ghost use Rattle.repeats.specs.Keys.{repeatAt, FirstRepeat};
-ghost use Rattle.repeats.specs.Tables.{keysAt, ExemptIs, Standing, Within};
-ghost use Rattle.repeats.specs.Marks.{MarkIs, Marked, AllNew};
-ghost use Rattle.repeats.specs.Hashes.{mixed, folded, secondSeed, PartAt, JoinIs, HashIs, TextHash, PackageHash, KeyHash};
+ghost use Rattle.repeats.specs.Marks.{Marked, AllNew};
+ghost use Rattle.repeats.specs.Hashes.{mixed, folded, secondSeed, PartAt, JoinIs, HashIs};
 ghost use Rattle.repeats.specs.Filters.{maskOf, Lacks, Entered, Outside, Classed, Chosen, Noted, Filter, Probed, PassedOr, Suspects, FirstOr};
+ghost use Rattle.repeats.specs.Tables.{keysAt, ExemptIs, MarkIs, TextHash, PackageHash, KeyHash, Standing, Within};
 ghost use Rattle.items.specs.Contract.{TextAt, Placed, Items};
 use items::Table;
 

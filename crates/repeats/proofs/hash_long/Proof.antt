@@ -1,6 +1,5 @@
 use borrow.Author.Needs.{needs}
-use Rattle.repeats.proofs.Hashes.{hashing}
-use Rattle.repeats.proofs.Hashes.{Blocks, blocks-more}
+use Rattle.repeats.proofs.Hashes.{hashing, Blocks, blocks-more}
 use Rattle.repeats.proofs.hash_long.Statement.{statement}
 use Rattle.repeats.proofs.hash_long.Tie as tie
 

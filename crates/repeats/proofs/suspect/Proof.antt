@@ -1,6 +1,5 @@
 use borrow.Author.Needs.{needs}
-use Rattle.repeats.proofs.Filters.{suspecting}
-use Rattle.repeats.proofs.Filters.{Suspecting, suspecting-more}
+use Rattle.repeats.proofs.Filters.{suspecting, Suspecting, suspecting-more}
 use lib.ListN.{length}
 use Rattle.items.proofs.Walking.{walking-here}
 use Prim.Native.Nat.{_-_}
