@@ -366,9 +366,9 @@ pub fn names(n: usize) -> Vec<u8> {
     fields((0..n).map(|i| name(i).into_bytes()))
 }
 
-/// The two factors that the first key of the search for repeated names gives: the first lane of a long name's hash takes them in this order,
-/// the second the other way round.
-const FACTORS: [u64; 2] = [2_654_435_761, 3_668_340_003];
+/// The first seed of the search for repeated names, and the factors that it gives for the four words of a block, two in each lane.
+const SEED: u64 = 2_654_435_761;
+const FACTORS: [[u64; 2]; 2] = [[2_654_435_761, 3_668_340_003], [1_132_949_227, 2_146_853_469]];
 
 /// How a lane takes in eight bytes.
 fn fold(factors: [u64; 2], hash: u64, bytes: u64) -> u64 {
@@ -395,11 +395,12 @@ fn same_hash(factors: [u64; 2], hash: u64) -> ([[u64; 2]; 4], u64) {
     unreachable!("some blocks meet")
 }
 
-/// Names of 204 bytes that differ and all have the same hash under the first key: one of four blocks at each of six places in two lanes.
+/// Names of 208 bytes that differ and all have the same hash under the first seed: one of four blocks at each of six places in two lanes, and
+/// then sixteen bytes that are the same.
 pub fn colliding(n: usize) -> Vec<u8> {
-    const LENGTH: u64 = 204;
-    let lanes = [(FACTORS, LENGTH * FACTORS[0]), ([FACTORS[1], FACTORS[0]], 0)].map(|(factors, start)| {
-        let mut hash = start;
+    const LENGTH: u64 = 208;
+    let lanes = FACTORS.map(|factors| {
+        let mut hash = LENGTH * SEED;
         [0; 6].map(|_| {
             let (blocks, next) = same_hash(factors, hash);
             hash = next;
@@ -412,7 +413,7 @@ pub fn colliding(n: usize) -> Vec<u8> {
             let [one, other] = [0, 1].map(|lane| lanes[lane][k][i >> (4 * k + 2 * lane) & 3]);
             name.extend([one[0], other[0], one[1], other[1]].map(u64::to_le_bytes).concat());
         }
-        name.extend(b"all the same");
+        name.extend(b"all end the same");
         assert_eq!(name.len() as u64, LENGTH);
         name
     }))

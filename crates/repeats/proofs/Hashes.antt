@@ -18,7 +18,8 @@ use Rattle.items.specs.Tables.{formatIn}
 use Rattle.items.specs.Contract.{TextAt, WordIs, PackageIs, Placed}
 use Rattle.items.proofs.Texts.{text-room, text-part}
 use Rattle.items.proofs.Keys.{key-name, key-package}
-use Rattle.repeats.specs.Hashes.{mixed, folded, secondKey, wordIn, shortHash, lanesHash, bytesHash, textHash, keyHash, PartAt, JoinIs, HashIs, TextHash, PackageHash, KeyHash}
+use Rattle.repeats.specs.Hashes.{mixed, folded, secondSeed, wordIn, shortHash, lanesHash, bytesHash, textHash, keyHash, PartAt, JoinIs, HashIs}
+use Rattle.repeats.specs.Tables.{TextHash, PackageHash, KeyHash}
 
 -- ---- a turn stays below 2 ^ 64
 
@@ -61,18 +62,18 @@ unfolding wordIn
 word-in s p k j q h e = ap little (ap (take 4) (drop-part j k (drop p s)) ∙ take-take 4 (k - j) (drop j (drop p s)) (omega arith) ∙ ap (take 4) (drop-drop j p s ∙ ap (λ m. drop m s) e))
 
 -- ---- fewer than eight bytes
-module _ {a : ℕ} {s : List ℕ} {start n : ℕ} (f : PartAt a s start n) where
-  short-bytes : (h : ℕ) → n < 8 → bytesHash a h (part s start n) ≡ shortHash a h (part s start n)
+module _ {seed : ℕ} {s : List ℕ} {start n : ℕ} (f : PartAt seed s start n) where
+  short-bytes : (h : ℕ) → n < 8 → bytesHash seed h (part s start n) ≡ shortHash seed h (part s start n)
   unfolding bytesHash pick
   short-bytes h d = rw (part-length s start n (f .room), lt-ltb n 8 d)
 
   module _ {h : ℕ} where
-    pub short-none : n ≡ 0 → HashIs a h (part s start n) h
+    pub short-none : n ≡ 0 → HashIs seed h (part s start n) h
     unfolding shortHash pick
     short-none e = record { is = sym (short-bytes h (omega arith) ∙ rw (part-length s start n (f .room), eq-eqb n 0 e)) }
 
     pub short-three : {v₁ v₂ v₃ q : ℕ} → (n ≡ 0 → ⊥) → n < 4 → v₁ ≡ getD s start 0 → v₂ ≡ getD s (start + n / 2) 0 → v₃ ≡ getD s (start + n - 1) 0
-        → q ≡ folded a h (v₁ + 256 * v₂) v₃ → HashIs a h (part s start n) q
+        → q ≡ folded seed h (v₁ + 256 * v₂) v₃ → HashIs seed h (part s start n) q
     unfolding shortHash pick
     short-three d l x y z i =
         let m : start + (n - 1) ≡ start + n - 1 = omega arith in
@@ -83,7 +84,7 @@ module _ {a : ℕ} {s : List ℕ} {start n : ℕ} (f : PartAt a s start n) where
               ∙ sym (short-bytes h (omega arith) ∙ rw (part-length s start n (f .room), ne-eqb n 0 d, lt-ltb n 4 l, byte-in s start n 0 (omega arith), byte-in s start n (n / 2) (omega arith), byte-in s start n (n - 1) (omega arith), m, o, x, y, z));
         }
 
-    pub short-words : {v w q : ℕ} → 4 ≤ n → n < 8 → WordIs s start v → WordIs s (start + n - 4) w → q ≡ folded a h v w → HashIs a h (part s start n) q
+    pub short-words : {v w q : ℕ} → 4 ≤ n → n < 8 → WordIs s start v → WordIs s (start + n - 4) w → q ≡ folded seed h v w → HashIs seed h (part s start n) q
     unfolding shortHash pick
     short-words d l x y i =
         record {
@@ -92,43 +93,43 @@ module _ {a : ℕ} {s : List ℕ} {start n : ℕ} (f : PartAt a s start n) where
         }
 
 -- ---- two lanes
-lanes-bytes : (a h : ℕ) (s : List ℕ) (start n : ℕ) → start + n ≤ length s → 8 ≤ n → bytesHash a h (part s start n) ≡ lanesHash a h h (part s start n) 0 ((n - 1) / 16)
+lanes-bytes : (seed h : ℕ) (s : List ℕ) (start n : ℕ) → start + n ≤ length s → 8 ≤ n → bytesHash seed h (part s start n) ≡ lanesHash seed h h (part s start n) 0 ((n - 1) / 16)
 unfolding bytesHash pick
-lanes-bytes a h s start n f d = rw (part-length s start n f, le-ltb n 8 d)
+lanes-bytes seed h s start n f d = rw (part-length s start n f, le-ltb n 8 d)
 
 -- the last block, whose first half stands at p
-lanes-last : {a g e : ℕ} {s : List ℕ} (start n j : ℕ) {p q : ℕ} → start + n ≤ length s → 8 ≤ n → p ≡ start + (n - 16) → JoinIs a g e s p (start + n) q → lanesHash a g e (part s start n) j 0 ≡ q
+lanes-last : {seed g e : ℕ} {s : List ℕ} (start n j : ℕ) {p q : ℕ} → start + n ≤ length s → 8 ≤ n → p ≡ start + (n - 16) → JoinIs seed g e s p (start + n) q → lanesHash seed g e (part s start n) j 0 ≡ q
 unfolding lanesHash
 lanes-last {s = s} start n j {p} f d e i =
     rw (part-length s start n f, word-in s start n (n - 16) p (omega arith) (omega arith), word-in s start n (n - 16 + 4) (p + 4) (omega arith) (omega arith), word-in s start n (n - 8) (start + n - 8) (omega arith) (omega arith), word-in s start n (n - 4) (start + n - 4) (omega arith) (omega arith))
     (sym (i .is))
 
-pub joined : {a b g e : ℕ} {s : List ℕ} {p end v₁ w₁ v₂ w₂ x y : ℕ} → WordIs s p v₁ → WordIs s (p + 4) w₁ → WordIs s (end - 8) v₂ → WordIs s (end - 4) w₂ → b ≡ secondKey a → x ≡ folded a g v₁ w₁ → y ≡ folded b e v₂ w₂
-    → JoinIs a g e s p end (bitXor x y)
+pub joined : {seed b g e : ℕ} {s : List ℕ} {p end v₁ w₁ v₂ w₂ x y : ℕ} → WordIs s p v₁ → WordIs s (p + 4) w₁ → WordIs s (end - 8) v₂ → WordIs s (end - 4) w₂ → b ≡ secondSeed seed → x ≡ folded seed g v₁ w₁ → y ≡ folded b e v₂ w₂
+    → JoinIs seed g e s p end (bitXor x y)
 joined i₁ j₁ i₂ j₂ k x y = record { is = rw (x, y, k, i₁ .is, j₁ .is, i₂ .is, j₂ .is) }
 
-pub lanes-joined : {a h : ℕ} {s : List ℕ} {start n q : ℕ} → PartAt a s start n → 8 ≤ n → n ≤ 16 → JoinIs a h h s start (start + n) q → HashIs a h (part s start n) q
-lanes-joined {a} {h} {s} {start} {n} f d l i = let z : (n - 1) / 16 ≡ 0 = omega arith in record { is = sym (lanes-bytes a h s start n (f .room) d ∙ rw z (lanes-last start n 0 (f .room) d (omega arith) i)) }
+pub lanes-joined : {seed h : ℕ} {s : List ℕ} {start n q : ℕ} → PartAt seed s start n → 8 ≤ n → n ≤ 16 → JoinIs seed h h s start (start + n) q → HashIs seed h (part s start n) q
+lanes-joined {seed} {h} {s} {start} {n} f d l i = let z : (n - 1) / 16 ≡ 0 = omega arith in record { is = sym (lanes-bytes seed h s start n (f .room) d ∙ rw z (lanes-last start n 0 (f .room) d (omega arith) i)) }
 
 -- the loop of `hash_long`: of n bytes at start, k from p on are left
-pub record Blocks (a b h : ℕ) (s : List ℕ) (start n g e p k : ℕ) : Type 0 where
-  pub second : b ≡ secondKey a
+pub record Blocks (seed b h : ℕ) (s : List ℕ) (start n g e p k : ℕ) : Type 0 where
+  pub second : b ≡ secondSeed seed
   pub room : start + n ≤ length s
   pub long : 16 < n
   pub some : 0 < k
   pub from : start ≤ p
   pub fit : p + k ≡ start + n
-  pub leads : bytesHash a h (part s start n) ≡ lanesHash a g e (part s start n) (p - start) ((k - 1) / 16)
+  pub leads : bytesHash seed h (part s start n) ≡ lanesHash seed g e (part s start n) (p - start) ((k - 1) / 16)
 
-block : (a g e : ℕ) (x : List ℕ) (j m : ℕ) → lanesHash a g e x j (suc m) ≡ lanesHash a (folded a g (wordIn x j) (wordIn x (j + 4))) (folded (secondKey a) e (wordIn x (j + 8)) (wordIn x (j + 12))) x (j + 16) m
+block : (seed g e : ℕ) (x : List ℕ) (j m : ℕ) → lanesHash seed g e x j (suc m) ≡ lanesHash seed (folded seed g (wordIn x j) (wordIn x (j + 4))) (folded (secondSeed seed) e (wordIn x (j + 8)) (wordIn x (j + 12))) x (j + 16) m
 unfolding lanesHash
-block a g e x j m = refl
+block seed g e x j m = refl
 
-module _ {a b h : ℕ} {s : List ℕ} {start n : ℕ} where
-  pub blocks-start : PartAt a s start n → b ≡ secondKey a → 16 < n → Blocks a b h s start n h h start n
-  blocks-start f k l = let z : start - start ≡ 0 = omega arith in record { second = k; room = f .room; long = l; some = omega arith; from = omega arith; fit = omega arith; leads = lanes-bytes a h s start n (f .room) (omega arith) ∙ rw z }
+module _ {seed b h : ℕ} {s : List ℕ} {start n : ℕ} where
+  pub blocks-start : PartAt seed s start n → b ≡ secondSeed seed → 16 < n → Blocks seed b h s start n h h start n
+  blocks-start f k l = let z : start - start ≡ 0 = omega arith in record { second = k; room = f .room; long = l; some = omega arith; from = omega arith; fit = omega arith; leads = lanes-bytes seed h s start n (f .room) (omega arith) ∙ rw z }
 
-  module _ {g e p k : ℕ} (l : Blocks a b h s start n g e p k) where
+  module _ {g e p k : ℕ} (l : Blocks seed b h s start n g e p k) where
     pub blocks-second : b < 4294967296
     blocks-second = omega (arith, l .second)
 
@@ -136,7 +137,7 @@ module _ {a b h : ℕ} {s : List ℕ} {start n : ℕ} where
     blocks-room = omega (arith, l .fit, l .room)
 
     pub blocks-more : {v₁ w₁ v₂ w₂ g′ e′ : ℕ} → 16 < k → WordIs s p v₁ → WordIs s (p + 4) w₁ → WordIs s (p + 8) v₂ → WordIs s (p + 12) w₂
-        → g′ ≡ folded a g v₁ w₁ → e′ ≡ folded b e v₂ w₂ → Blocks a b h s start n g′ e′ (p + 16) (k - 16)
+        → g′ ≡ folded seed g v₁ w₁ → e′ ≡ folded b e v₂ w₂ → Blocks seed b h s start n g′ e′ (p + 16) (k - 16)
     blocks-more d i₁ j₁ i₂ j₂ x y =
         let i : (k - 1) / 16 ≡ suc ((k - 16 - 1) / 16) = omega arith in
         let j : p - start + 16 ≡ p + 16 - start = omega (arith, l .from) in
@@ -151,12 +152,12 @@ module _ {a b h : ℕ} {s : List ℕ} {start n : ℕ} where
           fit = omega arith;
           leads =
               l .leads
-              ∙ ap (lanesHash a g e (part s start n) (p - start)) i
-              ∙ block a g e (part s start n) (p - start) ((k - 16 - 1) / 16)
+              ∙ ap (lanesHash seed g e (part s start n) (p - start)) i
+              ∙ block seed g e (part s start n) (p - start) ((k - 16 - 1) / 16)
               ∙ rw (word-in s start n (p - start) p (omega arith) (omega arith), word-in s start n (p - start + 4) (p + 4) (omega arith) (omega arith), word-in s start n (p - start + 8) (p + 8) (omega arith) (omega arith), word-in s start n (p - start + 12) (p + 12) (omega arith) (omega arith), j, x, y, i₁ .is, j₁ .is, i₂ .is, j₂ .is, l .second);
         }
 
-    pub blocks-end : {q : ℕ} → k ≤ 16 → JoinIs a g e s (p + k - 16) (p + k) q → HashIs a h (part s start n) q
+    pub blocks-end : {q : ℕ} → k ≤ 16 → JoinIs seed g e s (p + k - 16) (p + k) q → HashIs seed h (part s start n) q
     blocks-end d i =
         let z : (k - 1) / 16 ≡ 0 = omega (arith, l .some) in
         let f = l .fit in
@@ -164,26 +165,26 @@ module _ {a b h : ℕ} {s : List ℕ} {start n : ℕ} where
 
 -- ---- the hash of a text, and of a key
 
-pub text-hash : {a h g q : ℕ} {s : List ℕ} {p n : ℕ} → TextAt s p → WordIs s p n → g ≡ mixed a h n → HashIs a g (part s (p + 4) n) q → TextHash a h s p q
+pub text-hash : {seed h g q : ℕ} {s : List ℕ} {p n : ℕ} → TextAt s p → WordIs s p n → g ≡ mixed seed h n → HashIs seed g (part s (p + 4) n) q → TextHash seed h s p q
 unfolding textHash
-text-hash {a} {h} {s = s} {p} {n} t e i l = record { is = l .is ∙ sym (rw (text-part t e, part-length s (p + 4) n (text-room t e), ← i)) }
+text-hash {seed} {h} {s = s} {p} {n} t e i l = record { is = l .is ∙ sym (rw (text-part t e, part-length s (p + 4) n (text-room t e), ← i)) }
 
 -- no package has the hash of an empty one
-empty-hash : (a : ℕ) → textHash a 0 [] ≡ 0
+empty-hash : (seed : ℕ) → textHash seed 0 [] ≡ 0
 unfolding textHash bytesHash shortHash pick
-empty-hash a = rw (xor-zero-l 0) (omega arith)
+empty-hash seed = rw (xor-zero-l 0) (omega arith)
 
-module _ {t : Table} {a : ℕ} {s : List ℕ} {p : ℕ} where
-  pub hash-field : t ≡ Fields → PackageHash a t s p 0
-  hash-field e = rw e (record { is = sym (empty-hash a) })
+module _ {t : Table} {seed : ℕ} {s : List ℕ} {p : ℕ} where
+  pub hash-field : t ≡ Fields → PackageHash seed t s p 0
+  hash-field e = rw e (record { is = sym (empty-hash seed) })
 
-  pub hash-method : {m : Item} → t ≡ Methods m → PackageHash a t s p 0
-  hash-method e = rw e (record { is = sym (empty-hash a) })
+  pub hash-method : {m : Item} → t ≡ Methods m → PackageHash seed t s p 0
+  hash-method e = rw e (record { is = sym (empty-hash seed) })
 
-  pub hash-identity : {x q : ℕ} → t ≡ Identities → PackageIs s p x → TextHash a 0 s x q → PackageHash a t s p q
+  pub hash-identity : {x q : ℕ} → t ≡ Identities → PackageIs s p x → TextHash seed 0 s x q → PackageHash seed t s p q
   hash-identity e w i = rw e (record { is = i .is ∙ rw (w .is) })
 
-  pub hash-key : {h g x q : ℕ} → Placed (formatIn t) s p → PackageHash a t s p h → TextHash a h s p g → x ≡ mixed a g 0 → q ≡ mixed a x 0 → KeyHash a t s p q
+  pub hash-key : {h g x q : ℕ} → Placed (formatIn t) s p → PackageHash seed t s p h → TextHash seed h s p g → x ≡ mixed seed g 0 → q ≡ mixed seed x 0 → KeyHash seed t s p q
   unfolding keyHash
   hash-key w i j k l = record { is = l ∙ rw (k, j .is, i .is, key-name t (w .stands), key-package t (w .stands)) }
 

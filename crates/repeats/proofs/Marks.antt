@@ -14,8 +14,8 @@ use Rattle.items.specs.Contract.{TextAt, WordIs, Past, Items}
 use Rattle.items.proofs.Texts.{piece, text-part, text-length}
 use Rattle.items.proofs.Walking.{Walking, walking-start, walking-next}
 use Rattle.repeats.specs.Keys.{Key, repeatAt, FirstRepeat}
-use Rattle.repeats.specs.Tables.{keysAt, Standing}
-use Rattle.repeats.specs.Marks.{markOf, MarkIs, Marked, AllNew}
+use Rattle.repeats.specs.Tables.{keysAt, MarkIs, Standing}
+use Rattle.repeats.specs.Marks.{markOf, Marked, AllNew}
 use Rattle.repeats.proofs.Bits.{bits-stay, bits-set}
 use Rattle.repeats.proofs.Keys.{repeat-none}
 use Rattle.repeats.proofs.Tables.{walking-stands, standing-text, standing-name}

@@ -1,5 +1,5 @@
 pub mod Keys
-pub mod Tables
 pub mod Marks
 pub mod Hashes
 pub mod Filters
+pub mod Tables

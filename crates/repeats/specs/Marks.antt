@@ -5,15 +5,10 @@ use mathlib.Core.List.{List}
 use mathlib.Core.Bool.{Bool, true}
 use lib.ListN.{length, getD}
 use lib.Bits.{bitAnd}
-use Rattle.items.specs.Items.{textAt}
 use Rattle.repeats.specs.Keys.{Key, FirstRepeat}
 
 unfoldable pub markOf : List ℕ → ℕ
 markOf x = 1 * 2 ^ ((length x + getD x (length x - 1) 0) % 64) % 2 ^ 64
-
--- of the text at p
-pub record MarkIs (s : List ℕ) (p q : ℕ) : Type 0 where
-  pub is : q ≡ markOf (textAt s p)
 
 -- m has the marks of the first i keys
 pub record Marked (keys : ℕ → Key) (i m : ℕ) : Type 0 where

@@ -12,9 +12,11 @@ use Rattle.items.specs.declared.Table.{Table}
 use Rattle.items.specs.declared.Table.the-variants.{Fields, Methods, Identities}
 use Rattle.items.specs.Walk.{valueAt, lastAt}
 use Rattle.items.specs.Items.{nameOf, textAt}
-use Rattle.items.specs.Tables.{itemOf, formatIn, packageOf, keyOf}
+use Rattle.items.specs.Tables.{itemOf, formatIn, packageOf, keyOf, packageText}
 use Rattle.items.specs.Contract.{After}
 use Rattle.repeats.specs.Keys.{Key}
+use Rattle.repeats.specs.Marks.{markOf}
+use Rattle.repeats.specs.Hashes.{textHash, keyHash}
 
 -- "_" is exempt in 16 and 19
 abbrev pub exempt : Table → List ℕ → Bool
@@ -36,8 +38,27 @@ keyAt t s p = keyIn t (valueAt (formatIn t) s p)
 unfoldable pub keysAt : Table → List ℕ → ℕ → ℕ → Key
 keysAt t s from k = keyAt t s (lastAt (formatIn t) k s from)
 
+-- ---- what the code tells of the item at p
+
 pub record ExemptIs (t : Table) (s : List ℕ) (p : ℕ) (q : Bool) : Type 0 where
   pub is : q ≡ exempt t (textAt s p)
+
+-- its name's mark
+pub record MarkIs (s : List ℕ) (p q : ℕ) : Type 0 where
+  pub is : q ≡ markOf (textAt s p)
+
+-- the hash of the text at p
+pub record TextHash (seed h : ℕ) (s : List ℕ) (p q : ℕ) : Type 0 where
+  pub is : q ≡ textHash seed h (textAt s p)
+
+-- of its package, and of its key
+pub record PackageHash (seed : ℕ) (t : Table) (s : List ℕ) (p q : ℕ) : Type 0 where
+  pub is : q ≡ textHash seed 0 (packageText t s p)
+
+pub record KeyHash (seed : ℕ) (t : Table) (s : List ℕ) (p q : ℕ) : Type 0 where
+  pub is : q ≡ keyHash seed (keyAt t s p)
+
+-- ---- its place among the items
 
 -- Item i, which stands at p.
 pub record Standing (t : Table) (s : List ℕ) (from i p : ℕ) : Type 0 where

@@ -6,10 +6,10 @@ ghost use lib.ListN.{length};
 ghost use Rattle.format.specs.Reading.{part};
 ghost use Rattle.items.specs.Tables.{formatIn};
 ghost use Rattle.repeats.specs.Keys.{repeatAt, FirstRepeat};
-ghost use Rattle.repeats.specs.Tables.{keysAt, ExemptIs, Standing, Within};
-ghost use Rattle.repeats.specs.Marks.{MarkIs, Marked, AllNew};
-ghost use Rattle.repeats.specs.Hashes.{mixed, folded, secondKey, PartAt, JoinIs, HashIs, TextHash, PackageHash, KeyHash};
+ghost use Rattle.repeats.specs.Marks.{Marked, AllNew};
+ghost use Rattle.repeats.specs.Hashes.{mixed, folded, secondSeed, PartAt, JoinIs, HashIs};
 ghost use Rattle.repeats.specs.Filters.{maskOf, Lacks, Entered, Outside, Classed, Chosen, Noted, Filter, Probed, PassedOr, Suspects, FirstOr};
+ghost use Rattle.repeats.specs.Tables.{keysAt, ExemptIs, MarkIs, TextHash, PackageHash, KeyHash, Standing, Within};
 ghost use Rattle.items.specs.Contract.{TextAt, Placed, Items};
 use items::Table;
 
@@ -125,29 +125,29 @@ fn scan(s: &[u8], table: Table, from: usize, n: usize) -> usize
 
 // ---- a hash of an item's key: its package, then its name
 
-fn mix(key: u64, h: u64, w: u64) -> u64
-    requires { ⌜ key < 4294967296 ⌝ }
-    ensures { λ q. ⌜ q ≡ mixed key h w ⌝ }
+fn mix(seed: u64, h: u64, w: u64) -> u64
+    requires { ⌜ seed < 4294967296 ⌝ }
+    ensures { λ q. ⌜ q ≡ mixed seed h w ⌝ }
 {
     let x = h ^ w;
-    (x % 4294967296) * key + x / 4294967296
+    (x % 4294967296) * seed + x / 4294967296
 }
 
-// Two words at once: half of the hash and a word by the key, and by another.
-fn fold(key: u64, h: u64, v: u64, w: u64) -> u64
-    requires { ⌜ (key < 4294967296) × (v < 4294967296) × (w < 4294967296) ⌝ }
-    ensures { λ q. ⌜ q ≡ folded key h v w ⌝ }
+// Two words at once: half of the hash and a word by the seed, and by another factor.
+fn fold(seed: u64, h: u64, v: u64, w: u64) -> u64
+    requires { ⌜ (seed < 4294967296) × (v < 4294967296) × (w < 4294967296) ⌝ }
+    ensures { λ q. ⌜ q ≡ folded seed h v w ⌝ }
 {
     let x = (h % 4294967296) ^ v;
     let y = (h / 4294967296) ^ w;
-    let other = (key + 1013904242) % 4294967296;
-    (x * key) ^ (y * other)
+    let other = (seed + 1013904242) % 4294967296;
+    (x * seed) ^ (y * other)
 }
 
 // Fewer than eight bytes: the first four and the last four, or else the first, the middle and the last.
-fn hash_short(s: &[u8], start: usize, len: usize, key: u64, h: u64) -> u64
-    requires { ⌜ (PartAt key (now s) start len) × (len < 8) ⌝ }
-    ensures { λ q. ⌜ HashIs key h (part (now (s .entry)) start len) q ⌝ }
+fn hash_short(s: &[u8], start: usize, len: usize, seed: u64, h: u64) -> u64
+    requires { ⌜ (PartAt seed (now s) start len) × (len < 8) ⌝ }
+    ensures { λ q. ⌜ HashIs seed h (part (now (s .entry)) start len) q ⌝ }
 {
     if len == 0 {
         return h;
@@ -155,39 +155,39 @@ fn hash_short(s: &[u8], start: usize, len: usize, key: u64, h: u64) -> u64
     let end = start + len;
     if len < 4 {
         let v = wide(s[start]) + 256 * wide(s[start + len / 2]);
-        return fold(key, h, v, wide(s[end - 1]));
+        return fold(seed, h, v, wide(s[end - 1]));
     }
     let v = items::word_at(s, start) as u64;
     let w = items::word_at(s, end - 4) as u64;
-    fold(key, h, v, w)
+    fold(seed, h, v, w)
 }
 
-// Of the second lane. No two words are taken in by one factor, or a bit of one could make up for a bit of the other under many keys.
-fn second_key(key: u64) -> u64
-    requires { ⌜ key < 4294967296 ⌝ }
-    ensures { λ q. ⌜ q ≡ secondKey key ⌝ }
+// Of the second lane. No two words are taken in by one factor, or a bit of one could make up for a bit of the other under many seeds.
+fn second_seed(seed: u64) -> u64
+    requires { ⌜ seed < 4294967296 ⌝ }
+    ensures { λ q. ⌜ q ≡ secondSeed seed ⌝ }
 {
-    (key + 2773480762) % 4294967296
+    (seed + 2773480762) % 4294967296
 }
 
 // The two lanes taken on over the eight bytes at p and the eight before end, and joined.
-fn join(s: &[u8], p: usize, end: usize, key: u64, lane1: u64, lane2: u64) -> u64
-    requires { ⌜ (p + 8 ≤ end) × (end ≤ length (now s)) × (key < 4294967296) ⌝ }
-    ensures { λ q. ⌜ JoinIs key lane1 lane2 (now (s .entry)) p end q ⌝ }
+fn join(s: &[u8], p: usize, end: usize, seed: u64, lane1: u64, lane2: u64) -> u64
+    requires { ⌜ (p + 8 ≤ end) × (end ≤ length (now s)) × (seed < 4294967296) ⌝ }
+    ensures { λ q. ⌜ JoinIs seed lane1 lane2 (now (s .entry)) p end q ⌝ }
 {
     let v1 = items::word_at(s, p) as u64;
     let w1 = items::word_at(s, p + 4) as u64;
     let v2 = items::word_at(s, end - 8) as u64;
     let w2 = items::word_at(s, end - 4) as u64;
-    fold(key, lane1, v1, w1) ^ fold(second_key(key), lane2, v2, w2)
+    fold(seed, lane1, v1, w1) ^ fold(second_seed(seed), lane2, v2, w2)
 }
 
 // More than sixteen bytes: sixteen at a time in two lanes, which do not wait for each other, and then the last sixteen.
-fn hash_long(s: &[u8], start: usize, len: usize, key: u64, h: u64) -> u64
-    requires { ⌜ (PartAt key (now s) start len) × (16 < len) ⌝ }
-    ensures { λ q. ⌜ HashIs key h (part (now (s .entry)) start len) q ⌝ }
+fn hash_long(s: &[u8], start: usize, len: usize, seed: u64, h: u64) -> u64
+    requires { ⌜ (PartAt seed (now s) start len) × (16 < len) ⌝ }
+    ensures { λ q. ⌜ HashIs seed h (part (now (s .entry)) start len) q ⌝ }
 {
-    let second = second_key(key);
+    let second = second_seed(seed);
     let mut lane1 = h;
     let mut lane2 = h;
     let mut p = start;
@@ -197,60 +197,60 @@ fn hash_long(s: &[u8], start: usize, len: usize, key: u64, h: u64) -> u64
         let w1 = items::word_at(s, p + 4) as u64;
         let v2 = items::word_at(s, p + 8) as u64;
         let w2 = items::word_at(s, p + 12) as u64;
-        lane1 = fold(key, lane1, v1, w1);
+        lane1 = fold(seed, lane1, v1, w1);
         lane2 = fold(second, lane2, v2, w2);
         p += 16;
         k -= 16;
     }
     let end = p + k;
-    join(s, end - 16, end, key, lane1, lane2)
+    join(s, end - 16, end, seed, lane1, lane2)
 }
 
 // The hash h taken on over the len bytes at start.
-fn hash_bytes(s: &[u8], start: usize, len: usize, key: u64, h: u64) -> u64
-    requires { ⌜ PartAt key (now s) start len ⌝ }
-    ensures { λ q. ⌜ HashIs key h (part (now (s .entry)) start len) q ⌝ }
+fn hash_bytes(s: &[u8], start: usize, len: usize, seed: u64, h: u64) -> u64
+    requires { ⌜ PartAt seed (now s) start len ⌝ }
+    ensures { λ q. ⌜ HashIs seed h (part (now (s .entry)) start len) q ⌝ }
 {
     if len < 8 {
-        return hash_short(s, start, len, key, h);
+        return hash_short(s, start, len, seed, h);
     }
     if 16 < len {
-        return hash_long(s, start, len, key, h);
+        return hash_long(s, start, len, seed, h);
     }
-    join(s, start, start + len, key, h, h)
+    join(s, start, start + len, seed, h, h)
 }
 
-// The hash h taken on over the text at p. Its length goes in first, times the key: or a name and a package would have the hash of each other
-// split of their bytes, and two lanes that start from what is known could be made to cancel out under every key.
-fn hash_text(s: &[u8], p: usize, key: u64, h: u64) -> u64
-    requires { ⌜ (TextAt (now s) p) × (key < 4294967296) ⌝ }
-    ensures { λ q. ⌜ TextHash key h (now (s .entry)) p q ⌝ }
+// The hash h taken on over the text at p. Its length goes in first, times the seed: or a name and a package would have the hash of each other
+// split of their bytes, and two lanes that start from what is known could be made to cancel out under every seed.
+fn hash_text(s: &[u8], p: usize, seed: u64, h: u64) -> u64
+    requires { ⌜ (TextAt (now s) p) × (seed < 4294967296) ⌝ }
+    ensures { λ q. ⌜ TextHash seed h (now (s .entry)) p q ⌝ }
 {
     let n = items::word_at(s, p);
-    hash_bytes(s, p + 4, n, key, mix(key, h, n as u64))
+    hash_bytes(s, p + 4, n, seed, mix(seed, h, n as u64))
 }
 
 // No package has the hash of an empty one.
-fn hash_package(s: &[u8], table: Table, p: usize, key: u64) -> u64
-    requires { ⌜ (Placed (formatIn table) (now s) p) × (key < 4294967296) ⌝ }
-    ensures { λ q. ⌜ PackageHash key table (now (s .entry)) p q ⌝ }
+fn hash_package(s: &[u8], table: Table, p: usize, seed: u64) -> u64
+    requires { ⌜ (Placed (formatIn table) (now s) p) × (seed < 4294967296) ⌝ }
+    ensures { λ q. ⌜ PackageHash seed table (now (s .entry)) p q ⌝ }
 {
     match table {
         Table::Fields => 0,
         Table::Methods(_) => 0,
         Table::Identities => {
             let package = items::package_at(s, p);
-            hash_text(s, package, key, 0)
+            hash_text(s, package, seed, 0)
         }
     }
 }
 
-fn hash_key(s: &[u8], table: Table, p: usize, key: u64) -> u64
-    requires { ⌜ (Placed (formatIn table) (now s) p) × (key < 4294967296) ⌝ }
-    ensures { λ q. ⌜ KeyHash key table (now (s .entry)) p q ⌝ }
+fn hash_key(s: &[u8], table: Table, p: usize, seed: u64) -> u64
+    requires { ⌜ (Placed (formatIn table) (now s) p) × (seed < 4294967296) ⌝ }
+    ensures { λ q. ⌜ KeyHash seed table (now (s .entry)) p q ⌝ }
 {
-    let h = hash_text(s, p, key, hash_package(s, table, p, key));
-    mix(key, mix(key, h, 0), 0)
+    let h = hash_text(s, p, seed, hash_package(s, table, p, seed));
+    mix(seed, mix(seed, h, 0), 0)
 }
 
 // ---- filters: a hash that was entered has left six bits in one of the words
@@ -294,7 +294,7 @@ fn enter(filter: &mut [u64], h: u64) -> bool
 fn outside(h: u64, lo: u64, hi: u64) -> bool
     ensures { λ q. ⌜ Outside lo hi h q ⌝ }
 {
-    // Of the lower half, which is even: the upper half stays below the key.
+    // Of the lower half, which is even: the upper half stays below the seed.
     let class = h / 65536 % 65536;
     if class < lo {
         return true;
@@ -314,15 +314,15 @@ fn probed(
     p: usize,
     lo: u64,
     hi: u64,
-    key: u64,
+    seed: u64,
     left: usize,
     filter: &mut [u64],
     suspects: &[u64],
 ) -> Probe
-    requires { ⌜ (Standing table (now s) from i p) × (Filter (Chosen lo hi (now suspects)) key (keysAt table (now s) from) i (now filter)) × (key < 4294967296) × (0 < length (now suspects)) ⌝ }
-    ensures { λ q. ⌜ Probed (Chosen lo hi (now (suspects .entry))) key (keysAt table (now (s .entry)) from) i (now (filter .exit)) q ⌝ }
+    requires { ⌜ (Standing table (now s) from i p) × (Filter (Chosen lo hi (now suspects)) seed (keysAt table (now s) from) i (now filter)) × (seed < 4294967296) × (0 < length (now suspects)) ⌝ }
+    ensures { λ q. ⌜ Probed (Chosen lo hi (now (suspects .entry))) seed (keysAt table (now (s .entry)) from) i (now (filter .exit)) q ⌝ }
 {
-    let h = hash_key(s, table, p, key);
+    let h = hash_key(s, table, p, seed);
     if outside(h, lo, hi) {
         return Probe::Next(left);
     }
@@ -352,18 +352,18 @@ fn pass(
     n: usize,
     lo: u64,
     hi: u64,
-    key: u64,
+    seed: u64,
     filter: &mut [u64],
     suspects: &[u64],
 ) -> Outcome
-    requires { ⌜ (Items (formatIn table) n (now s) from) × (0 < length (now filter)) × (key < 4294967296) × (0 < length (now suspects)) ⌝ }
-    ensures { λ q. ⌜ PassedOr (Chosen lo hi (now (suspects .entry))) key (keysAt table (now (s .entry)) from) n q ⌝ }
+    requires { ⌜ (Items (formatIn table) n (now s) from) × (0 < length (now filter)) × (seed < 4294967296) × (0 < length (now suspects)) ⌝ }
+    ensures { λ q. ⌜ PassedOr (Chosen lo hi (now (suspects .entry))) seed (keysAt table (now (s .entry)) from) n q ⌝ }
 {
     let mut left: usize = 32;
     let mut p = from;
     let mut i = 0;
     while i < n {
-        match probed(s, table, from, i, p, lo, hi, key, left, filter, suspects) {
+        match probed(s, table, from, i, p, lo, hi, seed, left, filter, suspects) {
             Probe::Repeat => {
                 return Outcome::First(i);
             }
@@ -402,17 +402,17 @@ fn suspect(
     n: usize,
     lo: u64,
     hi: u64,
-    key: u64,
+    seed: u64,
     filter: &mut [u64],
     suspects: &mut [u64],
 )
-    requires { ⌜ (Items (formatIn table) n (now s) from) × (0 < length (now filter)) × (key < 4294967296) × (0 < length (now suspects)) ⌝ }
-    ensures { λ q. ⌜ Suspects lo hi key (keysAt table (now (s .entry)) from) n (now (suspects .exit)) ⌝ }
+    requires { ⌜ (Items (formatIn table) n (now s) from) × (0 < length (now filter)) × (seed < 4294967296) × (0 < length (now suspects)) ⌝ }
+    ensures { λ q. ⌜ Suspects lo hi seed (keysAt table (now (s .entry)) from) n (now (suspects .exit)) ⌝ }
 {
     let mut p = from;
     let mut i = 0;
     while i < n {
-        let h = hash_key(s, table, p, key);
+        let h = hash_key(s, table, p, seed);
         note(h, lo, hi, filter, suspects);
         p = items::past_item(s, table, p);
         i += 1;
@@ -429,45 +429,45 @@ fn clear(filter: &mut [u64]) {
 
 // ---- tables of each size
 
-// The first repeat of a small table by this key: one pass with a small filter, each item being a suspect.
-fn few(s: &[u8], table: Table, from: usize, n: usize, key: u64) -> Outcome
-    requires { ⌜ (Items (formatIn table) n (now s) from) × (key < 4294967296) ⌝ }
+// The first repeat of a small table under this seed: one pass with a small filter, each item being a suspect.
+fn few(s: &[u8], table: Table, from: usize, n: usize, seed: u64) -> Outcome
+    requires { ⌜ (Items (formatIn table) n (now s) from) × (seed < 4294967296) ⌝ }
     ensures { λ q. ⌜ FirstOr (keysAt table (now (s .entry)) from) n q ⌝ }
 {
     let mut filter = [0u64; 1024];
     let suspects = [18446744073709551615u64; 1];
-    pass(s, table, from, n, 0, 65536, key, &mut filter, &suspects)
+    pass(s, table, from, n, 0, 65536, seed, &mut filter, &suspects)
 }
 
-fn middle(s: &[u8], table: Table, from: usize, n: usize, key: u64) -> Outcome
-    requires { ⌜ (Items (formatIn table) n (now s) from) × (key < 4294967296) ⌝ }
+fn middle(s: &[u8], table: Table, from: usize, n: usize, seed: u64) -> Outcome
+    requires { ⌜ (Items (formatIn table) n (now s) from) × (seed < 4294967296) ⌝ }
     ensures { λ q. ⌜ FirstOr (keysAt table (now (s .entry)) from) n q ⌝ }
 {
     let mut filter = [0u64; 16384];
     let suspects = [18446744073709551615u64; 1];
-    pass(s, table, from, n, 0, 65536, key, &mut filter, &suspects)
+    pass(s, table, from, n, 0, 65536, seed, &mut filter, &suspects)
 }
 
 // The first repeat of the items of these classes: a pass that finds the suspects, about one in thirty, and one that compares them. A filter that
 // the second alone could rest on has room for an eighth of the items.
-fn two_passes(s: &[u8], table: Table, from: usize, n: usize, lo: u64, hi: u64, key: u64) -> Outcome
-    requires { ⌜ (Items (formatIn table) n (now s) from) × (key < 4294967296) ⌝ }
-    ensures { λ q. ⌜ PassedOr (Classed lo hi) key (keysAt table (now (s .entry)) from) n q ⌝ }
+fn two_passes(s: &[u8], table: Table, from: usize, n: usize, lo: u64, hi: u64, seed: u64) -> Outcome
+    requires { ⌜ (Items (formatIn table) n (now s) from) × (seed < 4294967296) ⌝ }
+    ensures { λ q. ⌜ PassedOr (Classed lo hi) seed (keysAt table (now (s .entry)) from) n q ⌝ }
 {
     let mut filter = [0u64; 16384];
     let mut suspects = [0u64; 2048];
-    suspect(s, table, from, n, lo, hi, key, &mut filter, &mut suspects);
+    suspect(s, table, from, n, lo, hi, seed, &mut filter, &mut suspects);
     clear(&mut filter);
-    pass(s, table, from, n, lo, hi, key, &mut filter, &suspects)
+    pass(s, table, from, n, lo, hi, seed, &mut filter, &suspects)
 }
 
-// The first repeat of any table by this key: one pass, or two for each 196608 items.
-fn many(s: &[u8], table: Table, from: usize, n: usize, key: u64) -> Outcome
-    requires { ⌜ (Items (formatIn table) n (now s) from) × (key < 4294967296) ⌝ }
+// The first repeat of any table under this seed: one pass, or two for each 196608 items.
+fn many(s: &[u8], table: Table, from: usize, n: usize, seed: u64) -> Outcome
+    requires { ⌜ (Items (formatIn table) n (now s) from) × (seed < 4294967296) ⌝ }
     ensures { λ q. ⌜ FirstOr (keysAt table (now (s .entry)) from) n q ⌝ }
 {
     if n < MANY {
-        return middle(s, table, from, n, key);
+        return middle(s, table, from, n, seed);
     }
     let parts = n / CLASS + 1;
     let classes = 65536 / (parts as u64) + 1;
@@ -475,7 +475,7 @@ fn many(s: &[u8], table: Table, from: usize, n: usize, key: u64) -> Outcome
     let mut lo: u64 = 0;
     while lo < 65536 {
         let hi = lo + classes;
-        let Outcome::First(q) = two_passes(s, table, from, first, lo, hi, key) else {
+        let Outcome::First(q) = two_passes(s, table, from, first, lo, hi, seed) else {
             return Outcome::GaveUp;
         };
         first = q;
@@ -498,42 +498,42 @@ fn past_items(s: &[u8], table: Table, from: usize, n: usize) -> usize
     p
 }
 
-// A key that depends on every byte of the table, by a hash under a key that no filter takes: names can't be made to collide under it
+// A seed that depends on every byte of the table, by a hash under a seed that no filter takes: names can't be made to collide under it
 // without changing it.
-fn fresh_key(s: &[u8], table: Table, from: usize, n: usize, key: u64) -> u64
-    requires { ⌜ (Items (formatIn table) n (now s) from) × (key < 4294967296) ⌝ }
+fn fresh_seed(s: &[u8], table: Table, from: usize, n: usize, seed: u64) -> u64
+    requires { ⌜ (Items (formatIn table) n (now s) from) × (seed < 4294967296) ⌝ }
     ensures { λ q. ⌜ q < 4294967296 ⌝ }
 {
     let end = past_items(s, table, from, n);
     if end <= from {
-        return key;
+        return seed;
     }
-    let h = hash_bytes(s, from, end - from, 3266489917, key);
+    let h = hash_bytes(s, from, end - from, 3266489917, seed);
     2147483649 + h / 65536 % 1073741824 * 2
 }
 
-// The first repeat, with a large filter or a small one. Names that were made to have the same hash under one key are told apart under the
-// next. The first key stands apart: a function that is called twice is not merged into this one, and the large filter's frame stays out of it.
+// The first repeat, with a large filter or a small one. Names that were made to have the same hash under one seed are told apart under the
+// next. The first seed stands apart: a function that is called twice is not merged into this one, and the large filter's frame stays out of it.
 fn searched(s: &[u8], table: Table, from: usize, n: usize, large: bool) -> usize
     requires { ⌜ Items (formatIn table) n (now s) from ⌝ }
     ensures { λ q. ⌜ FirstRepeat (keysAt table (now (s .entry)) from) n q ⌝ }
 {
-    let mut key: u64 = 2654435761;
+    let mut seed: u64 = 2654435761;
     if large {
-        if let Outcome::First(first) = many(s, table, from, n, key) {
+        if let Outcome::First(first) = many(s, table, from, n, seed) {
             return first;
         }
-    } else if let Outcome::First(first) = few(s, table, from, n, key) {
+    } else if let Outcome::First(first) = few(s, table, from, n, seed) {
         return first;
     }
     let mut k: usize = 1;
     while k < 16 {
-        key = fresh_key(s, table, from, n, key);
+        seed = fresh_seed(s, table, from, n, seed);
         if large {
-            if let Outcome::First(first) = many(s, table, from, n, key) {
+            if let Outcome::First(first) = many(s, table, from, n, seed) {
                 return first;
             }
-        } else if let Outcome::First(first) = few(s, table, from, n, key) {
+        } else if let Outcome::First(first) = few(s, table, from, n, seed) {
             return first;
         }
         k += 1;

@@ -1,6 +1,5 @@
 use borrow.Author.Needs.{needs}
-use Rattle.repeats.proofs.Marks.{scanning}
-use Rattle.repeats.proofs.Marks.{Scanning, scanning-new}
+use Rattle.repeats.proofs.Marks.{scanning, Scanning, scanning-new}
 use Prim.Native.Nat.{_-_}
 use Rattle.items.proofs.Walking.{walking-here}
 use Rattle.repeats.proofs.all_new.Statement.{statement}

@@ -1,17 +1,16 @@
 use borrow.Author.Needs.{needs}
-use Rattle.repeats.proofs.Hashes.{hashing}
-use Rattle.repeats.proofs.Hashes.{Blocks, blocks-more}
+use Rattle.repeats.proofs.Hashes.{hashing, Blocks, blocks-more}
 use Rattle.repeats.proofs.hash_long.Statement.{statement}
 use Rattle.repeats.proofs.hash_long.Tie as tie
 
 abbrev Inv-loop : tie.InvT-loop
-Inv-loop s start len key h second lane1₀ lane2₀ p₀ k₀ lane1 lane2 p k = Blocks key second h s start len lane1 lane2 p k
+Inv-loop s start len seed h second lane1₀ lane2₀ p₀ k₀ lane1 lane2 p k = Blocks seed second h s start len lane1 lane2 p k
 
 abbrev μ-loop : tie.MeasureT-loop
-μ-loop s start len key h second lane1₀ lane2₀ p₀ k₀ lane1 lane2 p k = k
+μ-loop s start len seed h second lane1₀ lane2₀ p₀ k₀ lane1 lane2 p k = k
 
-second-key-requires : tie.Need-second-key-requires Inv-loop μ-loop
-second-key-requires c κs = search (needs, hashing)
+second-seed-requires : tie.Need-second-seed-requires Inv-loop μ-loop
+second-seed-requires c κs = search (needs, hashing)
 
 loop-holds : tie.Need-loop-holds Inv-loop μ-loop
 loop-holds c = search (needs, hashing)
@@ -73,7 +72,7 @@ hash-long-spec =
     (tie.spec
     Inv-loop
     μ-loop
-    second-key-requires
+    second-seed-requires
     loop-holds
     word-at-requires
     add-word-at

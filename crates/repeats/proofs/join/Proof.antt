@@ -27,14 +27,14 @@ word-at-requires-4 c κs = search needs
 fold-requires : tie.Need-fold-requires
 fold-requires c κs = search needs
 
-second-key-requires : tie.Need-second-key-requires
-second-key-requires c κs = search needs
+second-seed-requires : tie.Need-second-seed-requires
+second-seed-requires c κs = search needs
 
 fold-requires-2 : tie.Need-fold-requires-2
 fold-requires-2 c κs = search needs
 
 returns : tie.Need-returns
-returns c = joined (c .before .before .before .before .before .before .word-at .ensures) (c .before .before .before .before .before .word-at2 .ensures) (c .before .before .before .before .word-at3 .ensures) (c .before .before .before .word-at4 .ensures) (c .before .second-key .ensures) (c .before .before .fold .ensures) (c .fold2 .ensures)
+returns c = joined (c .before .before .before .before .before .before .word-at .ensures) (c .before .before .before .before .before .word-at2 .ensures) (c .before .before .before .before .word-at3 .ensures) (c .before .before .before .word-at4 .ensures) (c .before .second-seed .ensures) (c .before .before .fold .ensures) (c .fold2 .ensures)
 
 pub join-spec : {M : Type 1} → statement M
 join-spec =
@@ -48,6 +48,6 @@ join-spec =
     sub-word-at-2
     word-at-requires-4
     fold-requires
-    second-key-requires
+    second-seed-requires
     fold-requires-2
     returns)

@@ -1,6 +1,6 @@
 use borrow.Author.Needs.{needs}
-use Rattle.repeats.proofs.Filters.{firsts}
-use Rattle.repeats.proofs.Filters.{Firsts, firsts-start}
+use Rattle.repeats.proofs.Filters.{firsts, firsts-start}
+use Rattle.repeats.specs.Filters.{Classed, Passed}
 use Prim.Native.Nat.{_+_, _/_, _-_, _≤_, _<_}
 use native.Mathlib.Nat.{div-le-self}
 use native.Mathlib.Omega.{arith}
@@ -10,10 +10,10 @@ use Rattle.repeats.proofs.many.Statement.{statement}
 use Rattle.repeats.proofs.many.Tie as tie
 
 abbrev Inv-loop : tie.InvT-loop
-Inv-loop s table from n key parts classes first₀ lo₀ first lo = (Firsts key (keysAt table s from) n lo first) × (0 < classes) × (classes ≤ 65537)
+Inv-loop s table from n seed parts classes first₀ lo₀ first lo = (Passed (Classed 0 lo) seed (keysAt table s from) n first) × (0 < classes) × (classes ≤ 65537)
 
 abbrev μ-loop : tie.MeasureT-loop
-μ-loop s table from n key parts classes first₀ lo₀ first lo = 65536 - lo
+μ-loop s table from n seed parts classes first₀ lo₀ first lo = 65536 - lo
 
 middle-requires : tie.Need-middle-requires Inv-loop μ-loop
 middle-requires c κs = search (needs, firsts)

@@ -5,10 +5,10 @@ use Rattle.repeats.proofs.mix.Statement.{statement}
 use Rattle.repeats.proofs.mix.Tie as tie
 
 mul-result : tie.Need-mul-result
-mul-result c = record { fits = product-small (c .args .key) (bitXor (c .args .h) (c .args .w)) (c .pre) }
+mul-result c = record { fits = product-small (c .args .seed) (bitXor (c .args .h) (c .args .w)) (c .pre) }
 
 add-result : tie.Need-add-result
-add-result c = record { fits = mixed-small (c .args .key) (bitXor (c .args .h) (c .args .w)) (c .pre) (xor-lt 64 (c .args .h) (c .args .w) (c .fits .h .fits) (c .fits .w .fits)) }
+add-result c = record { fits = mixed-small (c .args .seed) (bitXor (c .args .h) (c .args .w)) (c .pre) (xor-lt 64 (c .args .h) (c .args .w) (c .fits .h .fits) (c .fits .w .fits)) }
 
 returns : tie.Need-returns
 returns c = search needs

@@ -1,4 +1,4 @@
-use Rattle.repeats.proofs.Filters.{noting, outside-high}
+use Rattle.repeats.proofs.Filters.{outside-high}
 use borrow.Author.Tests.{leb-true}
 use borrow.Author.Needs.{needs}
 use Rattle.repeats.proofs.outside.Statement.{statement}

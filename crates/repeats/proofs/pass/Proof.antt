@@ -9,10 +9,10 @@ use Rattle.repeats.proofs.pass.Statement.{statement}
 use Rattle.repeats.proofs.pass.Tie as tie
 
 abbrev Inv-loop : tie.InvT-loop
-Inv-loop s table from n lo hi key filter₀ suspects left₀ p₀ i₀ filter left p i = Passing (Chosen lo hi suspects) key table s from n filter p i × (length filter ≡ length filter₀)
+Inv-loop s table from n lo hi seed filter₀ suspects left₀ p₀ i₀ filter left p i = Passing (Chosen lo hi suspects) seed table s from n filter p i × (length filter ≡ length filter₀)
 
 abbrev μ-loop : tie.MeasureT-loop
-μ-loop s table from n lo hi key filter₀ suspects left₀ p₀ i₀ filter left p i = n - i
+μ-loop s table from n lo hi seed filter₀ suspects left₀ p₀ i₀ filter left p i = n - i
 
 loop-holds : tie.Need-loop-holds Inv-loop μ-loop
 loop-holds c = search (needs, passing)

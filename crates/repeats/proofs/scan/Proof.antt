@@ -1,7 +1,6 @@
 use Rattle.items.proofs.Walking.{walking-here}
 use borrow.Author.Needs.{needs}
-use Rattle.repeats.proofs.Marks.{scanning}
-use Rattle.repeats.proofs.Marks.{Scanning, scanning-asks, scanning-more}
+use Rattle.repeats.proofs.Marks.{scanning, Scanning, scanning-asks, scanning-more}
 use Prim.Native.Nat.{_-_}
 use Rattle.repeats.proofs.scan.Statement.{statement}
 use Rattle.repeats.proofs.scan.Tie as tie

@@ -5,10 +5,10 @@ use Rattle.repeats.proofs.searched.Statement.{statement}
 use Rattle.repeats.proofs.searched.Tie as tie
 
 abbrev Inv-loop : tie.InvT-loop
-Inv-loop s table from n large key₀ k₀ key k = key < 4294967296
+Inv-loop s table from n large seed₀ k₀ seed k = seed < 4294967296
 
 abbrev μ-loop : tie.MeasureT-loop
-μ-loop s table from n large key₀ k₀ key k = 16 - k
+μ-loop s table from n large seed₀ k₀ seed k = 16 - k
 
 many-requires : tie.Need-many-requires Inv-loop μ-loop
 many-requires c κs = search (needs, firsts)
@@ -37,8 +37,8 @@ enum-told-2 c = search (needs, firsts)
 loop-holds : tie.Need-loop-holds Inv-loop μ-loop
 loop-holds c = search (needs, firsts)
 
-fresh-key-requires : tie.Need-fresh-key-requires Inv-loop μ-loop
-fresh-key-requires c κs = search (needs, firsts)
+fresh-seed-requires : tie.Need-fresh-seed-requires Inv-loop μ-loop
+fresh-seed-requires c κs = search (needs, firsts)
 
 many-requires-2 : tie.Need-many-requires-2 Inv-loop μ-loop
 many-requires-2 c κs = search (needs, firsts)
@@ -94,7 +94,7 @@ searched-spec =
     returns-2
     enum-told-2
     loop-holds
-    fresh-key-requires
+    fresh-seed-requires
     many-requires-2
     enum-known-first-3
     returns-3

@@ -1,6 +1,5 @@
 use borrow.Author.Needs.{needs}
-use Rattle.repeats.proofs.Filters.{suspecting}
-use Rattle.repeats.proofs.Filters.{Suspecting, suspecting-more}
+use Rattle.repeats.proofs.Filters.{suspecting, Suspecting, suspecting-more}
 use lib.ListN.{length}
 use Rattle.items.proofs.Walking.{walking-here}
 use Prim.Native.Nat.{_-_}
@@ -9,10 +8,10 @@ use Rattle.repeats.proofs.suspect.Statement.{statement}
 use Rattle.repeats.proofs.suspect.Tie as tie
 
 abbrev Inv-loop : tie.InvT-loop
-Inv-loop s table from n lo hi key filter₀ suspects₀ p₀ i₀ filter suspects p i = Suspecting lo hi key table s from n filter suspects p i × (length filter ≡ length filter₀) × (length suspects ≡ length suspects₀)
+Inv-loop s table from n lo hi seed filter₀ suspects₀ p₀ i₀ filter suspects p i = Suspecting lo hi seed table s from n filter suspects p i × (length filter ≡ length filter₀) × (length suspects ≡ length suspects₀)
 
 abbrev μ-loop : tie.MeasureT-loop
-μ-loop s table from n lo hi key filter₀ suspects₀ p₀ i₀ filter suspects p i = n - i
+μ-loop s table from n lo hi seed filter₀ suspects₀ p₀ i₀ filter suspects p i = n - i
 
 loop-holds : tie.Need-loop-holds Inv-loop μ-loop
 loop-holds c = search (needs, suspecting)

@@ -1,7 +1,7 @@
 use borrow.Author.Needs.{needs}
 use native.Mathlib.Omega.{arith}
-use Rattle.repeats.proofs.fresh_key.Statement.{statement}
-use Rattle.repeats.proofs.fresh_key.Tie as tie
+use Rattle.repeats.proofs.fresh_seed.Statement.{statement}
+use Rattle.repeats.proofs.fresh_seed.Tie as tie
 
 past-items-requires : tie.Need-past-items-requires
 past-items-requires c κs = search needs
@@ -24,8 +24,8 @@ add-result c = search needs
 returns-2 : tie.Need-returns-2
 returns-2 c = search needs
 
-pub fresh-key-spec : {M : Type 1} → statement M
-fresh-key-spec =
+pub fresh-seed-spec : {M : Type 1} → statement M
+fresh-seed-spec =
     tie.close
     (tie.spec
     past-items-requires
