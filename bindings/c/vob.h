@@ -8,7 +8,8 @@
  * or touches a global, so that calls may run at the same time. What the calls ask of a caller is what C asks of any:
  *
  *   - a pointer and its length are memory that is there; the pointer is not null, also where the length is 0;
- *   - the tape is aligned for uint32_t and shares no byte with the pack or a name.
+ *   - the tape is aligned for uint32_t and shares no byte with the pack or a name;
+ *   - the thread has 192 KB of stack left: no call needs more, whatever the pack.
  *
  * A refusal changes no lent memory. Where the answer is taken, the tape's counted words change and no others.
  */

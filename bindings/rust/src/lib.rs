@@ -6,6 +6,8 @@
 //! and texts of [`Error`]; only its private module `ffi` has `unsafe` code, over the
 //! declarations in [`raw`].
 //!
+//! No call needs more than 192 KB of stack, whatever the pack; that is measured and not proved.
+//!
 //! # On the tape
 //!
 //! A number or bool is one word, a 64-bit number low word then high, a text or payload its start in the pack and its length, a
