@@ -214,6 +214,10 @@ text-low {s} {start} {size} h l =
 pub text-sixteen : {s : List ℕ} (start size : ℕ) → start + size ≤ length s → Ascii s (start + size - size) (start + size) → scan (take size (drop start s)) ≡ characters size
 text-sixteen start size h l = text-low h (record { low = λ k x y. l .low k (omega arith) y })
 
+pub text-none : (s : List ℕ) (start : ℕ) {size : ℕ} → size ≡ 0 → scan (take size (drop start s)) ≡ characters 0
+unfolding pick
+text-none s start e = rw e
+
 -- the first 16 bytes and the last, which meet
 pub text-ends : {s : List ℕ} {start size : ℕ} → start + size ≤ length s → size ≤ 32 → Both s start (start + size - 16) 16 → scan (take size (drop start s)) ≡ characters size
 text-ends h i l = text-low h (record { low = λ k x y. low-join (l .first) (l .second) (omega arith) .low k x (omega arith) })

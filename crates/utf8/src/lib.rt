@@ -506,6 +506,9 @@ pub fn try_short(s: &[u8], start: usize, size: usize) -> Tried
         return Tried::Unknown;
     }
     if end < 19 {
+        if size == 0 {
+            return Tried::Characters(0);
+        }
         return Tried::Unknown;
     }
     if low_sixteen(s, end, size) {
