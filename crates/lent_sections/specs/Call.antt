@@ -1,4 +1,4 @@
--- The contracts of the lent section calls: the answer, the tape and the position at exit are the outcome that vob24 defines.
+-- The contract of the lent section call: the answer, the tape and the position at exit are the outcome that vob24 defines.
 use Prim.Native.Nat.{ℕ}
 use mathlib.Core.Path.{_≡_}
 use mathlib.Core.List.{List}

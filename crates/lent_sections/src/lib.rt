@@ -30,7 +30,7 @@ pub fn read_section(pack: &[u8], section: Section, at: &mut Position, tape: &mut
     d.answer
 }
 
-// By value, through the lent call: the borrow checker covers who calls this one.
+// By value, through the lent call, so that the borrow checker covers whoever calls this one.
 pub fn read_section_at(pack: &[u8], section: Section, from: Position, tape: &mut [u32]) -> Lent
     ensures { λ q. ⌜ LentCall (functionsOf section) (sectionOf section) (now (pack .entry)) from (now (tape .entry)) (q .answer) (q .next) (now (tape .exit)) ⌝ }
 {

@@ -1,4 +1,4 @@
-// A place and a budget that the lent section calls advance, and where an answer moves them.
+// A place and a budget that the lent section call advances, and where an answer moves them.
 // The Rust's ByteReader advances its pos and allocation_remaining so.
 ghost use Rattle.positions.specs.Moving.{Fits, Moves};
 use calls::Answer;
