@@ -527,16 +527,14 @@ pub fn try_short(s: &[u8], start: usize, size: usize) -> Tried
     Tried::Characters(size - p.trailing as usize)
 }
 
-// The text of `size` bytes at start. Below PART bytes a test for ASCII of its own is cheaper than parts of 16.
+// The text of `size` bytes at start. ASCII is told in one go: a text without accents is cheapest so, and one with some loses little.
 pub fn scan_at(s: &[u8], start: usize, size: usize) -> Scanned
     requires { ⌜ start + size ≤ length (now s) ⌝ }
     ensures { λ q. ⌜ scanOf q ≡ Utf8.scan (take size (drop start (now (s .entry)))) ⌝ }
 {
     if 32 < size {
-        if size <= PART {
-            if ascii(s, start, start, size) {
-                return Scanned::Characters(size);
-            }
+        if ascii(s, start, start, size) {
+            return Scanned::Characters(size);
         }
     }
     let end = start + size;

@@ -8,7 +8,7 @@ ascii-requires : tie.Need-ascii-requires
 ascii-requires c κs = search needs
 
 returns : tie.Need-returns
-returns c = text-both (omega arith) (c .before .ascii .ensures) (c .if3 .taken)
+returns c = text-both (omega arith) (c .before .ascii .ensures) (c .if2 .taken)
 
 add-end : tie.Need-add-end
 add-end c = search needs
