@@ -83,7 +83,8 @@ fn short(s: &[u8], place: usize, at: usize, tape: &mut [u32]) -> usize
     0
 }
 
-// Hands out how many they are.
+// Hands out how many they are. Where four can be paid, the quick way asks nothing of the budget. `number_any` is called with copies: what is
+// lent to it, or is its answer, stands in memory and not in registers, also where it is not called.
 pub fn number_slot_types(s: &[u8], set: &Settings, c: Cursor, tape: &mut [u32]) -> Number
     requires { ⌜ ReadyAt (now s) c ⌝ }
     ensures { λ q. ⌜ NumberOf (slotTypes (settingsOf (now (set .entry)))) counted (now (s .entry)) c (now (tape .entry)) q (now (tape .exit)) ⌝ }
