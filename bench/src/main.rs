@@ -112,8 +112,8 @@ const CASES: [Case; 19] = [
     Case { name: "short accented constants", make: || packs::accented_constants(300_000), limit: 0.7 },
     Case { name: "accented structs", make: || packs::accented_structs(20_000), limit: 0.7 },
     Case { name: "10,000 names", make: || packs::names(10_000), limit: 0.5 },
-    Case { name: "100,000 names", make: || packs::names(100_000), limit: 1.2 },
-    Case { name: "4,000,000 names", make: || packs::names(4_000_000), limit: 5.0 },
+    Case { name: "100,000 names", make: || packs::names(100_000), limit: 0.5 },
+    Case { name: "4,000,000 names", make: || packs::names(4_000_000), limit: 2.5 },
     Case { name: "100,000 colliding names", make: || packs::colliding(100_000), limit: 2.0 },
 ];
 

@@ -367,7 +367,7 @@ pub fn names(n: usize) -> Vec<u8> {
 }
 
 /// The first seed of the search for repeated names, and the factors that it gives for the four words of a block, two in each lane.
-const HASH_SEED: u64 = 2_654_435_761;
+const FIRST_SEED: u64 = 2_654_435_761;
 const FACTORS: [[u64; 2]; 2] = [[2_654_435_761, 3_668_340_003], [1_132_949_227, 2_146_853_469]];
 
 /// How a lane takes in eight bytes.
@@ -400,7 +400,7 @@ fn same_hash(factors: [u64; 2], hash: u64) -> ([[u64; 2]; 4], u64) {
 pub fn colliding(n: usize) -> Vec<u8> {
     const LENGTH: u64 = 208;
     let lanes = FACTORS.map(|factors| {
-        let mut hash = LENGTH * HASH_SEED;
+        let mut hash = LENGTH * FIRST_SEED;
         [0; 6].map(|_| {
             let (blocks, next) = same_hash(factors, hash);
             hash = next;
