@@ -55,8 +55,10 @@ fn section(t: Tally, h: &[u8], pack: &[u8], words: &[u8], tape: &mut [u32]) -> T
     let t = stored::hold_tape(t, h, words, tape);
     stored::mark(tape);
     let lent = lent_sections::read_section_at(pack, section, Position { place, budget }, tape);
-    let t = stored::hold_answer(t, h, lent.answer);
-    let t = stored::hold_position(t, h, lent.next.place, lent.next.budget);
+    let answer = lent.answer;
+    let next = lent.next;
+    let t = stored::hold_answer(t, h, answer);
+    let t = stored::hold_position(t, h, next.place, next.budget);
     stored::hold_tape(t, h, words, tape)
 }
 
