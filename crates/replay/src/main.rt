@@ -41,20 +41,34 @@ fn section_of(number: u64, functions: u64) -> Section {
     }
 }
 
-// The call by value, and the call that is lent its position, by the function by value over it.
+// The section that a record is about.
+fn section_in(h: &[u8]) -> Section {
+    section_of(
+        stored::number(h, stored::SECTION),
+        stored::long(h, stored::FUNCTIONS),
+    )
+}
+
 fn section(t: Tally, h: &[u8], pack: &[u8], words: &[u8], tape: &mut [u32]) -> Tally {
     let place = stored::long(h, stored::PLACE) as usize;
     let budget = stored::long(h, stored::BUDGET);
-    let section = section_of(
-        stored::number(h, stored::SECTION),
-        stored::long(h, stored::FUNCTIONS),
-    );
     stored::mark(tape);
-    let answer = sections::read_section(pack, section, place, budget, tape);
+    let answer = sections::read_section(pack, section_in(h), place, budget, tape);
     let t = stored::hold_answer(t, h, answer);
-    let t = stored::hold_tape(t, h, words, tape);
+    stored::hold_tape(t, h, words, tape)
+}
+
+// The same by the call that is lent its position, through the function by value over it.
+fn lent_section(t: Tally, h: &[u8], pack: &[u8], words: &[u8], tape: &mut [u32]) -> Tally {
+    let place = stored::long(h, stored::PLACE) as usize;
+    let budget = stored::long(h, stored::BUDGET);
     stored::mark(tape);
-    let lent = lent_sections::read_section_at(pack, section, Position { place, budget }, tape);
+    let lent = lent_sections::read_section_at(
+        pack,
+        section_in(h),
+        Position { place, budget },
+        tape,
+    );
     let answer = lent.answer;
     let next = lent.next;
     let t = stored::hold_answer(t, h, answer);
@@ -99,7 +113,8 @@ fn replay_kind(
         return lookup(t, h, pack, name);
     }
     if kind == SECTION_CALL {
-        return section(t, h, pack, words, tape);
+        let t = section(t, h, pack, words, tape);
+        return lent_section(t, h, pack, words, tape);
     }
     if kind == TEXT {
         return text(t, h, pack);
