@@ -10,8 +10,8 @@ use Rattle.vob24.specs.Grammar.{artifact}
 use Rattle.vob24.specs.Calls as vob
 use Rattle.reader.specs.Contract.{wrongOf}
 use Rattle.reader.specs.declared.Cursor.{Cursor}
-use Rattle.items.specs.Contract.{Items}
-use Rattle.items.specs.Walk.{itemsAt}
+use Rattle.in_place.specs.Contract.{Items}
+use Rattle.in_place.specs.Walk.{itemsAt}
 use Rattle.lookup.specs.declared.Found.{Found}
 
 -- Document 01's values for each case of the companion's answer.
@@ -32,7 +32,7 @@ pub record Looks (set : Settings) (s : List ℕ) (p n : ℕ) (name : List ℕ) (
   pub room : Room s q
 
 -- A count at p, and the artifacts that it says.
-pub record Counted (set : Settings) (s : List ℕ) (p : ℕ) : Type 0 where
+pub record ArtifactsAt (set : Settings) (s : List ℕ) (p : ℕ) : Type 0 where
   pub count : p + 4 ≤ length s
   pub items : Items (artifact set) (little (part s p 4)) s (p + 4)
 
