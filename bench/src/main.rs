@@ -6,6 +6,7 @@
 //!                                      times of nine runs in turns
 //!        bench plot FILE               time against the pack's size, for both, as an SVG
 //!        bench names                   the packs' names, one a line
+//!        bench stack                   each call of the archive on a thread with 256 KB of stack, on tables of many names
 //!        bench once NAME ours|rust     one reading, for a count of instructions
 //!        bench ours SECONDS NAME       our best time alone, in microseconds, for a comparison
 //!
@@ -16,6 +17,7 @@ mod names;
 mod packs;
 mod plot;
 mod programs;
+mod stack;
 
 use original::bytecode::Module;
 use std::hint::black_box;
@@ -189,6 +191,7 @@ fn main() {
         ["compare", old, ref names @ ..] => programs::compare(old, &cases(names)),
         ["plot", file] => plotted(file),
         ["names"] => CASES.iter().for_each(|case| println!("{}", case.name)),
+        ["stack"] => stack::every_call(),
         ["once", name, who] => once(name, who),
         ["ours", time, name] => {
             println!("{}", best_of_ours(&(case(name).make)(), &mut tape(), seconds(time)) * 1e6);

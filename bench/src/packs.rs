@@ -352,23 +352,79 @@ pub fn packed_locations(size: usize) -> Vec<u8> {
     Pack::bare().with(Section::Locations, locations(1, size * 2 / 11)).finish()
 }
 
-/// One struct with the fields of these names.
-fn fields(names: impl ExactSizeIterator<Item = Vec<u8>>) -> Vec<u8> {
-    let mut bytes = Bytes::default();
-    bytes.u32(1).u32(0).u32(names.len() as u32);
-    for (i, name) in names.enumerate() {
-        field(&mut bytes, &name, i);
-    }
-    Pack::bare().with(Section::Structs, bytes).finish()
+/// Names that differ.
+pub fn distinct(n: usize) -> impl ExactSizeIterator<Item = Vec<u8>> {
+    (0..n).map(|i| name(i).into_bytes())
 }
 
 pub fn names(n: usize) -> Vec<u8> {
-    fields((0..n).map(|i| name(i).into_bytes()))
+    in_table(Table::Fields, distinct(n))
 }
 
 /// The first seed of the search for repeated names, and the factors that it gives for the four words of a block, two in each lane.
 const FIRST_SEED: u64 = 2_654_435_761;
 const FACTORS: [[u64; 2]; 2] = [[2_654_435_761, 3_668_340_003], [1_132_949_227, 2_146_853_469]];
+
+/// What a table of a pack holds, one item a name: the fields of a struct, the method names of an interface, the methods of a named type, the
+/// fields of a runtime struct, the methods of a runtime interface.
+#[derive(Clone, Copy, Debug)]
+pub enum Table {
+    Fields,
+    InterfaceNames,
+    NamedMethods,
+    RuntimeFields,
+    RuntimeMethods,
+}
+
+/// A pack whose names stand in one table.
+pub fn in_table(table: Table, names: impl ExactSizeIterator<Item = Vec<u8>>) -> Vec<u8> {
+    let mut bytes = Bytes::default();
+    bytes.u32(1);
+    let section = match table {
+        Table::Fields => {
+            bytes.u32(0);
+            Section::Structs
+        }
+        Table::InterfaceNames => {
+            bytes.text(b"");
+            Section::Interfaces
+        }
+        Table::NamedMethods => {
+            bytes.text(b"").u32(TYPE).u32(TYPE);
+            Section::NamedTypes
+        }
+        Table::RuntimeFields => {
+            bytes.u8(8).u32(0);
+            Section::RuntimeTypes
+        }
+        Table::RuntimeMethods => {
+            bytes.u8(9).u32(0);
+            Section::RuntimeTypes
+        }
+    };
+    bytes.u32(names.len() as u32);
+    for (i, name) in names.enumerate() {
+        match table {
+            Table::Fields => field(&mut bytes, &name, i),
+            Table::InterfaceNames => {
+                bytes.text(&name);
+            }
+            Table::NamedMethods => {
+                bytes.text(&name).u32(0).u8(0).u8(0).u32(0);
+            }
+            Table::RuntimeFields => {
+                bytes.text(&name).u32(TYPE).text(b"").u8(0).text(b"");
+            }
+            Table::RuntimeMethods => {
+                bytes.text(&name).u32(TYPE);
+            }
+        }
+    }
+    if let Table::InterfaceNames = table {
+        bytes.u32(0);
+    }
+    Pack::bare().with(section, bytes).finish()
+}
 
 /// How a lane takes in eight bytes.
 fn fold(factors: [u64; 2], hash: u64, bytes: u64) -> u64 {
@@ -397,7 +453,7 @@ fn same_hash(factors: [u64; 2], hash: u64) -> ([[u64; 2]; 4], u64) {
 
 /// Names of 208 bytes that differ and all have the same hash under the first seed: one of four blocks at each of six places in two lanes, and
 /// then sixteen bytes that are the same.
-pub fn colliding(n: usize) -> Vec<u8> {
+pub fn one_hash(n: usize) -> impl ExactSizeIterator<Item = Vec<u8>> {
     const LENGTH: u64 = 208;
     let lanes = FACTORS.map(|factors| {
         let mut hash = LENGTH * FIRST_SEED;
@@ -407,7 +463,7 @@ pub fn colliding(n: usize) -> Vec<u8> {
             blocks
         })
     });
-    fields((0..n).map(|i| {
+    (0..n).map(move |i| {
         let mut name = Vec::new();
         for k in 0..6 {
             let [one, other] = [0, 1].map(|lane| lanes[lane][k][i >> (4 * k + 2 * lane) & 3]);
@@ -416,5 +472,25 @@ pub fn colliding(n: usize) -> Vec<u8> {
         name.extend(b"all end the same");
         assert_eq!(name.len() as u64, LENGTH);
         name
-    }))
+    })
+}
+
+pub fn colliding(n: usize) -> Vec<u8> {
+    in_table(Table::Fields, one_hash(n))
+}
+
+/// Names of sixteen bytes that differ and are all of the first classes of hashes under the first seed, where names that are evenly spread have
+/// one in 21: the search for repeats looks at all of them at once.
+pub fn one_class(n: usize) -> impl ExactSizeIterator<Item = Vec<u8>> {
+    let mix = |hash: u64| (hash % (1 << 32)).wrapping_mul(FIRST_SEED).wrapping_add(hash >> 32);
+    let lane = |factors, bytes: &[u8]| fold(factors, 16 * FIRST_SEED, u64::from_le_bytes(bytes.try_into().expect("eight")));
+    let mut tried = 0u64;
+    (0..n).map(move |_| loop {
+        let name = format!("{tried:016}").into_bytes();
+        tried += 1;
+        let hash = mix(mix(lane(FACTORS[0], &name[..8]) ^ lane(FACTORS[1], &name[8..])));
+        if (hash >> 16) % 65_536 < 3_000 {
+            return name;
+        }
+    })
 }
