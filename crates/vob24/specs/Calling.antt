@@ -3,8 +3,9 @@ use Prim.Native.Nat.{ℕ, _+_, _-_, _≤_, _<_}
 use mathlib.Core.Path.{_≡_, refl, ap, sym, _∙_, subst}
 use mathlib.Core.List.{List, [], _++_}
 use mathlib.Core.Bool.{Bool, true, false, not}
+use mathlib.Core.Logic.{_↔_}
 use native.Mathlib.Omega.{arith}
-use lib.ListN.{length, take, drop}
+use lib.ListN.{length, take, drop, replicate, length-replicate}
 use lib.Seq.{take-append-seam}
 use lib.Dec.{T, leb, leb→le, nleb→lt, le→leb}
 use Rattle.format.specs.Trace.{Wrong, Trace, pick, amounts, sum, total, stopped, out, Ends, Settled, refused, taken, left, spent, settle, covered, Longest, Charge}
@@ -43,15 +44,16 @@ pub record IsTaken (f : Format) (t : Trace Value) (a b : ℕ) (tape : List ℕ) 
   pub leaves : l ≡ b - total t
   pub writes : closing f a b tape (settle b t) .tape ≡ words f value ++ drop w tape
 
--- Refused at a charge: the first that can't be paid.
-pub record IsBroke (f : Format) (t : Trace Value) (a b : ℕ) (tape : List ℕ) : Type 0 where
+-- "Refused at a charge is 5 with that charge's context, its amount as d1, and as d2 and left the starting budget less all charges before
+-- it": the charge after the longest opening part that the budget covers, the first that can't be paid.
+pub record IsBroke (t : Trace Value) (b : ℕ) (q : Answer) : Type 0 where
   pub number : ℕ
   pub context : ℕ
   pub amount : ℕ
   pub place : ℕ
   pub there : Charge t number context amount place
   pub longest : Longest b (amounts t) number
-  pub is : closing f a b tape (settle b t) ≡ (let l = b - sum (take number (amounts t)) in record { answer = Refused (spent context amount l) place l; tape = tape })
+  pub is : q ≡ (let l = b - sum (take number (amounts t)) in Refused (spent context amount l) place l)
 
 module _ (f : Format) (a b : ℕ) (tape : List ℕ) where
   written-room : (ws : List ℕ) (p l : ℕ) → length ws ≤ length tape → written a b tape ws p l ≡ record { answer = Taken (length ws) (p - a) (b - l) l; tape = ws ++ drop (length ws) tape }
@@ -109,19 +111,22 @@ module _ (f : Format) (a b : ℕ) (tape : List ℕ) where
     stopped-at e h = ap (closing f a b tape) (settle-stopped b t e h)
 
     -- the budget does not reach
-    pub short-budget : b < total t → IsBroke f t a b tape
+    pub short-budget : b < total t → IsBroke t b (closing f a b tape (settle b t) .answer) × (closing f a b tape (settle b t) .tape ≡ tape)
     short-budget h =
         let i = covered b (amounts t) in
         let r = broke-at t i (b - sum (take i (amounts t))) (covered-lt b (amounts t) h) in
-        record {
-          number = i;
-          context = r .context;
-          amount = r .amount;
-          place = r .place;
-          there = r .there;
-          longest = covered-longest b (amounts t);
-          is = ap (closing f a b tape) (settle-broke b t h ∙ r .is);
-        }
+        let e = ap (closing f a b tape) (settle-broke b t h ∙ r .is) in (
+          record {
+            number = i;
+            context = r .context;
+            amount = r .amount;
+            place = r .place;
+            there = r .there;
+            longest = covered-longest b (amounts t);
+            is = ap (λ o. o .answer) e;
+          },
+          ap (λ o. o .tape) e,
+        )
 
     -- taken only so
     pub only-when : {w n c l : ℕ} → closing f a b tape (settle b t) .answer ≡ Taken w n c l → IsTaken f t a b tape w n c l
@@ -147,6 +152,21 @@ module _ (f : Format) (a b : ℕ) (tape : List ℕ) where
         go : (r : Settled Value) → settle b t ≡ r → closing f a b tape (settle b t) .answer ≡ Taken w n c l → IsTaken f t a b tape w n c l
         go (refused x p m) i e = let z : Refused x p m ≡ Taken w n c l = sym (ap (λ r. closing f a b tape r .answer) i) ∙ e in let no : _≡_ {A = ℕ} 0 1 = cc in absurd (omega arith)
         go (taken v q m) i e = by v q m i (leb (length (words f v)) (length tape)) (leb→le _ _) (nleb→lt _ _) e
+
+-- Some budget and tape do where the list ends with a value, and only there: its total, and a tape of as many words as the record has.
+pub some-when : (f : Format) (a : ℕ) (t : Trace Value) (most : ℕ) → ((v : Value) (q : ℕ) → Ends t v q → total t < most)
+    → ((b : ℕ) × (tape : List ℕ) × (w n c l : ℕ) × (b < most) × (closing f a b tape (settle b t) .answer ≡ Taken w n c l)) ↔ ((v : Value) × (q : ℕ) × Ends t v q)
+some-when f a t most fits = (to, from)
+  where
+    to : (b : ℕ) × (tape : List ℕ) × (w n c l : ℕ) × (b < most) × (closing f a b tape (settle b t) .answer ≡ Taken w n c l) → (v : Value) × (q : ℕ) × Ends t v q
+    to h = let k = only-when f a (h .0) (h .1) t (h .7) in (k .value, k .place, k .ends)
+
+    from : (v : Value) × (q : ℕ) × Ends t v q → (b : ℕ) × (tape : List ℕ) × (w n c l : ℕ) × (b < most) × (closing f a b tape (settle b t) .answer ≡ Taken w n c l)
+    from h =
+        let m = length (words f (h .0)) in
+        let tape = replicate {A = ℕ} m 0 in
+        let r = taken-when f a (total t) tape t (h .2) (omega arith) (omega (arith, length-replicate {A = ℕ} m 0)) in
+        (total t, tape, m, h .1 - a, total t, total t - total t, fits (h .0) (h .1) (h .2), ap (λ o. o .answer) r)
 
 -- The counted words of the tape are the record of the value.
 pub taken-record : {f : Format} {t : Trace Value} {a b : ℕ} {tape : List ℕ} {w n c l : ℕ} (k : IsTaken f t a b tape w n c l) → take w (closing f a b tape (settle b t) .tape) ≡ words f (k .value)

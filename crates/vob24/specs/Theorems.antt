@@ -5,7 +5,7 @@ use mathlib.Core.List.{List, [], _++_}
 use mathlib.Core.Bool.{Bool}
 use mathlib.Core.Logic.{_↔_}
 use native.Mathlib.Omega.{arith}
-use lib.ListN.{length, take, drop, replicate, length-replicate}
+use lib.ListN.{length, take, drop}
 use lib.Seq.{take-all, take-length}
 use lib.Dec.{leb, eqb, leb→le, le→leb, eqb→eq, eqb-refl}
 use Rattle.format.specs.Trace.{Wrong, wrong, Trace, end, bind, guard, amounts, sum, total, stopped, ended, out, Ends, settle}
@@ -17,6 +17,7 @@ use Rattle.format.specs.Settling.{thenS, settle-bind}
 use Rattle.format.specs.Ending.{Ends-bind, bind-out, Ends-guard, guard-true, trace-within}
 use Rattle.format.specs.Laying.{At}
 use Rattle.format.specs.Closing.{layout-iff}
+use Rattle.format.specs.Decoding.{trace-held}
 use Rattle.format.specs.Bounding.{guard-under, end-free}
 use Rattle.format.specs.Placing.{Rising, rising-bind, rising-guard, rising-end, trace-rising, placeOf, settle-within}
 use Rattle.vob24.specs.Refusals
@@ -27,7 +28,7 @@ use Rattle.vob24.specs.PackCost.{section-costs, pack-costs}
 use Rattle.vob24.specs.PackLayout.{closed-section, closed-pack}
 use Rattle.vob24.specs.PackBound.{section-bound, pack-bound}
 use Rattle.vob24.specs.Calls.{Taken, Refused, tooLarge, noRoomFor, wholeTrace, sectionTrace, readOutcome, sectionOutcome}
-use Rattle.vob24.specs.Calling.{leftOf, Account, IsTaken, IsBroke, account, taken-when, short-tape, stopped-at, short-budget, only-when, Reads, call-record, call-cost, call-texts}
+use Rattle.vob24.specs.Calling.{leftOf, Account, IsTaken, IsBroke, account, taken-when, short-tape, stopped-at, short-budget, only-when, some-when, Reads, call-record, call-cost, call-texts}
 
 -- a last question charges nothing
 judged : (t : Trace Value) (d : Value → ℕ → Bool) (w : Value → ℕ → Wrong) → total (bind t (λ v q. guard (d v q) (w v q) q (end v q))) ≤ total t
@@ -50,6 +51,9 @@ module _ (set : Settings) where
       let x : v ≡ b .0 = cc in
       let y : q ≡ b .1 = cc in
       (leb→le (length s) maxPackBytes (a .0), b .2 ∙ cc, omega arith, a .2 ∙ bind-out _ _ (b .2) .1 ∙ omega (arith, c .2))
+
+  pub whole-end : (s : List ℕ) {v : Value} {q : ℕ} → Ends (wholeTrace set s) v q → q ≡ length s
+  whole-end s h = whole-ends s h .2
 
   -- before the questions of 24 and 26
   pub whole-settled : (s : List ℕ) (b : ℕ) → length s ≤ maxPackBytes → settle b (wholeTrace set s) ≡ thenS (settle b (trace (pack set) s 0)) (λ v q l. settle l (guard (eqb q (length s)) (wrong Refusals.trailingBytes (length s - q)) q (end v q)))
@@ -74,11 +78,15 @@ module _ (set : Settings) where
   ends-section : (n : ℕ) (x : Section) (s : List ℕ) (p : ℕ) {v : Value} {q : ℕ} → length s ≤ maxPackBytes → p ≤ length s → Ends (trace (section set n x) s p) v q → Ends (sectionTrace set n x s p) v q
   ends-section n x s p h i e = ap out (section-alone n x s p h i) ∙ e
 
-  whole-reads : (s : List ℕ) → Reads (pack set) (wholeTrace set s) s 0
+  pub whole-reads : (s : List ℕ) → Reads (pack set) (wholeTrace set s) s 0
   whole-reads s = record { inner = λ {v} {q} h. let e = whole-ends s h in (e .1 ∙ ap (ended v) (sym (e .2)), e .3) }
 
-  section-reads : (n : ℕ) (x : Section) (s : List ℕ) (p : ℕ) → Reads (section set n x) (sectionTrace set n x s p) s p
+  pub section-reads : (n : ℕ) (x : Section) (s : List ℕ) (p : ℕ) → Reads (section set n x) (sectionTrace set n x s p) s p
   section-reads n x s p = record { inner = λ h. let e = section-ends n x s p h in (e .2, e .3) }
+
+  -- The texts of what was read stand in the file.
+  pub whole-held : (s : List ℕ) {v : Value} {q : ℕ} → Ends (wholeTrace set s) v q → Held v s
+  whole-held s h = trace-held (pack set) s 0 (whole-reads s .inner h .0)
 
   -- ---- the whole pack
 
@@ -100,7 +108,8 @@ module _ (set : Settings) where
     read-only = only-when (pack set) 0 b tape (wholeTrace set s)
 
     -- A budget below the total: 5 at the first charge that can't be paid, with its context, amount, and the budget before it.
-    pub read-broke : b < total (wholeTrace set s) → IsBroke (pack set) (wholeTrace set s) 0 b tape
+    pub read-broke : b < total (wholeTrace set s) → IsBroke (wholeTrace set s) b (readOutcome set s b tape .answer) × (readOutcome set s b tape .tape ≡ tape)
+    unfolding readOutcome
     read-broke = short-budget (pack set) 0 b tape (wholeTrace set s)
 
     -- A question answered no: its refusal, the tape as it was.
@@ -166,19 +175,8 @@ module _ (set : Settings) where
   -- "Exactly the files whose charge list ends with the pack, not at a question, are taken under some starting budget with tape enough":
   -- one of 64 bits.
   pub some-budget : Licensed set → (s : List ℕ) → Bytes s → ((b : ℕ) × (tape : List ℕ) × (w n c l : ℕ) × (b < 2 ^ 64) × (readOutcome set s b tape .answer ≡ Taken w n c l)) ↔ ((v : Value) × (q : ℕ) × Ends (wholeTrace set s) v q)
-  some-budget licensed s bs = (to, from)
-    where
-      to : (b : ℕ) × (tape : List ℕ) × (w n c l : ℕ) × (b < 2 ^ 64) × (readOutcome set s b tape .answer ≡ Taken w n c l) → (v : Value) × (q : ℕ) × Ends (wholeTrace set s) v q
-      to h = let k = read-only s (h .0) (h .1) (h .7) in (k .value, k .place, k .ends)
-
-      from : (v : Value) × (q : ℕ) × Ends (wholeTrace set s) v q → (b : ℕ) × (tape : List ℕ) × (w n c l : ℕ) × (b < 2 ^ 64) × (readOutcome set s b tape .answer ≡ Taken w n c l)
-      from h =
-          let v = h .0 in
-          let e = whole-ends s (h .2) in
-          let b = total (wholeTrace set s) in
-          let ws = words (pack set) v in
-          let r = read-taken s b (replicate (length ws) 0) (h .2) (omega arith) (omega (arith, length-replicate {A = ℕ} (length ws) 0)) in
-          (b, replicate (length ws) 0, length ws, length s, b, b - b, omega (arith, e .3, pack-bound set licensed s bs (e .0)), ap (λ o. o .answer) r)
+  unfolding readOutcome
+  some-budget licensed s bs = some-when (pack set) 0 (wholeTrace set s) (2 ^ 64) (λ _ _ _. whole-bound licensed s bs)
 
   -- ---- a section, from a place
 
@@ -196,7 +194,9 @@ module _ (set : Settings) where
     unfolding sectionOutcome
     section-only = only-when (section set count x) p b tape (sectionTrace set count x s p)
 
-    pub section-broke : b < total (sectionTrace set count x s p) → IsBroke (section set count x) (sectionTrace set count x s p) p b tape
+    pub section-broke : b < total (sectionTrace set count x s p)
+        → IsBroke (sectionTrace set count x s p) b (sectionOutcome set count x s p b tape .answer) × (sectionOutcome set count x s p b tape .tape ≡ tape)
+    unfolding sectionOutcome
     section-broke = short-budget (section set count x) p b tape (sectionTrace set count x s p)
 
     pub section-stopped : {w : Wrong} {q : ℕ} → out (sectionTrace set count x s p) ≡ stopped w q → total (sectionTrace set count x s p) ≤ b → sectionOutcome set count x s p b tape ≡ record { answer = Refused w q (b - total (sectionTrace set count x s p)); tape = tape }
@@ -238,6 +238,11 @@ module _ (set : Settings) where
   -- Every section's charges fit a budget of 64 bits.
   pub section-fits : Licensed set → (count : ℕ) (x : Section) (s : List ℕ) (p : ℕ) {v : Value} {q : ℕ} → Bytes s → Ends (sectionTrace set count x s p) v q → total (sectionTrace set count x s p) < 2 ^ 64
   section-fits licensed count x s p b h = let e = section-ends count x s p h in omega (arith, e .3, section-bound set licensed count x s p b (e .0) (e .1))
+
+  pub section-some-budget : Licensed set → (count : ℕ) (x : Section) (s : List ℕ) (p : ℕ) → Bytes s
+      → ((b : ℕ) × (tape : List ℕ) × (w n c l : ℕ) × (b < 2 ^ 64) × (sectionOutcome set count x s p b tape .answer ≡ Taken w n c l)) ↔ ((v : Value) × (q : ℕ) × Ends (sectionTrace set count x s p) v q)
+  unfolding sectionOutcome
+  section-some-budget licensed count x s p bs = some-when (section set count x) p (sectionTrace set count x s p) (2 ^ 64) (λ _ _ h. section-fits licensed count x s p bs h)
 
   -- ---- places: they never fall, and stay within the pack
 
