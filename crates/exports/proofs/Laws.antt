@@ -7,9 +7,8 @@ use Rattle.vob24.specs.Grammar.{Section}
 use Rattle.vob24.specs.Calls as vob
 use Rattle.calls.specs.Call.{answerOf, ReadCall, SectionCall}
 use Rattle.calls.specs.declared.Answer.{Answer}
-use Rattle.lookup.specs.Look.{foundOf}
+use Rattle.lookup.specs.Look.{foundOf, LocateCall}
 use Rattle.lookup.specs.declared.Found.{Found}
-use Rattle.serialize.specs.Find.{LocateCall}
 use Rattle.answers.specs.Numbers.{numbersOf, foundNumbers, Shows}
 use Rattle.answers.specs.declared.VobAnswer.{VobAnswer}
 

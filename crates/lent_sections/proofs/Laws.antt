@@ -12,7 +12,7 @@ use Rattle.calls.specs.declared.Answer.{Answer}
 use Rattle.calls.specs.Call.{answerOf, SectionCall}
 use Rattle.positions.specs.Moving.{positionOf, Moves, Fits}
 use Rattle.positions.specs.declared.Position.{Position}
-use Rattle.lent_sections.specs.Call.{LentCall}
+use Rattle.positions.specs.Call.{LentCall}
 
 module _ {n : ℕ} {x : Section} {s : List ℕ} {at : Position} {t : List ℕ} {q : Answer} {t′ : List ℕ} (k : SectionCall settings n x s (at .place) (at .budget) t q t′) where
   -- the bytes taken lie in the pack

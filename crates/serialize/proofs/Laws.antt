@@ -14,7 +14,7 @@ use Rattle.vob24.specs.Grammar.{artifacts, pack, artifact}
 use Rattle.vob24.specs.Cost.{partOf}
 use Rattle.calls.specs.Call.{from, Opens, Ends}
 use Rattle.calls.proofs.Laws.{Passed, passed, denied, read-passed}
-use Rattle.lookup.specs.Look.{Counted, LooksFrom}
+use Rattle.lookup.specs.Look.{Counted, LooksFrom, LocateCall, FindCall}
 use Rattle.lookup.specs.declared.Found.{Found}
 use Rattle.second_pass.specs.Granted.{Granted}
 use Rattle.second_pass.proofs.Laws.{taken-granted}
@@ -26,7 +26,7 @@ use Rattle.reader.specs.declared.Refusal.{Refusal}
 use Rattle.reader.specs.declared.Step.{Step}
 use Rattle.reader.specs.declared.Step.the-variants.{Taken, Refused}
 use Rattle.deserialize.specs.Reach.{On, Reaches}
-use Rattle.serialize.specs.Find.{Whole, Located, LocateCall, FindCall}
+use Rattle.serialize.specs.Find.{Whole, Located}
 
 -- what a whole reading has taken is not refused when it is read again
 pub whole-granted : {set : Settings} {b : Bool} {s : List ℕ} {r : Step} {c : Cursor} → Whole set s r c → Granted b (pack set) s r
