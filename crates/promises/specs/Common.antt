@@ -5,7 +5,7 @@ use mathlib.Core.List.{List, [], _++_}
 use mathlib.Core.Logic.{_↔_}
 use mathlib.Core.Bool.{Bool, true, false, not}
 use native.Mathlib.Omega.{arith}
-use lib.ListN.{length, take, drop, length-append, length-drop}
+use lib.ListN.{length, take, drop, replicate, length-append, length-drop, length-replicate}
 use lib.Seq.{drop-append-seam, take-at}
 use lib.Dec.{T, leb, leb→le, nleb→lt}
 use Rattle.format.specs.Trace.{Wrong, Trace, pick, amounts, total, stopped, out, Ends, Settled, refused, taken, settle}
@@ -64,6 +64,21 @@ closing-within : (f : Format) (a b e : ℕ) (t : List ℕ) (r : Settled Value) �
 unfolding placeOf
 closing-within f a b e t (refused x p l) h k = (h, k)
 closing-within f a b e t (taken v p l) h k = room f a b t (λ o. Within a e (o .answer)) v p l (λ _. omega arith) (λ _. (h, k))
+
+-- Some budget and tape do where the list ends with a value, and only there: its total, and a tape of as many words as the record has.
+pub some-when : (f : Format) (a : ℕ) (t : Trace Value) (most : ℕ) → ((v : Value) (q : ℕ) → Ends t v q → total t < most)
+    → ((b : ℕ) × (tape : List ℕ) × (w n c l : ℕ) × (b < most) × (closing f a b tape (settle b t) .answer ≡ Taken w n c l)) ↔ ((v : Value) × (q : ℕ) × Ends t v q)
+some-when f a t most fits = (to, from)
+  where
+    to : (b : ℕ) × (tape : List ℕ) × (w n c l : ℕ) × (b < most) × (closing f a b tape (settle b t) .answer ≡ Taken w n c l) → (v : Value) × (q : ℕ) × Ends t v q
+    to h = let k = of.only-when f a (h .0) (h .1) t (h .7) in (k .value, k .place, k .ends)
+
+    from : (v : Value) × (q : ℕ) × Ends t v q → (b : ℕ) × (tape : List ℕ) × (w n c l : ℕ) × (b < most) × (closing f a b tape (settle b t) .answer ≡ Taken w n c l)
+    from h =
+        let m = length (words f (h .0)) in
+        let tape = replicate {A = ℕ} m 0 in
+        let r = of.taken-when f a (total t) tape t (h .2) (omega arith) (omega (arith, length-replicate {A = ℕ} m 0)) in
+        (total t, tape, m, h .1 - a, total t, total t - total t, fits (h .0) (h .1) (h .2), ap (λ o. o .answer) r)
 
 module _ {f : Format} {tr : Trace Value} {a b : ℕ} {t : List ℕ} {q : Answer} {t′ : List ℕ} (call : Call f tr a b t q t′) where
   answer : closing f a b t (settle b tr) .answer ≡ q

@@ -11,7 +11,8 @@ use Rattle.format.specs.Record.{words, decode, Held}
 use Rattle.format.specs.Layout.{Bytes, bytes}
 use Rattle.vob24.specs.Refusals
 use Rattle.vob24.specs.Settings.{settings}
-use Rattle.vob24.specs.Grammar.{Section}
+use Rattle.vob24.specs.SizeTable.{settings-licensed}
+use Rattle.vob24.specs.Grammar.{Section, section}
 use Rattle.vob24.specs.Cost.{sectionCost, sectionRecordCost}
 use Rattle.vob24.specs.Calls as vob
 use Rattle.vob24.specs.Calls.{Taken, Refused, noRoomFor}
@@ -22,9 +23,9 @@ use Rattle.calls.specs.declared.Answer.{Answer}
 use Rattle.positions.specs.Moving.{positionOf}
 use Rattle.positions.specs.Call.{LentCall}
 use Rattle.positions.specs.declared.Position.{Position}
-use Rattle.promises.specs.Common.{Kept, Accepted}
-use Rattle.promises.specs.Section as section
-use Rattle.promises.specs.Section.{part, charges, LaysOut}
+use Rattle.promises.specs.Common.{Kept, Within, Accepted}
+use Rattle.promises.specs.Section as alone
+use Rattle.promises.specs.Section.{charges, LaysOut}
 
 -- Document 01's place and budget as the struct that is lent.
 abbrev lentAs : vob.Position → Position
@@ -64,68 +65,72 @@ module _ {m : ℕ} {x : Section} {s : List ℕ} {at : Position} {t : List ℕ} {
 
   -- "taken or refused with one number of document 01": 1 to 27.
   pub one-answer : Answered (answerOf q)
-  one-answer = section.one-answer by-section
+  one-answer = alone.one-answer by-section
 
   -- "A refusal changes no lent memory, an acceptance only the tape's counted words, a section call's lent place and budget."
   pub memory : Kept (answerOf q) t t′ × Moved (answerOf q) at at′
-  memory = (section.memory by-section, moved)
+  memory = (alone.memory by-section, moved)
+
+  -- A place in the pack is lent: the place shown, or the bytes taken, lie between it and the pack's end.
+  pub places : at .place ≤ length s → Within (at .place) (length s) (answerOf q)
+  places = alone.places by-section
 
   -- ---- demand 2
 
   -- "Layout ..: given budget and tape enough, what they admit is taken, nothing else." `Bytes s` holds of any caller's slice of bytes.
   pub layout : Bytes s
-      → Accepted (answerOf q) ↔ ((v : Value) × LaysOut m x s (at .place) v × (sectionCost settings x v ≤ at .budget) × (length (words (part m x) v) ≤ length t))
-  layout = section.layout by-section
+      → Accepted (answerOf q) ↔ ((v : Value) × LaysOut settings m x s (at .place) v × (sectionCost settings x v ≤ at .budget) × (length (words (section settings m x) v) ≤ length t))
+  layout = alone.layout by-section
 
   -- "It writes its own section's words from the tape's first word on": those of the value that stands at the place; the place at exit is
   -- where that value's bytes end.
   pub record-holds : {w n c l : ℕ} → answerOf q ≡ Taken w n c l → Bytes s
-      → (v : Value) × LaysOut m x s (at .place) v × (take w t′ ≡ words (part m x) v) × (decode (part m x) (take w t′) s ≡ (v, []))
-      × (length (take w t′) ≡ w) × (w ≤ n) × (at′ .place ≡ at .place + length (bytes (part m x) v))
+      → (v : Value) × LaysOut settings m x s (at .place) v × (take w t′ ≡ words (section settings m x) v) × (decode (section settings m x) (take w t′) s ≡ (v, []))
+      × (length (take w t′) ≡ w) × (w ≤ n) × (at′ .place ≡ at .place + length (bytes (section settings m x) v))
   record-holds e bs =
-      let r = section.record-holds by-section e bs in
+      let r = alone.record-holds by-section e bs in
       (r .0, r .1, r .2, r .3, r .4, r .5, advanced e .0 ∙ ap (λ i. at .place + i) (r .6))
 
   -- ---- demand 3
 
   -- "The sum charged plus the budget left is the starting budget, for packs taken and refused. The sum is that of the longest opening part of
   -- the charge list that the starting budget covers": the budget lent is the starting one.
-  pub account : Account (amounts (charges m x s (at .place))) (at .budget) (leftOf (answerOf q))
-  account = section.account by-section
+  pub account : Account (amounts (charges settings m x s (at .place))) (at .budget) (leftOf (answerOf q))
+  account = alone.account by-section
 
   -- "In a taken answer charged is the sum of the whole list": the budget at exit is what it leaves.
-  pub charged : {w n c l : ℕ} → answerOf q ≡ Taken w n c l → (c ≡ total (charges m x s (at .place))) × (c + at′ .budget ≡ at .budget)
-  charged {c = c} e = let r = section.charged by-section e in (r .0, ap (λ i. c + i) (advanced e .1) ∙ r .1)
+  pub charged : {w n c l : ℕ} → answerOf q ≡ Taken w n c l → (c ≡ total (charges settings m x s (at .place))) × (c + at′ .budget ≡ at .budget)
+  charged {c = c} e = let r = alone.charged by-section e in (r .0, ap (λ i. c + i) (advanced e .1) ∙ r .1)
 
   -- "The sum equals the cost that document 01 works out from the finished record and its texts alone."
   pub charged-cost : {w n c l : ℕ} → answerOf q ≡ Taken w n c l
       → (c ≡ sectionRecordCost settings m x (take w t′) s)
-      × ((s′ : List ℕ) → Held (decode (part m x) (take w t′) s .0) s′ → c ≡ sectionRecordCost settings m x (take w t′) s′)
-  charged-cost = section.charged-cost by-section
+      × ((s′ : List ℕ) → Held (decode (section settings m x) (take w t′) s .0) s′ → c ≡ sectionRecordCost settings m x (take w t′) s′)
+  charged-cost = alone.charged-cost by-section
 
   -- The four answers, by the charge list: taken,
-  pub taken-where : {v : Value} {p : ℕ} → Ends (charges m x s (at .place)) v p → total (charges m x s (at .place)) ≤ at .budget → length (words (part m x) v) ≤ length t
-      → (answerOf q ≡ Taken (length (words (part m x) v)) (p - at .place) (total (charges m x s (at .place))) (at .budget - total (charges m x s (at .place))))
-      × (t′ ≡ words (part m x) v ++ drop (length (words (part m x) v)) t)
-  taken-where = section.taken-where by-section
+  pub taken-where : {v : Value} {p : ℕ} → Ends (charges settings m x s (at .place)) v p → total (charges settings m x s (at .place)) ≤ at .budget → length (words (section settings m x) v) ≤ length t
+      → (answerOf q ≡ Taken (length (words (section settings m x) v)) (p - at .place) (total (charges settings m x s (at .place))) (at .budget - total (charges settings m x s (at .place))))
+      × (t′ ≡ words (section settings m x) v ++ drop (length (words (section settings m x) v)) t)
+  taken-where = alone.taken-where by-section
 
   -- 26 with the words needed, and only there,
-  pub no-room : {v : Value} {p : ℕ} → Ends (charges m x s (at .place)) v p → total (charges m x s (at .place)) ≤ at .budget → length t < length (words (part m x) v)
-      → (answerOf q ≡ Refused (noRoomFor (length (words (part m x) v)) (length t)) p (at .budget - total (charges m x s (at .place)))) × (t′ ≡ t) × (at′ ≡ at)
-  no-room e h k = let r = section.no-room by-section e h k in (r .0, r .1, unmoved (r .0))
+  pub no-room : {v : Value} {p : ℕ} → Ends (charges settings m x s (at .place)) v p → total (charges settings m x s (at .place)) ≤ at .budget → length t < length (words (section settings m x) v)
+      → (answerOf q ≡ Refused (noRoomFor (length (words (section settings m x) v)) (length t)) p (at .budget - total (charges settings m x s (at .place)))) × (t′ ≡ t) × (at′ ≡ at)
+  no-room e h k = let r = alone.no-room by-section e h k in (r .0, r .1, unmoved (r .0))
 
   pub no-room-only : {y : Wrong} {p l : ℕ} → answerOf q ≡ Refused y p l → y .number ≡ Refusals.noRoom
-      → (v : Value) × Ends (charges m x s (at .place)) v p × (total (charges m x s (at .place)) ≤ at .budget) × (length t < length (words (part m x) v))
-  no-room-only = section.no-room-only by-section
+      → (v : Value) × Ends (charges settings m x s (at .place)) v p × (total (charges settings m x s (at .place)) ≤ at .budget) × (length t < length (words (section settings m x) v))
+  no-room-only = alone.no-room-only by-section
 
   -- a question answered no,
-  pub answered-no : {y : Wrong} {p : ℕ} → out (charges m x s (at .place)) ≡ stopped y p → total (charges m x s (at .place)) ≤ at .budget
-      → (answerOf q ≡ Refused y p (at .budget - total (charges m x s (at .place)))) × (t′ ≡ t) × (at′ ≡ at)
-  answered-no e h = let r = section.answered-no by-section e h in (r .0, r .1, unmoved (r .0))
+  pub answered-no : {y : Wrong} {p : ℕ} → out (charges settings m x s (at .place)) ≡ stopped y p → total (charges settings m x s (at .place)) ≤ at .budget
+      → (answerOf q ≡ Refused y p (at .budget - total (charges settings m x s (at .place)))) × (t′ ≡ t) × (at′ ≡ at)
+  answered-no e h = let r = alone.answered-no by-section e h in (r .0, r .1, unmoved (r .0))
 
   -- and 5 at the first charge that can't be paid.
-  pub broke-where : at .budget < total (charges m x s (at .place)) → IsBroke (charges m x s (at .place)) (at .budget) (answerOf q) × (t′ ≡ t) × (at′ ≡ at)
-  broke-where h = let r = section.broke-where by-section h in (r .0, r .1, unmoved (r .0 .is))
+  pub broke-where : at .budget < total (charges settings m x s (at .place)) → IsBroke (charges settings m x s (at .place)) (at .budget) (answerOf q) × (t′ ≡ t) × (at′ ≡ at)
+  broke-where h = let r = alone.broke-where by-section h in (r .0, r .1, unmoved (r .0 .is))
 
 -- "Read again under any starting budget, with tape enough and nothing else changed, [it] is taken with the same record, bytes taken and sum
 -- exactly when the budget reaches this cost; otherwise it is refused with AllocationBudgetExceeded at the first charge of the list that
@@ -134,17 +139,17 @@ pub read-again : {m : ℕ} {x : Section} {s : List ℕ} {a b : ℕ} {t : List �
     → {w n c l : ℕ} → answerOf q ≡ Taken w n c l
     → {b₂ : ℕ} {t₂ : List ℕ} {q₂ : Answer} {at₂′ : Position} {t₂′ : List ℕ} → LentCall m x s (record { place = a; budget = b₂ }) t₂ q₂ at₂′ t₂′ → w ≤ length t₂
     → (((answerOf q₂ ≡ Taken w n c (b₂ - c)) × (take w t₂′ ≡ take w t′)) ↔ (sectionRecordCost settings m x (take w t′) s ≤ b₂))
-    × (b₂ < sectionRecordCost settings m x (take w t′) s → IsBroke (charges m x s a) b₂ (answerOf q₂) × (t₂′ ≡ t₂) × (at₂′ ≡ record { place = a; budget = b₂ }))
+    × (b₂ < sectionRecordCost settings m x (take w t′) s → IsBroke (charges settings m x s a) b₂ (answerOf q₂) × (t₂′ ≡ t₂) × (at₂′ ≡ record { place = a; budget = b₂ }))
 read-again call e call₂ room =
-    let r = section.read-again (by-section call) e (by-section call₂) room in
+    let r = alone.read-again (by-section call) e (by-section call₂) room in
     (r .0, λ h. let k = r .1 h in (k .0, k .1, unmoved call₂ (k .0 .is)))
 
 -- "Exactly the files whose charge list ends with the pack, not at a question, are taken under some starting budget with tape enough": with the
 -- section, from this place on, under one of 64 bits.
 pub some-budget : (m : ℕ) (x : Section) (s : List ℕ) (a : ℕ) → Bytes s
     → ((b : ℕ) × (t : List ℕ) × (q : Answer) × (at′ : Position) × (t′ : List ℕ) × (b < 2 ^ 64) × LentCall m x s (record { place = a; budget = b }) t q at′ t′ × Accepted (answerOf q))
-    ↔ ((v : Value) × (p : ℕ) × Ends (charges m x s a) v p)
+    ↔ ((v : Value) × (p : ℕ) × Ends (charges settings m x s a) v p)
 some-budget m x s a bs = (
-  λ h. section.some-budget m x s a bs .0 (h .0, h .1, h .2, h .4, h .5, by-section (h .6), h .7),
-  λ h. let r = section.some-budget m x s a bs .1 h in (r .0, r .1, r .2, _, r .3, r .4, lent (r .5), r .6),
+  λ h. alone.some-budget settings settings-licensed m x s a bs .0 (h .0, h .1, h .2, h .4, h .5, by-section (h .6), h .7),
+  λ h. let r = alone.some-budget settings settings-licensed m x s a bs .1 h in (r .0, r .1, r .2, _, r .3, r .4, lent (r .5), r .6),
 )

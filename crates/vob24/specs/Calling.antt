@@ -3,9 +3,8 @@ use Prim.Native.Nat.{ℕ, _+_, _-_, _≤_, _<_}
 use mathlib.Core.Path.{_≡_, refl, ap, sym, _∙_, subst}
 use mathlib.Core.List.{List, [], _++_}
 use mathlib.Core.Bool.{Bool, true, false, not}
-use mathlib.Core.Logic.{_↔_}
 use native.Mathlib.Omega.{arith}
-use lib.ListN.{length, take, drop, replicate, length-replicate}
+use lib.ListN.{length, take, drop}
 use lib.Seq.{take-append-seam}
 use lib.Dec.{T, leb, leb→le, nleb→lt, le→leb}
 use Rattle.format.specs.Trace.{Wrong, Trace, pick, amounts, sum, total, stopped, out, Ends, Settled, refused, taken, left, spent, settle, covered, Longest, Charge}
@@ -152,21 +151,6 @@ module _ (f : Format) (a b : ℕ) (tape : List ℕ) where
         go : (r : Settled Value) → settle b t ≡ r → closing f a b tape (settle b t) .answer ≡ Taken w n c l → IsTaken f t a b tape w n c l
         go (refused x p m) i e = let z : Refused x p m ≡ Taken w n c l = sym (ap (λ r. closing f a b tape r .answer) i) ∙ e in let no : _≡_ {A = ℕ} 0 1 = cc in absurd (omega arith)
         go (taken v q m) i e = by v q m i (leb (length (words f v)) (length tape)) (leb→le _ _) (nleb→lt _ _) e
-
--- Some budget and tape do where the list ends with a value, and only there: its total, and a tape of as many words as the record has.
-pub some-when : (f : Format) (a : ℕ) (t : Trace Value) (most : ℕ) → ((v : Value) (q : ℕ) → Ends t v q → total t < most)
-    → ((b : ℕ) × (tape : List ℕ) × (w n c l : ℕ) × (b < most) × (closing f a b tape (settle b t) .answer ≡ Taken w n c l)) ↔ ((v : Value) × (q : ℕ) × Ends t v q)
-some-when f a t most fits = (to, from)
-  where
-    to : (b : ℕ) × (tape : List ℕ) × (w n c l : ℕ) × (b < most) × (closing f a b tape (settle b t) .answer ≡ Taken w n c l) → (v : Value) × (q : ℕ) × Ends t v q
-    to h = let k = only-when f a (h .0) (h .1) t (h .7) in (k .value, k .place, k .ends)
-
-    from : (v : Value) × (q : ℕ) × Ends t v q → (b : ℕ) × (tape : List ℕ) × (w n c l : ℕ) × (b < most) × (closing f a b tape (settle b t) .answer ≡ Taken w n c l)
-    from h =
-        let m = length (words f (h .0)) in
-        let tape = replicate {A = ℕ} m 0 in
-        let r = taken-when f a (total t) tape t (h .2) (omega arith) (omega (arith, length-replicate {A = ℕ} m 0)) in
-        (total t, tape, m, h .1 - a, total t, total t - total t, fits (h .0) (h .1) (h .2), ap (λ o. o .answer) r)
 
 -- The counted words of the tape are the record of the value.
 pub taken-record : {f : Format} {t : Trace Value} {a b : ℕ} {tape : List ℕ} {w n c l : ℕ} (k : IsTaken f t a b tape w n c l) → take w (closing f a b tape (settle b t) .tape) ≡ words f (k .value)
