@@ -65,6 +65,10 @@ unfolding placeOf
 closing-within f a b e t (refused x p l) h k = (h, k)
 closing-within f a b e t (taken v p l) h k = room f a b t (λ o. Within a e (o .answer)) v p l (λ _. omega arith) (λ _. (h, k))
 
+-- the charges of a list that ends with a value are the value's cost
+pub ends-cost : {f : Format} {tr : Trace Value} {s : List ℕ} {a : ℕ} {cost : Value → ℕ} → Reads f tr s a → Costs f cost → {v : Value} {p : ℕ} → Ends tr v p → total tr ≡ cost v
+ends-cost {f} {s = s} {a = a} reads costs {v} h = let e = reads .inner h in e .1 ∙ trace-charges f s a (e .0) ∙ costs .is v
+
 -- Some budget and tape do where the list ends with a value, and only there: its total, and a tape of as many words as the record has.
 pub some-when : (f : Format) (a : ℕ) (t : Trace Value) (most : ℕ) → ((v : Value) (q : ℕ) → Ends t v q → total t < most)
     → ((b : ℕ) × (tape : List ℕ) × (w n c l : ℕ) × (b < most) × (closing f a b tape (settle b t) .answer ≡ Taken w n c l)) ↔ ((v : Value) × (q : ℕ) × Ends t v q)
@@ -138,15 +142,12 @@ module _ {f : Format} {tr : Trace Value} {a b : ℕ} {t : List ℕ} {q : Answer}
 
   -- what is read is a file's
   module _ {s : List ℕ} (reads : Reads f tr s a) {cost : Value → ℕ} (costs : Costs f cost) where
-    ends-cost : {v : Value} {p : ℕ} → Ends tr v p → total tr ≡ cost v
-    ends-cost {v} h = let e = reads .inner h in e .1 ∙ trace-charges f s a (e .0) ∙ costs .is v
-
     -- taken exactly where the list ends with a value of the kind that the file may hold, and budget and tape reach
     pub taken-where : (Lays : Value → Type 0) → ((v : Value) (p : ℕ) → Ends tr v p → Lays v) → ((v : Value) → Lays v → (p : ℕ) × Ends tr v p)
         → Accepted q ↔ ((v : Value) × Lays v × (cost v ≤ b) × (length (words f v) ≤ length t))
     taken-where Lays to from = (
-      λ h. let k = only (h .4) in (k .value, to (k .value) (k .place) (k .ends), omega (arith, ends-cost (k .ends), k .reaches), omega (arith, k .counts, k .room)),
-      λ h. let e = from (h .0) (h .1) in let r = taken-at (e .1) (omega (arith, ends-cost (e .1))) (h .3) in (_, _, _, _, r .0),
+      λ h. let k = only (h .4) in (k .value, to (k .value) (k .place) (k .ends), omega (arith, ends-cost reads costs (k .ends), k .reaches), omega (arith, k .counts, k .room)),
+      λ h. let e = from (h .0) (h .1) in let r = taken-at (e .1) (omega (arith, ends-cost reads costs (e .1))) (h .3) in (_, _, _, _, r .0),
     )
 
     module _ {w n c l : ℕ} (e : q ≡ Taken w n c l) where

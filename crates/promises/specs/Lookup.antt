@@ -1,35 +1,63 @@
 -- The demands, of the lookup: what a caller knows of the answer q that `locate_artifact(pack, name)` gives, and of the part that
 -- `find_artifact(pack, name)` returns. s is the pack; set the sizes and limits, which for both are `settings`.
-use Prim.Native.Nat.{ℕ}
+use Prim.Native.Nat.{ℕ, _+_, _-_, _≤_}
 use mathlib.Core.Path.{_≡_, refl, ap, _∙_}
 use mathlib.Core.List.{List, []}
+use mathlib.Core.Logic.{_↔_}
 use native.Mathlib.Omega.{arith}
 use lib.ListN.{length}
-use Rattle.format.specs.Trace.{Wrong, wrong, Settled, refused, taken, settle}
+use Rattle.format.specs.Trace.{Wrong, wrong, total, Settled, refused, taken, settle}
 use Rattle.format.specs.Format.{Value, start, content, entries}
+use Rattle.format.specs.Layout.{Bytes}
+use Rattle.format.specs.Settling.{settle-taken}
 use Rattle.vob24.specs.Refusals
 use Rattle.vob24.specs.Settings.{Settings, startingBudget}
 use Rattle.vob24.specs.Grammar.{artifacts}
-use Rattle.vob24.specs.Cost.{partOf}
-use Rattle.vob24.specs.Calls.{At, Not, wholeTrace, foundPart}
+use Rattle.vob24.specs.Cost.{partOf, packCost}
+use Rattle.vob24.specs.PackCost.{pack-costs}
+use Rattle.vob24.specs.Calls.{At, Not, foundPart}
+use Rattle.vob24.specs.Theorems.{whole-reads, whole-layout}
 use Rattle.vob24.specs.Lookup as spec
 use Rattle.vob24.specs.Lookup.{NoneNamed, FirstNamed, payloadOf}
 use Rattle.vob24.specs.Numbered.{Looked, find-numbered, whole-listed}
-use Rattle.lookup.specs.Look.{foundOf, LocateCall, FindCall}
+use Rattle.lookup.specs.Look.{foundOf, Room, LocateCall, FindCall}
 use Rattle.lookup.specs.declared.Found.{Found}
+use Rattle.promises.specs.Common.{ends-cost}
+use Rattle.promises.specs.Pack.{charges, LaysOut}
 
 -- "The lookup .. rereads it under the Rust's starting budget."
 abbrev pub reread : Settings → List ℕ → Settled Value
-reread set s = settle startingBudget (wholeTrace set s)
+reread set s = settle startingBudget (charges set s)
 
 abbrev pub artifactsOf : Value → List Value
 artifactsOf v = entries (partOf artifacts v)
+
+-- The packs that are looked in: the layouts of valid values whose cost is within that budget.
+pub looked-in : (set : Settings) (s : List ℕ) (v : Value) → Bytes s → ((p l : ℕ) × (reread set s ≡ taken v p l)) ↔ (LaysOut set s v × (packCost set v ≤ startingBudget))
+looked-in set s v bs = (
+  λ h.
+      let r = settle-taken startingBudget (charges set s) v (h .0) (h .1) .0 (h .2) in
+      let i = whole-layout set s v (h .0) bs .0 (r .0) in
+      ((i .0, i .1, i .2), omega (arith, r .1, ends-cost (whole-reads set s) (pack-costs set) (r .0))),
+  λ h.
+      let e = whole-layout set s v (length s) bs .1 (h .0 .0, h .0 .1, h .0 .2, refl) in
+      let c = ends-cost (whole-reads set s) (pack-costs set) e in
+      (length s, _, settle-taken startingBudget (charges set s) v (length s) (startingBudget - total (charges set s)) .1 (e, omega arith, refl)),
+)
 
 -- "Its companion gives start and length, or the refusal."
 module _ {set : Settings} {s name : List ℕ} {q : Found} (call : LocateCall set s name q) where
   -- Demand 1: found, or "refused with one number of document 01".
   pub one-answer : Looked (foundOf q)
   one-answer = rw (call .is) (find-numbered set s name)
+
+  -- What is found lies within the pack.
+  pub places : {p n : ℕ} → foundOf q ≡ At p n → p + n ≤ length s
+  places = go q (call .room)
+    where
+      go : (q : Found) → Room s q → {p n : ℕ} → foundOf q ≡ At p n → p + n ≤ length s
+      go (Found.At i j) r {p} {n} e = let a : i ≡ p = cc in let b : j ≡ n = cc in omega (arith, r .fits i j refl)
+      go (Found.Not x) r e = let no : _≡_ {A = ℕ} 0 1 = cc in absurd (omega arith)
 
   -- A pack that is refused shows its refusal.
   pub located-refused : {x : Wrong} {p l : ℕ} → reread set s ≡ refused x p l → foundOf q ≡ Not x p l
