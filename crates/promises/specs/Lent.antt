@@ -5,7 +5,7 @@ use mathlib.Core.Path.{_≡_, ap, sym, _∙_}
 use mathlib.Core.List.{List, [], _++_}
 use mathlib.Core.Logic.{_↔_}
 use lib.ListN.{length, take, drop}
-use Rattle.format.specs.Trace.{Wrong, amounts, total, stopped, out, Ends}
+use Rattle.format.specs.Trace.{Wrong, Trace, amounts, total, stopped, out, Ends}
 use Rattle.format.specs.Format.{Value}
 use Rattle.format.specs.Record.{words, decode, Held}
 use Rattle.format.specs.Layout.{Bytes, bytes}
@@ -30,6 +30,10 @@ use Rattle.promises.specs.Section.{charges, LaysOut}
 -- Document 01's place and budget as the struct that is lent.
 abbrev lentAs : vob.Position → Position
 lentAs p = record { place = p .place; budget = p .budget }
+
+-- The charge list from the place that is lent.
+abbrev pub list : ℕ → Section → List ℕ → Position → Trace Value
+list m x s at = charges settings m x s (at .place)
 
 -- "place and budget, in one struct lent and advanced .. A refusal leaves it unmoved."
 abbrev pub Moved : vob.Answer → Position → Position → Type 0
@@ -79,13 +83,15 @@ module _ {m : ℕ} {x : Section} {s : List ℕ} {at : Position} {t : List ℕ} {
 
   -- "Layout ..: given budget and tape enough, what they admit is taken, nothing else." `Bytes s` holds of any caller's slice of bytes.
   pub layout : Bytes s
-      → Accepted (answerOf q) ↔ ((v : Value) × LaysOut settings m x s (at .place) v × (sectionCost settings x v ≤ at .budget) × (length (words (section settings m x) v) ≤ length t))
+      → Accepted (answerOf q)
+      ↔ ((v : Value) × LaysOut settings m x s (at .place) v × (sectionCost settings x v ≤ at .budget) × (length (words (section settings m x) v) ≤ length t))
   layout = alone.layout by-section
 
   -- "It writes its own section's words from the tape's first word on": those of the value that stands at the place; the place at exit is
   -- where that value's bytes end.
   pub record-holds : {w n c l : ℕ} → answerOf q ≡ Taken w n c l → Bytes s
-      → (v : Value) × LaysOut settings m x s (at .place) v × (take w t′ ≡ words (section settings m x) v) × (decode (section settings m x) (take w t′) s ≡ (v, []))
+      → (v : Value) × LaysOut settings m x s (at .place) v
+      × (take w t′ ≡ words (section settings m x) v) × (decode (section settings m x) (take w t′) s ≡ (v, []))
       × (length (take w t′) ≡ w) × (w ≤ n) × (at′ .place ≡ at .place + length (bytes (section settings m x) v))
   record-holds e bs =
       let r = alone.record-holds by-section e bs in
@@ -95,11 +101,11 @@ module _ {m : ℕ} {x : Section} {s : List ℕ} {at : Position} {t : List ℕ} {
 
   -- "The sum charged plus the budget left is the starting budget, for packs taken and refused. The sum is that of the longest opening part of
   -- the charge list that the starting budget covers": the budget lent is the starting one.
-  pub account : Account (amounts (charges settings m x s (at .place))) (at .budget) (leftOf (answerOf q))
+  pub account : Account (amounts (list m x s at)) (at .budget) (leftOf (answerOf q))
   account = alone.account by-section
 
   -- "In a taken answer charged is the sum of the whole list": the budget at exit is what it leaves.
-  pub charged : {w n c l : ℕ} → answerOf q ≡ Taken w n c l → (c ≡ total (charges settings m x s (at .place))) × (c + at′ .budget ≡ at .budget)
+  pub charged : {w n c l : ℕ} → answerOf q ≡ Taken w n c l → (c ≡ total (list m x s at)) × (c + at′ .budget ≡ at .budget)
   charged {c = c} e = let r = alone.charged by-section e in (r .0, ap (λ i. c + i) (advanced e .1) ∙ r .1)
 
   -- "The sum equals the cost that document 01 works out from the finished record and its texts alone."
@@ -109,37 +115,43 @@ module _ {m : ℕ} {x : Section} {s : List ℕ} {at : Position} {t : List ℕ} {
   charged-cost = alone.charged-cost by-section
 
   -- The four answers, by the charge list: taken,
-  pub taken-where : {v : Value} {p : ℕ} → Ends (charges settings m x s (at .place)) v p → total (charges settings m x s (at .place)) ≤ at .budget → length (words (section settings m x) v) ≤ length t
-      → (answerOf q ≡ Taken (length (words (section settings m x) v)) (p - at .place) (total (charges settings m x s (at .place))) (at .budget - total (charges settings m x s (at .place))))
+  pub taken-where : {v : Value} {p : ℕ} → Ends (list m x s at) v p → total (list m x s at) ≤ at .budget
+      → length (words (section settings m x) v) ≤ length t
+      → (answerOf q ≡ Taken (length (words (section settings m x) v)) (p - at .place) (total (list m x s at)) (at .budget - total (list m x s at)))
       × (t′ ≡ words (section settings m x) v ++ drop (length (words (section settings m x) v)) t)
   taken-where = alone.taken-where by-section
 
   -- 26 with the words needed, and only there,
-  pub no-room : {v : Value} {p : ℕ} → Ends (charges settings m x s (at .place)) v p → total (charges settings m x s (at .place)) ≤ at .budget → length t < length (words (section settings m x) v)
-      → (answerOf q ≡ Refused (noRoomFor (length (words (section settings m x) v)) (length t)) p (at .budget - total (charges settings m x s (at .place)))) × (t′ ≡ t) × (at′ ≡ at)
+  pub no-room : {v : Value} {p : ℕ} → Ends (list m x s at) v p → total (list m x s at) ≤ at .budget
+      → length t < length (words (section settings m x) v)
+      → (answerOf q ≡ Refused (noRoomFor (length (words (section settings m x) v)) (length t)) p (at .budget - total (list m x s at)))
+      × (t′ ≡ t) × (at′ ≡ at)
   no-room e h k = let r = alone.no-room by-section e h k in (r .0, r .1, unmoved (r .0))
 
   pub no-room-only : {y : Wrong} {p l : ℕ} → answerOf q ≡ Refused y p l → y .number ≡ Refusals.noRoom
-      → (v : Value) × Ends (charges settings m x s (at .place)) v p × (total (charges settings m x s (at .place)) ≤ at .budget) × (length t < length (words (section settings m x) v))
+      → (v : Value) × Ends (list m x s at) v p × (total (list m x s at) ≤ at .budget) × (length t < length (words (section settings m x) v))
   no-room-only = alone.no-room-only by-section
 
   -- a question answered no,
-  pub answered-no : {y : Wrong} {p : ℕ} → out (charges settings m x s (at .place)) ≡ stopped y p → total (charges settings m x s (at .place)) ≤ at .budget
-      → (answerOf q ≡ Refused y p (at .budget - total (charges settings m x s (at .place)))) × (t′ ≡ t) × (at′ ≡ at)
+  pub answered-no : {y : Wrong} {p : ℕ} → out (list m x s at) ≡ stopped y p → total (list m x s at) ≤ at .budget
+      → (answerOf q ≡ Refused y p (at .budget - total (list m x s at))) × (t′ ≡ t) × (at′ ≡ at)
   answered-no e h = let r = alone.answered-no by-section e h in (r .0, r .1, unmoved (r .0))
 
   -- and 5 at the first charge that can't be paid.
-  pub broke-where : at .budget < total (charges settings m x s (at .place)) → IsBroke (charges settings m x s (at .place)) (at .budget) (answerOf q) × (t′ ≡ t) × (at′ ≡ at)
+  pub broke-where : at .budget < total (list m x s at) → IsBroke (list m x s at) (at .budget) (answerOf q) × (t′ ≡ t) × (at′ ≡ at)
   broke-where h = let r = alone.broke-where by-section h in (r .0, r .1, unmoved (r .0 .is))
 
 -- "Read again under any starting budget, with tape enough and nothing else changed, [it] is taken with the same record, bytes taken and sum
 -- exactly when the budget reaches this cost; otherwise it is refused with AllocationBudgetExceeded at the first charge of the list that
 -- can't be paid": from the same place.
-pub read-again : {m : ℕ} {x : Section} {s : List ℕ} {a b : ℕ} {t : List ℕ} {q : Answer} {at′ : Position} {t′ : List ℕ} → LentCall m x s (record { place = a; budget = b }) t q at′ t′
+pub read-again : {m : ℕ} {x : Section} {s : List ℕ} {a b : ℕ} {t : List ℕ} {q : Answer} {at′ : Position} {t′ : List ℕ}
+    → LentCall m x s (record { place = a; budget = b }) t q at′ t′
     → {w n c l : ℕ} → answerOf q ≡ Taken w n c l
-    → {b₂ : ℕ} {t₂ : List ℕ} {q₂ : Answer} {at₂′ : Position} {t₂′ : List ℕ} → LentCall m x s (record { place = a; budget = b₂ }) t₂ q₂ at₂′ t₂′ → w ≤ length t₂
+    → {b₂ : ℕ} {t₂ : List ℕ} {q₂ : Answer} {at₂′ : Position} {t₂′ : List ℕ}
+    → LentCall m x s (record { place = a; budget = b₂ }) t₂ q₂ at₂′ t₂′ → w ≤ length t₂
     → (((answerOf q₂ ≡ Taken w n c (b₂ - c)) × (take w t₂′ ≡ take w t′)) ↔ (sectionRecordCost settings m x (take w t′) s ≤ b₂))
-    × (b₂ < sectionRecordCost settings m x (take w t′) s → IsBroke (charges settings m x s a) b₂ (answerOf q₂) × (t₂′ ≡ t₂) × (at₂′ ≡ record { place = a; budget = b₂ }))
+    × (b₂ < sectionRecordCost settings m x (take w t′) s
+    → IsBroke (charges settings m x s a) b₂ (answerOf q₂) × (t₂′ ≡ t₂) × (at₂′ ≡ record { place = a; budget = b₂ }))
 read-again call e call₂ room =
     let r = alone.read-again (by-section call) e (by-section call₂) room in
     (r .0, λ h. let k = r .1 h in (k .0, k .1, unmoved call₂ (k .0 .is)))
@@ -147,7 +159,8 @@ read-again call e call₂ room =
 -- "Exactly the files whose charge list ends with the pack, not at a question, are taken under some starting budget with tape enough": with the
 -- section, from this place on, under one of 64 bits.
 pub some-budget : (m : ℕ) (x : Section) (s : List ℕ) (a : ℕ) → Bytes s
-    → ((b : ℕ) × (t : List ℕ) × (q : Answer) × (at′ : Position) × (t′ : List ℕ) × (b < 2 ^ 64) × LentCall m x s (record { place = a; budget = b }) t q at′ t′ × Accepted (answerOf q))
+    → ((b : ℕ) × (t : List ℕ) × (q : Answer) × (at′ : Position) × (t′ : List ℕ)
+    × (b < 2 ^ 64) × LentCall m x s (record { place = a; budget = b }) t q at′ t′ × Accepted (answerOf q))
     ↔ ((v : Value) × (p : ℕ) × Ends (charges settings m x s a) v p)
 some-budget m x s a bs = (
   λ h. alone.some-budget settings settings-licensed m x s a bs .0 (h .0, h .1, h .2, h .4, h .5, by-section (h .6), h .7),

@@ -33,7 +33,8 @@ abbrev pub artifactsOf : Value → List Value
 artifactsOf v = entries (partOf artifacts v)
 
 -- The packs that are looked in: the layouts of valid values whose cost is within that budget.
-pub looked-in : (set : Settings) (s : List ℕ) (v : Value) → Bytes s → ((p l : ℕ) × (reread set s ≡ taken v p l)) ↔ (LaysOut set s v × (packCost set v ≤ startingBudget))
+pub looked-in : (set : Settings) (s : List ℕ) (v : Value) → Bytes s
+    → ((p l : ℕ) × (reread set s ≡ taken v p l)) ↔ (LaysOut set s v × (packCost set v ≤ startingBudget))
 looked-in set s v bs = (
   λ h.
       let r = settle-taken startingBudget (charges set s) v (h .0) (h .1) .0 (h .2) in
@@ -69,7 +70,8 @@ module _ {set : Settings} {s name : List ℕ} {q : Found} (call : LocateCall set
   located-first e f = call .is ∙ spec.find-first set s name e f
 
   -- "Such an artifact? 27 NoSuchArtifact": where no artifact has the name, and only there.
-  pub located-none : {v : Value} {p l : ℕ} → reread set s ≡ taken v p l → NoneNamed name (artifactsOf v) → foundOf q ≡ Not (wrong Refusals.noSuchArtifact 0) p l
+  pub located-none : {v : Value} {p l : ℕ} → reread set s ≡ taken v p l → NoneNamed name (artifactsOf v)
+      → foundOf q ≡ Not (wrong Refusals.noSuchArtifact 0) p l
   located-none e n = call .is ∙ spec.find-none set s name e n
 
   pub located-none-only : {x : Wrong} {p l : ℕ} → foundOf q ≡ Not x p l → x .number ≡ Refusals.noSuchArtifact

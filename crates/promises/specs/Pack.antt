@@ -33,7 +33,8 @@ charges set s = wholeTrace set s
 abbrev pub LaysOut : Settings → List ℕ → Value → Type 0
 LaysOut set s v = (length s ≤ maxPackBytes) × Valid (pack set) v 0 × (s ≡ bytes (pack set) v)
 
-called : {set : Settings} {s : List ℕ} {b : ℕ} {t : List ℕ} {q : Answer} {t′ : List ℕ} → ReadCall set s b t q t′ → Call (pack set) (charges set s) 0 b t (answerOf q) t′
+called : {set : Settings} {s : List ℕ} {b : ℕ} {t : List ℕ} {q : Answer} {t′ : List ℕ}
+    → ReadCall set s b t q t′ → Call (pack set) (charges set s) 0 b t (answerOf q) t′
 unfolding vob.readOutcome
 called call = record { is = call .is }
 
@@ -65,7 +66,8 @@ module _ {set : Settings} {s : List ℕ} {b : ℕ} {t : List ℕ} {q : Answer} {
   -- "Where a pack is taken, its record holds the file's fields as document 01 lays them on the tape": the counted words are the words of the
   -- value that the file lays out, and give it back, with no word left over. The whole pack was taken.
   pub record-holds : {w n c l : ℕ} → answerOf q ≡ Taken w n c l → Bytes s
-      → (v : Value) × LaysOut set s v × (take w t′ ≡ words (pack set) v) × (decode (pack set) (take w t′) s ≡ (v, [])) × (length (take w t′) ≡ w) × (w ≤ n) × (n ≡ length s)
+      → (v : Value) × LaysOut set s v × (take w t′ ≡ words (pack set) v) × (decode (pack set) (take w t′) s ≡ (v, []))
+      × (length (take w t′) ≡ w) × (w ≤ n) × (n ≡ length s)
   record-holds e bs =
       let k = common.only (called call) e in
       let r = spec.whole-layout set s (k .value) (k .place) bs .0 (k .ends) in
@@ -102,7 +104,8 @@ module _ {set : Settings} {s : List ℕ} {b : ℕ} {t : List ℕ} {q : Answer} {
 
   -- The four answers, by the charge list. It ends with the pack, and budget and tape reach: taken.
   pub taken-where : {v : Value} {p : ℕ} → Ends (charges set s) v p → total (charges set s) ≤ b → length (words (pack set) v) ≤ length t
-      → (answerOf q ≡ Taken (length (words (pack set) v)) (length s) (total (charges set s)) (b - total (charges set s))) × (t′ ≡ words (pack set) v ++ drop (length (words (pack set) v)) t)
+      → (answerOf q ≡ Taken (length (words (pack set) v)) (length s) (total (charges set s)) (b - total (charges set s)))
+      × (t′ ≡ words (pack set) v ++ drop (length (words (pack set) v)) t)
   taken-where {p = p} e h k = let all : p - 0 ≡ length s = omega (arith, spec.whole-end set s e) in rw all at (common.taken-at (called call) e h k)
 
   -- The tape does not: "26 NoRoom (d1 needed, d2 length)", after all charges; and 26 only there.
@@ -115,7 +118,8 @@ module _ {set : Settings} {s : List ℕ} {b : ℕ} {t : List ℕ} {q : Answer} {
   no-room-only = common.short-only (called call) (λ y i j h. whole-listed set s b h)
 
   -- It ends where a question is answered no, and the budget covers the charges before it: that refusal.
-  pub answered-no : {x : Wrong} {p : ℕ} → out (charges set s) ≡ stopped x p → total (charges set s) ≤ b → (answerOf q ≡ Refused x p (b - total (charges set s))) × (t′ ≡ t)
+  pub answered-no : {x : Wrong} {p : ℕ} → out (charges set s) ≡ stopped x p → total (charges set s) ≤ b
+      → (answerOf q ≡ Refused x p (b - total (charges set s))) × (t′ ≡ t)
   answered-no = common.stopped-at (called call)
 
   -- The budget does not cover the list: 5 at the first charge that can't be paid.

@@ -35,7 +35,8 @@ charges set m x s a = sectionTrace set m x s a
 abbrev pub LaysOut : Settings → ℕ → Section → List ℕ → ℕ → Value → Type 0
 LaysOut set m x s a v = (length s ≤ maxPackBytes) × (a ≤ length s) × Valid (section set m x) v a × At s a (bytes (section set m x) v)
 
-called : {set : Settings} {m : ℕ} {x : Section} {s : List ℕ} {a b : ℕ} {t : List ℕ} {q : Answer} {t′ : List ℕ} → SectionCall set m x s a b t q t′ → Call (section set m x) (charges set m x s a) a b t (answerOf q) t′
+called : {set : Settings} {m : ℕ} {x : Section} {s : List ℕ} {a b : ℕ} {t : List ℕ} {q : Answer} {t′ : List ℕ}
+    → SectionCall set m x s a b t q t′ → Call (section set m x) (charges set m x s a) a b t (answerOf q) t′
 unfolding vob.sectionOutcome
 called call = record { is = call .is }
 
@@ -57,7 +58,8 @@ module _ {set : Settings} {m : ℕ} {x : Section} {s : List ℕ} {a b : ℕ} {t 
   -- ---- demand 2
 
   -- "Layout ..: given budget and tape enough, what they admit is taken, nothing else." `Bytes s` holds of any caller's slice of bytes.
-  pub layout : Bytes s → Accepted (answerOf q) ↔ ((v : Value) × LaysOut set m x s a v × (sectionCost set x v ≤ b) × (length (words (section set m x) v) ≤ length t))
+  pub layout : Bytes s
+      → Accepted (answerOf q) ↔ ((v : Value) × LaysOut set m x s a v × (sectionCost set x v ≤ b) × (length (words (section set m x) v) ≤ length t))
   layout bs =
       common.taken-where (called call) (spec.section-reads set m x s a) (section-costs set m x) (LaysOut set m x s a)
       (λ v p h. let r = spec.section-layout set m x s a v p bs .0 h in (r .0, r .1, r .2, r .3))
