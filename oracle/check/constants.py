@@ -153,7 +153,7 @@ for what, places in {
     ],
     "the starting budget": [
         ("crates/vob24/specs/Settings.antt", r"^startingBudget = (\d+)"),
-        ("crates/serialize/src/lib.rt", r"STARTING_BUDGET: u64 = ([\d_]+)"),
+        ("crates/pack/src/lib.rt", r"STARTING_BUDGET: u64 = ([\d_]+)"),
         ("bindings/rust/src/lib.rs", r"STARTING_BUDGET: u64 = ([\d_]+)"),
         ("bindings/c/vob.h", r"VOB_STARTING_BUDGET UINT64_C\((\d+)\)"),
         ("oracle/check/reader.py", r"^RUST_BUDGET = ([\d_]+)"),

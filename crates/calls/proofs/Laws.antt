@@ -13,21 +13,21 @@ use Rattle.format.specs.Trace.{wrong, Trace, guard, refused, taken, settle, pic
 use Rattle.format.specs.Format.{Value, Format}
 use Rattle.format.specs.Reading.{trace}
 use Rattle.format.specs.Record.{words}
-use Rattle.format.specs.Settling.{settle-taken, thenS}
-use Rattle.format.specs.Ending.{trace-within}
+use Rattle.format.specs.SettleTheorems.{settle-taken, thenS}
+use Rattle.format.specs.TraceTheorems.{trace-within}
 use Rattle.vob24.specs.Refusals
 use Rattle.vob24.specs.Settings.{Settings, maxPackBytes}
 use Rattle.vob24.specs.Grammar.{Section, section, pack}
 use Rattle.vob24.specs.Calls as vob
 use Rattle.vob24.specs.Theorems.{whole-settled, section-alone}
 use Rattle.reader.specs.Contract.{refusal, wrongOf, ReadyAt, Takes, Reads, takes, refuses, skips, Reader}
-use Rattle.second_pass.specs.Granted.{Granted}
-use Rattle.second_pass.proofs.Laws.{taken-granted}
+use Rattle.reader.specs.Accepted.{Accepted}
+use Rattle.reader.proofs.Accepting.{taken-accepted}
 use Rattle.reader.specs.declared.Cursor.{Cursor}
 use Rattle.reader.specs.declared.Refusal.{Refusal}
 use Rattle.reader.specs.declared.Step.{Step}
 use Rattle.reader.specs.declared.Step.the-variants.{Taken, Refused}
-use Rattle.calls.specs.Call.{answerOf, from, opened, Opens, ended, closed, Ends, Closes, Since, Within, ReadCall, SectionCall}
+use Rattle.calls.specs.Contract.{answerOf, from, opened, Opens, ended, closed, Ends, Closes, Since, Within, ReadCall, SectionCall}
 use Rattle.calls.specs.declared.Answer.{Answer}
 
 -- ---- the three questions
@@ -148,9 +148,9 @@ module _ {f : Format} {t : Trace Value} {s : List ℕ} {p b : ℕ} {r₀ : Step}
   passed-since (denied i) = record { place = λ c e. let no : _≡_ {A = ℕ} 0 1 = cc in absurd (omega arith); left = λ c e. let no : _≡_ {A = ℕ} 0 1 = cc in absurd (omega arith) }
 
   -- what a first pass has taken is not refused in a second
-  passed-granted : {g : Bool} {r : Step} {c : Cursor} → Passed f t s p b r₀ r → r ≡ Taken c → Granted g f s r₀
-  passed-granted (passed o _ i _) e = taken-granted o i
-  passed-granted (denied i) e = let no : _≡_ {A = ℕ} 0 1 = cc in absurd (omega arith)
+  passed-accepted : {g : Bool} {r : Step} {c : Cursor} → Passed f t s p b r₀ r → r ≡ Taken c → Accepted g f s r₀
+  passed-accepted (passed o _ i _) e = taken-accepted o i
+  passed-accepted (denied i) e = let no : _≡_ {A = ℕ} 0 1 = cc in absurd (omega arith)
 
 -- the question of room, answered either way
 data Closed (p b room : ℕ) (c : Cursor) : Answer → Type 0 where
@@ -246,8 +246,8 @@ module _ (set : Settings) (n : ℕ) (x : Section) {s : List ℕ} {p b : ℕ} {r�
   pub section-since : Since p b r
   section-since = passed-since section-passed
 
-  pub section-granted : {g : Bool} {room : ℕ} {q : Answer} {w i c l : ℕ} → Closes p b room r q → q ≡ Answer.Taken w i c l → Granted g (section set n x) s r₀
-  section-granted {room = room} m j = passed-granted section-passed (closed-taken p b room r (m .is) j .1)
+  pub section-accepted : {g : Bool} {room : ℕ} {q : Answer} {w i c l : ℕ} → Closes p b room r q → q ≡ Answer.Taken w i c l → Accepted g (section set n x) s r₀
+  section-accepted {room = room} m j = passed-accepted section-passed (closed-taken p b room r (m .is) j .1)
 
   module _ {t : List ℕ} {q : Answer} (z : length e ≡ 0) (m : Closes p b (length (e ++ t)) r q) where
     pub section-refused : {y : Refusal} → q ≡ Answer.Refused y → SectionCall set n x s p b t q (e ++ t)
@@ -287,8 +287,8 @@ module _ (set : Settings) {s : List ℕ} {b : ℕ} {r₀ r : Step} {t₀ e : Lis
     pub read-room : w ≤ room
     read-room = let d = closed-taken 0 b room (ended (length s) r) (m .is) j in omega (arith, d .2, d .3)
 
-    pub read-granted : {g : Bool} → Granted g (pack set) s r₀
-    read-granted = passed-granted whole-passed (closed-taken 0 b room (ended (length s) r) (m .is) j .1)
+    pub read-accepted : {g : Bool} → Accepted g (pack set) s r₀
+    read-accepted = passed-accepted whole-passed (closed-taken 0 b room (ended (length s) r) (m .is) j .1)
 
   -- a small pack: read over a tape of its own
   module _ {t : List ℕ} {q : Answer} (m : Closes 0 b (length t) (ended (length s) r) q) where

@@ -4,7 +4,7 @@ ghost use mathlib.Core.Path.{_≡_};
 ghost use Prim.Native.Nat.{_≤_};
 ghost use lib.ListN.{length};
 ghost use lib.Seq.{paste};
-ghost use Rattle.calls.specs.Call.{Opens, Since, Within, Ends, Closes, ended};
+ghost use Rattle.calls.specs.Contract.{Opens, Since, Within, Ends, Closes, ended};
 use reader::Cursor;
 use reader::Refusal;
 use reader::Step;
@@ -106,7 +106,7 @@ pub fn closed(first: Step, place: usize, budget: u64, room: usize) -> Answer
 }
 
 // The first n words of a tape, to another.
-pub fn copy_words(from: &[u32], n: usize, to: &mut [u32])
+pub fn copy_record(from: &[u32], n: usize, to: &mut [u32])
     requires { ⌜ (n ≤ length (now from)) × (n ≤ length (now to)) ⌝ }
     ensures { λ q. ⌜ now (to .exit) ≡ paste (now (to .entry)) 0 (now (from .entry)) n ⌝ }
 {

@@ -10,7 +10,7 @@ use lib.ListN.{getD}
 use mir.Syntax.{w64}
 use mir.Val.{toZ}
 use Rattle.format.specs.Format.{Value, number, Format, empty}
-use Rattle.format.specs.Ending.{part-length}
+use Rattle.format.specs.TraceTheorems.{part-length}
 use Rattle.vob24.specs.Leaves.{u64, bool, str}
 use Rattle.vob24.specs.Grammar as vob
 use Rattle.fields.specs.Fields.{constantTag}
@@ -28,8 +28,8 @@ use Rattle.reader.specs.declared.Float.{Float as FloatAnswer}
 use Rattle.reader.proofs.Laws.{at-step, got-ready}
 use Rattle.reader.proofs.Parts.{span-of, tag-most-bare}
 use Rattle.reader.proofs.Keeping.{long-lost, long-kept, wordy8}
-use Rattle.records.specs.Recorded.{Recorded}
-use Rattle.records.proofs.Recording.{lostHere, lostLast, recordedNot, recordedEmpty, recordedValue, recordedThen, recordedLast}
+use Rattle.reader.specs.Recorded.{Recorded}
+use Rattle.reader.proofs.Recording.{lostHere, lostLast, recordedNot, recordedEmpty, recordedValue, recordedThen, recordedLast}
 use Rattle.constants.specs.declared.answers.Constant.{Constant}
 use Rattle.constants.specs.Constants.{constantFormat, constantOf, constantBy, boolOf, intOf, floatOf, textOf}
 

@@ -4,7 +4,7 @@ ghost use Rattle.vob24.specs.Settings.{settingsOf};
 ghost use mathlib.Core.Path.{_≡_};
 ghost use Rattle.vob24.specs.Leaves.{u64, bool, str};
 ghost use Rattle.reader.specs.Contract.{Ready, ReadyAt, Reader};
-ghost use Rattle.records.specs.Recorded.{Recorded};
+ghost use Rattle.reader.specs.Recorded.{Recorded};
 ghost use Rattle.constants.specs.Constants.{constantFormat, constantList, stepOfConstant, recordOfConstant, boolOf, intOf, floatOf, textOf, constantOf};
 use answers::Constant;
 use answers::ConstantRead;
@@ -30,7 +30,7 @@ pub fn constant_step(q: ConstantRead) -> Step
 }
 
 // A refusal as an answer.
-fn refused_constant(r: Step) -> ConstantRead
+fn constant_refusal(r: Step) -> ConstantRead
     ensures { λ q. ⌜ stepOfConstant q ≡ r ⌝ }
 {
     match r {
@@ -45,7 +45,7 @@ fn constant_bool(s: &[u8], c: Cursor, tape: &mut [u32]) -> ConstantRead
 {
     let q = fields::number_bool(s, c, tape);
     let Number::Got(n, d) = q else {
-        return refused_constant(reader::refused(q));
+        return constant_refusal(reader::step_of(q));
     };
     ConstantRead::Got(Constant::Bool(n == 1), d)
 }
@@ -57,7 +57,7 @@ fn constant_int(s: &[u8], c: Cursor, tape: &mut [u32]) -> ConstantRead
 {
     let q = reader::read_i64(s, c);
     let Signed::Got(value, bits, d) = q else {
-        return refused_constant(reader::refused_signed(q));
+        return constant_refusal(reader::signed_step(q));
     };
     ConstantRead::Got(
         Constant::Int(value),
@@ -71,7 +71,7 @@ fn constant_float(s: &[u8], c: Cursor, tape: &mut [u32]) -> ConstantRead
 {
     let q = reader::read_f64(s, c);
     let Float::Got(value, bits, d) = q else {
-        return refused_constant(reader::refused_float(q));
+        return constant_refusal(reader::float_step(q));
     };
     ConstantRead::Got(
         Constant::Float(value),
@@ -85,7 +85,7 @@ fn constant_text(s: &[u8], c: Cursor, tape: &mut [u32]) -> ConstantRead
 {
     let q = fields::span_str(s, c, tape);
     let Payload::Got(start, length, d) = q else {
-        return refused_constant(reader::refused_payload(q));
+        return constant_refusal(reader::payload_step(q));
     };
     ConstantRead::Got(Constant::Text { start, length }, d)
 }
@@ -96,7 +96,7 @@ pub fn constant(s: &[u8], c: Cursor, tape: &mut [u32]) -> ConstantRead
 {
     let q = fields::number_constant_tag(s, c, tape);
     let Number::Got(tag, d) = q else {
-        return refused_constant(reader::refused(q));
+        return constant_refusal(reader::step_of(q));
     };
     match tag {
         0 => ConstantRead::Got(Constant::Nil, d),
@@ -127,7 +127,7 @@ pub fn constants(s: &[u8], set: &Settings, r: Step, tape: &mut [u32]) -> Step
     };
     let q = fields::number_count(s, set, c, sizes::CONSTANT, tape);
     let Number::Got(n, d) = q else {
-        return reader::refused(q);
+        return reader::step_of(q);
     };
     let mut k = n;
     let mut here = Step::Taken(d);

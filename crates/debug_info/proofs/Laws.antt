@@ -7,7 +7,7 @@ use lib.Dec.{leb→le}
 use lib.ListN.{length}
 use Rattle.format.specs.Format.{Value, number, Format, count, _▸_, chain, times}
 use Rattle.format.specs.Reading.{little, part, trace}
-use Rattle.format.specs.Ending.{leaf-ends, seq-ends}
+use Rattle.format.specs.TraceTheorems.{leaf-ends, seq-ends}
 use Rattle.vob24.specs.Refusals.{debugMetadataLimitExceeded, inlineFrames, inlineEntries, inlineFunctions, vector}
 use Rattle.vob24.specs.Settings as of
 use Rattle.vob24.specs.Settings.{Settings, sizeOf}

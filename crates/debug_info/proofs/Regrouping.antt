@@ -9,8 +9,8 @@ use Rattle.format.specs.Trace.{Settled, refused, taken, settle}
 use Rattle.format.specs.Format.{Value, pair, number, Rule, count, Format, leaf, seq, _▸_, chain, times}
 use Rattle.format.specs.Reading.{little, part, trace}
 use Rattle.format.specs.Record.{words}
-use Rattle.format.specs.Settling.{thenS}
-use Rattle.format.specs.Ending.{leaf-ends, settle-seq}
+use Rattle.format.specs.SettleTheorems.{thenS}
+use Rattle.format.specs.TraceTheorems.{leaf-ends, settle-seq}
 use Rattle.vob24.specs.Leaves.{sourceU32}
 use Rattle.vob24.specs.Grammar as vob
 use Rattle.reader.specs.Contract.{wrongOf, Ready, Takes, Refuses, Reads, takes, refuses, skips, Reader, NumberOf}

@@ -13,7 +13,7 @@ use Rattle.format.specs.Format.{num}
 use Rattle.format.specs.Reading.{little, part, packedStep, tracePacked, traceLeaf, trace}
 use Rattle.format.specs.Record.{words, wordsLeaf}
 use Rattle.format.specs.Layout.{Bytes}
-use Rattle.format.specs.Settling.{thenS, settle-bind}
+use Rattle.format.specs.SettleTheorems.{thenS, settle-bind}
 use Rattle.vob24.specs.Leaves.{sourceU32}
 use Rattle.reader.specs.Contract.{ReadyAt}
 use Rattle.reader.specs.Leaves.{Fetches, Fetched}

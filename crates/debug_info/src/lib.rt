@@ -26,7 +26,7 @@ pub fn files(s: &[u8], set: &Settings, r: Step, tape: &mut [u32]) -> Step
     };
     let q = fields::number_count(s, set, c, sizes::STRING, tape);
     let Number::Got(n, d) = q else {
-        return reader::refused(q);
+        return reader::step_of(q);
     };
     let mut k = n;
     let mut here = Step::Taken(d);
@@ -192,7 +192,7 @@ pub fn locations(s: &[u8], set: &Settings, r: Step, tape: &mut [u32]) -> Step
     };
     let q = fields::number_count(s, set, c, sizes::DEBUG_LOC, tape);
     let Number::Got(n, d) = q else {
-        return reader::refused(q);
+        return reader::step_of(q);
     };
     source_numbers(s, Step::Taken(d), n * 5, tape)
 }
@@ -206,7 +206,7 @@ pub fn function_locations(s: &[u8], set: &Settings, r: Step, tape: &mut [u32]) -
     };
     let q = fields::number_count(s, set, c, sizes::FUNC_DEBUG_INFO, tape);
     let Number::Got(n, d) = q else {
-        return reader::refused(q);
+        return reader::step_of(q);
     };
     let mut k = n;
     let mut here = Step::Taken(d);
@@ -241,7 +241,7 @@ pub fn optional_span(s: &[u8], r: Step, tape: &mut [u32]) -> Step
     };
     let q = fields::number_bool(s, c, tape);
     let Number::Got(n, d) = q else {
-        return reader::refused(q);
+        return reader::step_of(q);
     };
     let here = Step::Taken(d);
     if n == 0 {
@@ -277,7 +277,7 @@ pub fn inline_frames(s: &[u8], set: &Settings, r: Step, tape: &mut [u32]) -> Ste
         tape,
     );
     let Number::Got(n, d) = q else {
-        return reader::refused(q);
+        return reader::step_of(q);
     };
     let mut k = n;
     let mut here = Step::Taken(d);
@@ -325,11 +325,11 @@ pub fn inline_function(s: &[u8], set: &Settings, c: Cursor, left: u64, tape: &mu
     while 0 < k {
         here = inline_entry(s, here, tape);
         let Step::Taken(_) = here else {
-            return reader::with(n, here);
+            return reader::number_of(n, here);
         };
         k -= 1;
     }
-    reader::with(n, here)
+    reader::number_of(n, here)
 }
 
 fn smaller(a: u64, b: u64) -> u64
@@ -358,7 +358,7 @@ pub fn inline_functions(s: &[u8], set: &Settings, r: Step, functions: u64, tape:
         tape,
     );
     let Number::Got(n, d) = q else {
-        return reader::refused(q);
+        return reader::step_of(q);
     };
     let mut k = n;
     let mut here = d;
@@ -366,7 +366,7 @@ pub fn inline_functions(s: &[u8], set: &Settings, r: Step, functions: u64, tape:
     while 0 < k {
         let p = inline_function(s, set, here, left, tape);
         let Number::Got(m, e) = p else {
-            return reader::refused(p);
+            return reader::step_of(p);
         };
         here = e;
         left -= m;

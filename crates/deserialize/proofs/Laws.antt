@@ -10,13 +10,13 @@ use borrow.Author.Tests.{le-leb}
 use Rattle.format.specs.Trace.{Settled, refused, taken, settle}
 use Rattle.format.specs.Format.{Value, pair, first, second, Format, seq, entries}
 use Rattle.format.specs.Reading.{little, part, trace}
-use Rattle.format.specs.Settling.{thenS, settle-taken}
-use Rattle.format.specs.Ending.{settle-seq, seq-ends}
+use Rattle.format.specs.SettleTheorems.{thenS, settle-taken}
+use Rattle.format.specs.TraceTheorems.{settle-seq, seq-ends}
 use Rattle.vob24.specs.Settings.{Settings}
 use Rattle.vob24.specs.Grammar.{name, structs, interfaces, namedTypes, itabs, runtimeTypes, wellKnown, constants, globals, functions, externs, entry, islandInit, artifacts, section, afterFunctions, sections, magic, version, pack, artifact}
 use Rattle.vob24.specs.Cost.{partOf}
-use Rattle.items.specs.Contract.{Items}
-use Rattle.items.specs.Walk.{itemsAt, list-off}
+use Rattle.in_place.specs.Contract.{Items}
+use Rattle.in_place.specs.Walk.{itemsAt, list-off}
 use Rattle.reader.specs.Contract.{Ready, ReadyAt, Reads, takes, refuses, skips, Reader}
 use Rattle.reader.proofs.Laws.{fieldReads}
 use Rattle.reader.specs.declared.Cursor.{Cursor}
@@ -24,7 +24,7 @@ use Rattle.reader.specs.declared.Step.{Step}
 use Rattle.reader.specs.declared.Refusal.{Refusal}
 use Rattle.reader.specs.declared.Step.the-variants.{Taken, Refused}
 use Rattle.vob24.specs.declared.Section.{Section}
-use Rattle.second_pass.specs.Granted.{Granted}
+use Rattle.reader.specs.Accepted.{Accepted}
 use Rattle.deserialize.specs.Parts.{formatOf, ComesTo}
 use Rattle.deserialize.specs.Reach.{On, Reaches}
 
@@ -78,8 +78,8 @@ module _ (set : Settings) {x : Section} (y : Section) (e : x ≡ y) {s : List �
   pub section-at : {q : Step} {t t′ : List ℕ} → Reader (formatOf set y) s r t q t′ → Reader (formatOf set x) s r t q t′
   section-at h = rw e h
 
-  pub granted-section : {b : Bool} → Granted b (formatOf set x) s r → Granted b (formatOf set y) s r
-  granted-section g = rw e at g
+  pub accepted-section : {b : Bool} → Accepted b (formatOf set x) s r → Accepted b (formatOf set y) s r
+  accepted-section g = rw e at g
 
 -- ---- the lookup
 

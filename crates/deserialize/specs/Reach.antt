@@ -12,8 +12,8 @@ use Rattle.vob24.specs.Cost.{partOf}
 use Rattle.reader.specs.declared.Cursor.{Cursor}
 use Rattle.reader.specs.declared.Step.{Step}
 use Rattle.reader.specs.declared.Step.the-variants.{Taken}
-use Rattle.items.specs.Contract.{Items}
-use Rattle.items.specs.Walk.{itemsAt}
+use Rattle.in_place.specs.Contract.{Items}
+use Rattle.in_place.specs.Walk.{itemsAt}
 
 -- Where the answer so far stands, the reading of f takes v and ends with q and l.
 pub record On (f : Format) (s : List ℕ) (v : Value) (q l : ℕ) (r : Step) : Type 0 where

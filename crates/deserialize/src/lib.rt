@@ -5,7 +5,7 @@ ghost use Rattle.format.specs.Format.{Format, counted};
 ghost use Rattle.vob24.specs.Settings.{settingsOf};
 ghost use Rattle.vob24.specs.Grammar.{afterFunctions, section, functions as functionsSection, pack as packFormat};
 ghost use Rattle.reader.specs.Contract.{Ready, Reader};
-ghost use Rattle.second_pass.specs.Granted.{Granted};
+ghost use Rattle.reader.specs.Accepted.{Accepted};
 ghost use Rattle.deserialize.specs.Parts.{formatOf, fromArtifacts, fromWellKnown, fromStructs, ComesTo};
 ghost use Rattle.deserialize.specs.Reach.{Reaches};
 use reader::Number;
@@ -24,7 +24,7 @@ fn artifacts_on(s: &[u8], set: &Settings, r: Step, functions: u64, tape: &mut [u
     if empty_lists::five_at(s, c) {
         return Step::Taken(empty_lists::past_five(s, c, tape));
     }
-    let r1 = tables::artifacts(s, set, r, tape);
+    let r1 = small_sections::artifacts(s, set, r, tape);
     let r2 = debug_info::files(s, set, r1, tape);
     let r3 = debug_info::function_locations(s, set, r2, tape);
     debug_info::inline_sources(s, set, r3, functions, tape)
@@ -35,9 +35,9 @@ fn after_functions(s: &[u8], set: &Settings, r: Step, functions: u64, tape: &mut
     requires { ⌜ Ready (now s) r ⌝ }
     ensures { λ q. ⌜ Reader (afterFunctions (settingsOf (now (set .entry))) functions) (now (s .entry)) r (now (tape .entry)) q (now (tape .exit)) ⌝ }
 {
-    let r1 = tables::externs(s, r, tape);
-    let r2 = tables::entry(s, r1, tape);
-    let r3 = tables::island_init(s, r2, tape);
+    let r1 = small_sections::externs(s, r, tape);
+    let r2 = small_sections::entry(s, r1, tape);
+    let r3 = small_sections::island_init(s, r2, tape);
     artifacts_on(s, set, r3, functions, tape)
 }
 
@@ -51,14 +51,14 @@ fn functions_on(s: &[u8], set: &Settings, r: Step, tape: &mut [u32]) -> Step
     };
     let q = functions::number_functions(s, set, c, tape);
     let Number::Got(n, d) = q else {
-        return reader::refused(q);
+        return reader::step_of(q);
     };
     after_functions(s, set, Step::Taken(d), n, tape)
 }
 
 // The types: five lists, which are empty in a small pack.
 fn types(s: &[u8], set: &Settings, r: Step, again: bool, tape: &mut [u32]) -> Step
-    requires { ⌜ (Ready (now s) r) × (Granted again (fromStructs (settingsOf (now set))) (now s) r) ⌝ }
+    requires { ⌜ (Ready (now s) r) × (Accepted again (fromStructs (settingsOf (now set))) (now s) r) ⌝ }
     ensures { λ q. ⌜ ComesTo (fromStructs (settingsOf (now (set .entry)))) (fromWellKnown (settingsOf (now (set .entry)))) (now (s .entry)) r (now (tape .entry)) q (now (tape .exit)) ⌝ }
 {
     let Step::Taken(c) = r else {
@@ -70,22 +70,22 @@ fn types(s: &[u8], set: &Settings, r: Step, again: bool, tape: &mut [u32]) -> St
     let r1 = structs::structs(s, set, r, again, tape);
     let r2 = interfaces::interfaces(s, set, r1, again, tape);
     let r3 = named_types::named_types(s, set, r2, again, tape);
-    let r4 = tables::itabs(s, set, r3, tape);
+    let r4 = small_sections::itabs(s, set, r3, tape);
     runtime_type::runtime_types(s, set, r4, again, tape)
 }
 
 // The whole pack, up to the question of what comes after it. A second pass leaves out the search for repeated names.
 pub fn deserialize(s: &[u8], set: &Settings, r: Step, again: bool, tape: &mut [u32]) -> Step
-    requires { ⌜ (Ready (now s) r) × (Granted again (packFormat (settingsOf (now set))) (now s) r) ⌝ }
+    requires { ⌜ (Ready (now s) r) × (Accepted again (packFormat (settingsOf (now set))) (now s) r) ⌝ }
     ensures { λ q. ⌜ Reader (packFormat (settingsOf (now (set .entry)))) (now (s .entry)) r (now (tape .entry)) q (now (tape .exit)) ⌝ }
 {
     let r1 = fields::field_magic(s, r, tape);
     let r2 = fields::field_version(s, r1, tape);
     let r3 = fields::field_str(s, r2, tape);
     let r4 = types(s, set, r3, again, tape);
-    let r5 = tables::well_known(s, r4, tape);
+    let r5 = small_sections::well_known(s, r4, tape);
     let r6 = constants::constants(s, set, r5, tape);
-    let r7 = tables::globals(s, set, r6, tape);
+    let r7 = small_sections::globals(s, set, r6, tape);
     functions_on(s, set, r7, tape)
 }
 
@@ -98,7 +98,7 @@ pub fn section(
     again: bool,
     tape: &mut [u32],
 ) -> Step
-    requires { ⌜ (Ready (now s) r) × (Granted again (formatOf (settingsOf (now set)) section) (now s) r) ⌝ }
+    requires { ⌜ (Ready (now s) r) × (Accepted again (formatOf (settingsOf (now set)) section) (now s) r) ⌝ }
     ensures { λ q. ⌜ Reader (formatOf (settingsOf (now (set .entry))) section) (now (s .entry)) r (now (tape .entry)) q (now (tape .exit)) ⌝ }
 {
     match section {
@@ -106,16 +106,16 @@ pub fn section(
         Section::Structs => structs::structs(s, set, r, again, tape),
         Section::Interfaces => interfaces::interfaces(s, set, r, again, tape),
         Section::NamedTypes => named_types::named_types(s, set, r, again, tape),
-        Section::Itabs => tables::itabs(s, set, r, tape),
+        Section::Itabs => small_sections::itabs(s, set, r, tape),
         Section::RuntimeTypes => runtime_type::runtime_types(s, set, r, again, tape),
-        Section::WellKnown => tables::well_known(s, r, tape),
+        Section::WellKnown => small_sections::well_known(s, r, tape),
         Section::Constants => constants::constants(s, set, r, tape),
-        Section::Globals => tables::globals(s, set, r, tape),
+        Section::Globals => small_sections::globals(s, set, r, tape),
         Section::Functions => functions::functions(s, set, r, tape),
-        Section::Externs => tables::externs(s, r, tape),
-        Section::Entry => tables::entry(s, r, tape),
-        Section::IslandInit => tables::island_init(s, r, tape),
-        Section::Artifacts => tables::artifacts(s, set, r, tape),
+        Section::Externs => small_sections::externs(s, r, tape),
+        Section::Entry => small_sections::entry(s, r, tape),
+        Section::IslandInit => small_sections::island_init(s, r, tape),
+        Section::Artifacts => small_sections::artifacts(s, set, r, tape),
         Section::Files => debug_info::files(s, set, r, tape),
         Section::FunctionLocations => debug_info::function_locations(s, set, r, tape),
         Section::InlineSources(n) => debug_info::inline_sources(s, set, r, n, tape),
@@ -124,7 +124,7 @@ pub fn section(
 
 // On to the artifacts of a pack that is taken.
 pub fn to_artifacts(s: &[u8], set: &Settings, r: Step, tape: &mut [u32]) -> Step
-    requires { ⌜ (Ready (now s) r) × (Granted true (packFormat (settingsOf (now set))) (now s) r) ⌝ }
+    requires { ⌜ (Ready (now s) r) × (Accepted true (packFormat (settingsOf (now set))) (now s) r) ⌝ }
     ensures { λ q. ⌜ Reaches (settingsOf (now (set .entry))) (now (s .entry)) r q ⌝ }
 {
     let r1 = fields::field_magic(s, r, tape);
@@ -133,13 +133,13 @@ pub fn to_artifacts(s: &[u8], set: &Settings, r: Step, tape: &mut [u32]) -> Step
     let r4 = structs::structs(s, set, r3, true, tape);
     let r5 = interfaces::interfaces(s, set, r4, true, tape);
     let r6 = named_types::named_types(s, set, r5, true, tape);
-    let r7 = tables::itabs(s, set, r6, tape);
+    let r7 = small_sections::itabs(s, set, r6, tape);
     let r8 = runtime_type::runtime_types(s, set, r7, true, tape);
-    let r9 = tables::well_known(s, r8, tape);
+    let r9 = small_sections::well_known(s, r8, tape);
     let r10 = constants::constants(s, set, r9, tape);
-    let r11 = tables::globals(s, set, r10, tape);
+    let r11 = small_sections::globals(s, set, r10, tape);
     let r12 = functions::functions(s, set, r11, tape);
-    let r13 = tables::externs(s, r12, tape);
-    let r14 = tables::entry(s, r13, tape);
-    tables::island_init(s, r14, tape)
+    let r13 = small_sections::externs(s, r12, tape);
+    let r14 = small_sections::entry(s, r13, tape);
+    small_sections::island_init(s, r14, tape)
 }

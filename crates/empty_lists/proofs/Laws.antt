@@ -14,7 +14,7 @@ use Rattle.reader.specs.declared.Cursor.{Cursor}
 use Rattle.reader.specs.declared.Step.the-variants.{Taken}
 use Rattle.reader.proofs.Settles.{guard-yes, room-yes, field-yes, pay-yes}
 use Rattle.reader.proofs.Laws.{thenReads, chained-start, chained-done}
-use Rattle.items.specs.Contract.{WordIs}
+use Rattle.in_place.specs.Contract.{WordIs}
 use Rattle.empty_lists.specs.Empty.{Zero, Five, PastEmpty, PastFive}
 
 -- the answers of `five_at` and `past`

@@ -15,11 +15,11 @@ pub fn five_at(s: &[u8], c: Cursor) -> bool
     if s.len() - p < 20 {
         return false;
     }
-    let first = items::word_at(s, p);
-    let second = items::word_at(s, p + 4);
-    let third = items::word_at(s, p + 8);
-    let fourth = items::word_at(s, p + 12);
-    let fifth = items::word_at(s, p + 16);
+    let first = in_place::word_at(s, p);
+    let second = in_place::word_at(s, p + 4);
+    let third = in_place::word_at(s, p + 8);
+    let fourth = in_place::word_at(s, p + 12);
+    let fifth = in_place::word_at(s, p + 16);
     first + second + third + fourth + fifth == 0
 }
 

@@ -5,12 +5,12 @@ use mathlib.Core.List.{List}
 use Rattle.vob24.specs.Settings.{settings}
 use Rattle.vob24.specs.Grammar.{Section}
 use Rattle.vob24.specs.Calls as vob
-use Rattle.calls.specs.Call.{answerOf, ReadCall, SectionCall}
+use Rattle.calls.specs.Contract.{answerOf, ReadCall, SectionCall}
 use Rattle.calls.specs.declared.Answer.{Answer}
 use Rattle.lookup.specs.Look.{foundOf, LocateCall}
 use Rattle.lookup.specs.declared.Found.{Found}
-use Rattle.answers.specs.Numbers.{numbersOf, foundNumbers, Shows}
-use Rattle.answers.specs.declared.VobAnswer.{VobAnswer}
+use Rattle.c_answers.specs.Numbers.{numbersOf, foundNumbers, Shows}
+use Rattle.c_answers.specs.declared.VobAnswer.{VobAnswer}
 
 shows : {o : vob.Outcome} (a : Answer) {q : VobAnswer} {t′ : List ℕ} → o ≡ record { answer = answerOf a; tape = t′ } → q ≡ numbersOf (answerOf a) → Shows o q t′
 shows a e h = record { answer = h ∙ ap (λ o. numbersOf (o .answer)) (sym e); tape = ap (λ o. o .tape) (sym e) }

@@ -4,22 +4,22 @@ ghost use mathlib.Core.Path.{_≡_};
 ghost use Rattle.vob24.specs.Settings.{settings, sizeOf};
 ghost use Rattle.vob24.specs.Grammar as vob;
 ghost use Rattle.vob24.specs.Calls.{readOutcome, sectionOutcome, findOutcome};
-ghost use Rattle.answers.specs.Numbers.{foundNumbers, Shows};
-pub use answers::VobAnswer;
+ghost use Rattle.c_answers.specs.Numbers.{foundNumbers, Shows};
+pub use c_answers::VobAnswer;
 use vob24::Section;
 
 #[no_mangle]
 pub extern "C" fn vob_read(pack: &[u8], budget: u64, tape: &mut [u32]) -> VobAnswer
     ensures { λ q. ⌜ Shows (readOutcome settings (now (pack .entry)) budget (now (tape .entry))) q (now (tape .exit)) ⌝ }
 {
-    answers::shown(serialize::read(pack, budget, tape))
+    c_answers::shown(pack::read(pack, budget, tape))
 }
 
 #[no_mangle]
 pub extern "C" fn vob_find_artifact(pack: &[u8], name: &[u8]) -> VobAnswer
     ensures { λ q. ⌜ q ≡ foundNumbers (findOutcome settings (now (pack .entry)) (now (name .entry))) ⌝ }
 {
-    answers::shown_found(serialize::locate_artifact(pack, name))
+    c_answers::shown_found(pack::locate_artifact(pack, name))
 }
 
 // The size numbered i in the table of sizes, from 1 to 32; 0 where there is none.
@@ -36,14 +36,14 @@ pub extern "C" fn vob_charge_size(index: u64) -> u64
 pub extern "C" fn vob_name(pack: &[u8], place: u64, budget: u64, tape: &mut [u32]) -> VobAnswer
     ensures { λ q. ⌜ Shows (sectionOutcome settings 0 vob.name (now (pack .entry)) place budget (now (tape .entry))) q (now (tape .exit)) ⌝ }
 {
-    answers::shown(sections::read_section(pack, Section::Name, place as usize, budget, tape))
+    c_answers::shown(sections::read_section(pack, Section::Name, place as usize, budget, tape))
 }
 
 #[no_mangle]
 pub extern "C" fn vob_structs(pack: &[u8], place: u64, budget: u64, tape: &mut [u32]) -> VobAnswer
     ensures { λ q. ⌜ Shows (sectionOutcome settings 0 vob.structs (now (pack .entry)) place budget (now (tape .entry))) q (now (tape .exit)) ⌝ }
 {
-    answers::shown(sections::read_section(pack, Section::Structs, place as usize, budget, tape))
+    c_answers::shown(sections::read_section(pack, Section::Structs, place as usize, budget, tape))
 }
 
 #[no_mangle]
@@ -55,7 +55,13 @@ pub extern "C" fn vob_interfaces(
 ) -> VobAnswer
     ensures { λ q. ⌜ Shows (sectionOutcome settings 0 vob.interfaces (now (pack .entry)) place budget (now (tape .entry))) q (now (tape .exit)) ⌝ }
 {
-    answers::shown(sections::read_section(pack, Section::Interfaces, place as usize, budget, tape))
+    c_answers::shown(sections::read_section(
+        pack,
+        Section::Interfaces,
+        place as usize,
+        budget,
+        tape,
+    ))
 }
 
 #[no_mangle]
@@ -67,14 +73,20 @@ pub extern "C" fn vob_named_types(
 ) -> VobAnswer
     ensures { λ q. ⌜ Shows (sectionOutcome settings 0 vob.namedTypes (now (pack .entry)) place budget (now (tape .entry))) q (now (tape .exit)) ⌝ }
 {
-    answers::shown(sections::read_section(pack, Section::NamedTypes, place as usize, budget, tape))
+    c_answers::shown(sections::read_section(
+        pack,
+        Section::NamedTypes,
+        place as usize,
+        budget,
+        tape,
+    ))
 }
 
 #[no_mangle]
 pub extern "C" fn vob_itabs(pack: &[u8], place: u64, budget: u64, tape: &mut [u32]) -> VobAnswer
     ensures { λ q. ⌜ Shows (sectionOutcome settings 0 vob.itabs (now (pack .entry)) place budget (now (tape .entry))) q (now (tape .exit)) ⌝ }
 {
-    answers::shown(sections::read_section(pack, Section::Itabs, place as usize, budget, tape))
+    c_answers::shown(sections::read_section(pack, Section::Itabs, place as usize, budget, tape))
 }
 
 #[no_mangle]
@@ -86,7 +98,7 @@ pub extern "C" fn vob_runtime_types(
 ) -> VobAnswer
     ensures { λ q. ⌜ Shows (sectionOutcome settings 0 vob.runtimeTypes (now (pack .entry)) place budget (now (tape .entry))) q (now (tape .exit)) ⌝ }
 {
-    answers::shown(sections::read_section(
+    c_answers::shown(sections::read_section(
         pack,
         Section::RuntimeTypes,
         place as usize,
@@ -104,42 +116,42 @@ pub extern "C" fn vob_well_known(
 ) -> VobAnswer
     ensures { λ q. ⌜ Shows (sectionOutcome settings 0 vob.wellKnown (now (pack .entry)) place budget (now (tape .entry))) q (now (tape .exit)) ⌝ }
 {
-    answers::shown(sections::read_section(pack, Section::WellKnown, place as usize, budget, tape))
+    c_answers::shown(sections::read_section(pack, Section::WellKnown, place as usize, budget, tape))
 }
 
 #[no_mangle]
 pub extern "C" fn vob_constants(pack: &[u8], place: u64, budget: u64, tape: &mut [u32]) -> VobAnswer
     ensures { λ q. ⌜ Shows (sectionOutcome settings 0 vob.constants (now (pack .entry)) place budget (now (tape .entry))) q (now (tape .exit)) ⌝ }
 {
-    answers::shown(sections::read_section(pack, Section::Constants, place as usize, budget, tape))
+    c_answers::shown(sections::read_section(pack, Section::Constants, place as usize, budget, tape))
 }
 
 #[no_mangle]
 pub extern "C" fn vob_globals(pack: &[u8], place: u64, budget: u64, tape: &mut [u32]) -> VobAnswer
     ensures { λ q. ⌜ Shows (sectionOutcome settings 0 vob.globals (now (pack .entry)) place budget (now (tape .entry))) q (now (tape .exit)) ⌝ }
 {
-    answers::shown(sections::read_section(pack, Section::Globals, place as usize, budget, tape))
+    c_answers::shown(sections::read_section(pack, Section::Globals, place as usize, budget, tape))
 }
 
 #[no_mangle]
 pub extern "C" fn vob_functions(pack: &[u8], place: u64, budget: u64, tape: &mut [u32]) -> VobAnswer
     ensures { λ q. ⌜ Shows (sectionOutcome settings 0 vob.functions (now (pack .entry)) place budget (now (tape .entry))) q (now (tape .exit)) ⌝ }
 {
-    answers::shown(sections::read_section(pack, Section::Functions, place as usize, budget, tape))
+    c_answers::shown(sections::read_section(pack, Section::Functions, place as usize, budget, tape))
 }
 
 #[no_mangle]
 pub extern "C" fn vob_externs(pack: &[u8], place: u64, budget: u64, tape: &mut [u32]) -> VobAnswer
     ensures { λ q. ⌜ Shows (sectionOutcome settings 0 vob.externs (now (pack .entry)) place budget (now (tape .entry))) q (now (tape .exit)) ⌝ }
 {
-    answers::shown(sections::read_section(pack, Section::Externs, place as usize, budget, tape))
+    c_answers::shown(sections::read_section(pack, Section::Externs, place as usize, budget, tape))
 }
 
 #[no_mangle]
 pub extern "C" fn vob_entry(pack: &[u8], place: u64, budget: u64, tape: &mut [u32]) -> VobAnswer
     ensures { λ q. ⌜ Shows (sectionOutcome settings 0 vob.entry (now (pack .entry)) place budget (now (tape .entry))) q (now (tape .exit)) ⌝ }
 {
-    answers::shown(sections::read_section(pack, Section::Entry, place as usize, budget, tape))
+    c_answers::shown(sections::read_section(pack, Section::Entry, place as usize, budget, tape))
 }
 
 #[no_mangle]
@@ -151,21 +163,27 @@ pub extern "C" fn vob_island_init(
 ) -> VobAnswer
     ensures { λ q. ⌜ Shows (sectionOutcome settings 0 vob.islandInit (now (pack .entry)) place budget (now (tape .entry))) q (now (tape .exit)) ⌝ }
 {
-    answers::shown(sections::read_section(pack, Section::IslandInit, place as usize, budget, tape))
+    c_answers::shown(sections::read_section(
+        pack,
+        Section::IslandInit,
+        place as usize,
+        budget,
+        tape,
+    ))
 }
 
 #[no_mangle]
 pub extern "C" fn vob_artifacts(pack: &[u8], place: u64, budget: u64, tape: &mut [u32]) -> VobAnswer
     ensures { λ q. ⌜ Shows (sectionOutcome settings 0 vob.artifacts (now (pack .entry)) place budget (now (tape .entry))) q (now (tape .exit)) ⌝ }
 {
-    answers::shown(sections::read_section(pack, Section::Artifacts, place as usize, budget, tape))
+    c_answers::shown(sections::read_section(pack, Section::Artifacts, place as usize, budget, tape))
 }
 
 #[no_mangle]
 pub extern "C" fn vob_files(pack: &[u8], place: u64, budget: u64, tape: &mut [u32]) -> VobAnswer
     ensures { λ q. ⌜ Shows (sectionOutcome settings 0 vob.files (now (pack .entry)) place budget (now (tape .entry))) q (now (tape .exit)) ⌝ }
 {
-    answers::shown(sections::read_section(pack, Section::Files, place as usize, budget, tape))
+    c_answers::shown(sections::read_section(pack, Section::Files, place as usize, budget, tape))
 }
 
 #[no_mangle]
@@ -177,7 +195,7 @@ pub extern "C" fn vob_function_locations(
 ) -> VobAnswer
     ensures { λ q. ⌜ Shows (sectionOutcome settings 0 vob.functionLocations (now (pack .entry)) place budget (now (tape .entry))) q (now (tape .exit)) ⌝ }
 {
-    answers::shown(sections::read_section(
+    c_answers::shown(sections::read_section(
         pack,
         Section::FunctionLocations,
         place as usize,
@@ -196,7 +214,7 @@ pub extern "C" fn vob_inline_sources(
 ) -> VobAnswer
     ensures { λ q. ⌜ Shows (sectionOutcome settings functions vob.inlineSources (now (pack .entry)) place budget (now (tape .entry))) q (now (tape .exit)) ⌝ }
 {
-    answers::shown(sections::read_section(
+    c_answers::shown(sections::read_section(
         pack,
         Section::InlineSources(functions),
         place as usize,

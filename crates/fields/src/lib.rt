@@ -26,7 +26,7 @@ pub fn field_u8(s: &[u8], r: Step, tape: &mut [u32]) -> Step
     };
     let q = reader::read_u8(s, c);
     let Number::Got(n, d) = q else {
-        return reader::refused(q);
+        return reader::step_of(q);
     };
     Step::Taken(reader::keep(d, n, tape))
 }
@@ -40,7 +40,7 @@ pub fn field_u16(s: &[u8], r: Step, tape: &mut [u32]) -> Step
     };
     let q = reader::read_u16(s, c);
     let Number::Got(n, d) = q else {
-        return reader::refused(q);
+        return reader::step_of(q);
     };
     Step::Taken(reader::keep(d, n, tape))
 }
@@ -55,7 +55,7 @@ pub fn field_u32(s: &[u8], r: Step, tape: &mut [u32]) -> Step
     };
     let q = reader::read_u32(s, c);
     let Number::Got(n, d) = q else {
-        return reader::refused(q);
+        return reader::step_of(q);
     };
     Step::Taken(reader::keep(d, n, tape))
 }
@@ -70,7 +70,7 @@ pub fn field_u64(s: &[u8], r: Step, tape: &mut [u32]) -> Step
     };
     let q = reader::read_u64(s, c);
     let Number::Got(n, d) = q else {
-        return reader::refused(q);
+        return reader::step_of(q);
     };
     Step::Taken(reader::keep_pair(d, n % 0x1_0000_0000, n / 0x1_0000_0000, tape))
 }
@@ -85,7 +85,7 @@ pub fn field_optional_id(s: &[u8], r: Step, tape: &mut [u32]) -> Step
     };
     let q = reader::read_u32(s, c);
     let Number::Got(n, d) = q else {
-        return reader::refused(q);
+        return reader::step_of(q);
     };
     if n == 0 {
         return Step::Taken(reader::keep_pair(d, 0, 0, tape));
@@ -100,9 +100,9 @@ pub fn field_bool(s: &[u8], r: Step, tape: &mut [u32]) -> Step
     let Step::Taken(c) = r else {
         return r;
     };
-    let q = leaves::read_small(s, c, 1, numbers::INVALID_BOOLEAN);
+    let q = number_leaves::read_small(s, c, 1, numbers::INVALID_BOOLEAN);
     let Number::Got(n, d) = q else {
-        return reader::refused(q);
+        return reader::step_of(q);
     };
     Step::Taken(reader::keep(d, n, tape))
 }
@@ -114,9 +114,9 @@ pub fn field_slot_type(s: &[u8], r: Step, tape: &mut [u32]) -> Step
     let Step::Taken(c) = r else {
         return r;
     };
-    let q = leaves::read_small(s, c, 5, numbers::INVALID_SLOT_TYPE);
+    let q = number_leaves::read_small(s, c, 5, numbers::INVALID_SLOT_TYPE);
     let Number::Got(n, d) = q else {
-        return reader::refused(q);
+        return reader::step_of(q);
     };
     Step::Taken(reader::keep(d, n, tape))
 }
@@ -128,9 +128,9 @@ pub fn field_value_kind(s: &[u8], r: Step, tape: &mut [u32]) -> Step
     let Step::Taken(c) = r else {
         return r;
     };
-    let q = leaves::read_small(s, c, 24, numbers::INVALID_VALUE_KIND);
+    let q = number_leaves::read_small(s, c, 24, numbers::INVALID_VALUE_KIND);
     let Number::Got(n, d) = q else {
-        return reader::refused(q);
+        return reader::step_of(q);
     };
     Step::Taken(reader::keep(d, n, tape))
 }
@@ -142,9 +142,9 @@ pub fn field_direction(s: &[u8], r: Step, tape: &mut [u32]) -> Step
     let Step::Taken(c) = r else {
         return r;
     };
-    let q = leaves::read_small(s, c, 2, numbers::INVALID_CHAN_DIR);
+    let q = number_leaves::read_small(s, c, 2, numbers::INVALID_CHAN_DIR);
     let Number::Got(n, d) = q else {
-        return reader::refused(q);
+        return reader::step_of(q);
     };
     Step::Taken(reader::keep(d, n, tape))
 }
@@ -156,9 +156,9 @@ pub fn field_value_meta(s: &[u8], r: Step, tape: &mut [u32]) -> Step
     let Step::Taken(c) = r else {
         return r;
     };
-    let q = leaves::read_packed_word(s, c, numbers::INVALID_PACKED_VALUE_META);
+    let q = number_leaves::read_packed_word(s, c, numbers::INVALID_PACKED_VALUE_META);
     let Number::Got(n, d) = q else {
-        return reader::refused(q);
+        return reader::step_of(q);
     };
     Step::Taken(reader::keep(d, n, tape))
 }
@@ -170,9 +170,9 @@ pub fn field_value_rttid(s: &[u8], r: Step, tape: &mut [u32]) -> Step
     let Step::Taken(c) = r else {
         return r;
     };
-    let q = leaves::read_packed_word(s, c, numbers::INVALID_PACKED_VALUE_RTTID);
+    let q = number_leaves::read_packed_word(s, c, numbers::INVALID_PACKED_VALUE_RTTID);
     let Number::Got(n, d) = q else {
-        return reader::refused(q);
+        return reader::step_of(q);
     };
     Step::Taken(reader::keep(d, n, tape))
 }
@@ -184,9 +184,9 @@ pub fn field_assert_kind(s: &[u8], r: Step, tape: &mut [u32]) -> Step
     let Step::Taken(c) = r else {
         return r;
     };
-    let q = leaves::read_bare(s, c, 1, numbers::INVALID_INSTRUCTION_METADATA);
+    let q = number_leaves::read_bare(s, c, 1, numbers::INVALID_INSTRUCTION_METADATA);
     let Number::Got(n, d) = q else {
-        return reader::refused(q);
+        return reader::step_of(q);
     };
     Step::Taken(reader::keep(d, n, tape))
 }
@@ -198,9 +198,9 @@ pub fn field_source_u32(s: &[u8], r: Step, tape: &mut [u32]) -> Step
     let Step::Taken(c) = r else {
         return r;
     };
-    let q = leaves::read_source_u32(s, c);
+    let q = number_leaves::read_source_u32(s, c);
     let Number::Got(n, d) = q else {
-        return reader::refused(q);
+        return reader::step_of(q);
     };
     Step::Taken(reader::keep(d, n, tape))
 }
@@ -212,9 +212,9 @@ pub fn field_extern_count(s: &[u8], r: Step, tape: &mut [u32]) -> Step
     let Step::Taken(c) = r else {
         return r;
     };
-    let q = payloads::read_extern_count(s, c);
+    let q = length_leaves::read_extern_count(s, c);
     let Number::Got(n, d) = q else {
-        return reader::refused(q);
+        return reader::step_of(q);
     };
     Step::Taken(reader::keep(d, n, tape))
 }
@@ -276,7 +276,7 @@ pub fn number_bool(s: &[u8], c: Cursor, tape: &mut [u32]) -> Number
     requires { ⌜ ReadyAt (now s) c ⌝ }
     ensures { λ q. ⌜ NumberOf bool number (now (s .entry)) c (now (tape .entry)) q (now (tape .exit)) ⌝ }
 {
-    let q = leaves::read_small(s, c, 1, numbers::INVALID_BOOLEAN);
+    let q = number_leaves::read_small(s, c, 1, numbers::INVALID_BOOLEAN);
     let Number::Got(n, d) = q else {
         return q;
     };
@@ -287,7 +287,7 @@ pub fn number_value_kind(s: &[u8], c: Cursor, tape: &mut [u32]) -> Number
     requires { ⌜ ReadyAt (now s) c ⌝ }
     ensures { λ q. ⌜ NumberOf valueKind number (now (s .entry)) c (now (tape .entry)) q (now (tape .exit)) ⌝ }
 {
-    let q = leaves::read_small(s, c, 24, numbers::INVALID_VALUE_KIND);
+    let q = number_leaves::read_small(s, c, 24, numbers::INVALID_VALUE_KIND);
     let Number::Got(n, d) = q else {
         return q;
     };
@@ -298,7 +298,7 @@ pub fn number_direction(s: &[u8], c: Cursor, tape: &mut [u32]) -> Number
     requires { ⌜ ReadyAt (now s) c ⌝ }
     ensures { λ q. ⌜ NumberOf direction number (now (s .entry)) c (now (tape .entry)) q (now (tape .exit)) ⌝ }
 {
-    let q = leaves::read_small(s, c, 2, numbers::INVALID_CHAN_DIR);
+    let q = number_leaves::read_small(s, c, 2, numbers::INVALID_CHAN_DIR);
     let Number::Got(n, d) = q else {
         return q;
     };
@@ -309,7 +309,7 @@ pub fn number_value_rttid(s: &[u8], c: Cursor, tape: &mut [u32]) -> Number
     requires { ⌜ ReadyAt (now s) c ⌝ }
     ensures { λ q. ⌜ NumberOf valueRttid number (now (s .entry)) c (now (tape .entry)) q (now (tape .exit)) ⌝ }
 {
-    let q = leaves::read_packed_word(s, c, numbers::INVALID_PACKED_VALUE_RTTID);
+    let q = number_leaves::read_packed_word(s, c, numbers::INVALID_PACKED_VALUE_RTTID);
     let Number::Got(n, d) = q else {
         return q;
     };
@@ -320,7 +320,7 @@ pub fn number_assert_kind(s: &[u8], c: Cursor, tape: &mut [u32]) -> Number
     requires { ⌜ ReadyAt (now s) c ⌝ }
     ensures { λ q. ⌜ NumberOf assertKind number (now (s .entry)) c (now (tape .entry)) q (now (tape .exit)) ⌝ }
 {
-    let q = leaves::read_bare(s, c, 1, numbers::INVALID_INSTRUCTION_METADATA);
+    let q = number_leaves::read_bare(s, c, 1, numbers::INVALID_INSTRUCTION_METADATA);
     let Number::Got(n, d) = q else {
         return q;
     };
@@ -331,7 +331,7 @@ pub fn number_runtime_tag(s: &[u8], c: Cursor, tape: &mut [u32]) -> Number
     requires { ⌜ ReadyAt (now s) c ⌝ }
     ensures { λ q. ⌜ NumberOf runtimeTag number (now (s .entry)) c (now (tape .entry)) q (now (tape .exit)) ⌝ }
 {
-    let q = leaves::read_small(s, c, 12, numbers::INVALID_RUNTIME_TYPE);
+    let q = number_leaves::read_small(s, c, 12, numbers::INVALID_RUNTIME_TYPE);
     let Number::Got(n, d) = q else {
         return q;
     };
@@ -342,7 +342,7 @@ pub fn number_constant_tag(s: &[u8], c: Cursor, tape: &mut [u32]) -> Number
     requires { ⌜ ReadyAt (now s) c ⌝ }
     ensures { λ q. ⌜ NumberOf constantTag number (now (s .entry)) c (now (tape .entry)) q (now (tape .exit)) ⌝ }
 {
-    let q = leaves::read_bare(s, c, 4, numbers::INVALID_CONSTANT);
+    let q = number_leaves::read_bare(s, c, 4, numbers::INVALID_CONSTANT);
     let Number::Got(n, d) = q else {
         return q;
     };
@@ -353,7 +353,7 @@ pub fn number_select_tag(s: &[u8], c: Cursor, tape: &mut [u32]) -> Number
     requires { ⌜ ReadyAt (now s) c ⌝ }
     ensures { λ q. ⌜ NumberOf selectTag number (now (s .entry)) c (now (tape .entry)) q (now (tape .exit)) ⌝ }
 {
-    let q = leaves::read_bare(s, c, 1, numbers::INVALID_INSTRUCTION_METADATA);
+    let q = number_leaves::read_bare(s, c, 1, numbers::INVALID_INSTRUCTION_METADATA);
     let Number::Got(n, d) = q else {
         return q;
     };
@@ -364,19 +364,19 @@ pub fn number_metadata_tag(s: &[u8], c: Cursor, tape: &mut [u32]) -> Number
     requires { ⌜ ReadyAt (now s) c ⌝ }
     ensures { λ q. ⌜ NumberOf metadataTagged number (now (s .entry)) c (now (tape .entry)) q (now (tape .exit)) ⌝ }
 {
-    let q = leaves::read_metadata_tag(s, c);
+    let q = number_leaves::read_metadata_tag(s, c);
     let Number::Got(n, d) = q else {
         return q;
     };
     Number::Got(n, reader::keep(d, n, tape))
 }
 
-// The count of a list of entries whose size is numbered `kind`, as reader::sizes has them.
-pub fn number_count(s: &[u8], set: &Settings, c: Cursor, kind: usize, tape: &mut [u32]) -> Number
+// The count of a list of entries whose size is numbered `entry`, as reader::sizes has them.
+pub fn number_count(s: &[u8], set: &Settings, c: Cursor, entry: usize, tape: &mut [u32]) -> Number
     requires { ⌜ ReadyAt (now s) c ⌝ }
-    ensures { λ q. ⌜ NumberOf (listCount (settingsOf (now (set .entry))) kind) number (now (s .entry)) c (now (tape .entry)) q (now (tape .exit)) ⌝ }
+    ensures { λ q. ⌜ NumberOf (listCount (settingsOf (now (set .entry))) entry) number (now (s .entry)) c (now (tape .entry)) q (now (tape .exit)) ⌝ }
 {
-    let q = payloads::read_count(s, set, c, kind);
+    let q = length_leaves::read_count(s, set, c, entry);
     let Number::Got(n, d) = q else {
         return q;
     };
@@ -389,13 +389,13 @@ pub fn number_debug_count(
     c: Cursor,
     context: u64,
     most: u64,
-    kind: usize,
+    entry: usize,
     tape: &mut [u32],
 ) -> Number
     requires { ⌜ ReadyAt (now s) c ⌝ }
-    ensures { λ q. ⌜ NumberOf (debugCount (settingsOf (now (set .entry))) context most kind) number (now (s .entry)) c (now (tape .entry)) q (now (tape .exit)) ⌝ }
+    ensures { λ q. ⌜ NumberOf (debugCount (settingsOf (now (set .entry))) context most entry) number (now (s .entry)) c (now (tape .entry)) q (now (tape .exit)) ⌝ }
 {
-    let q = payloads::read_debug_count(s, set, c, context, most, kind);
+    let q = length_leaves::read_debug_count(s, set, c, context, most, entry);
     let Number::Got(n, d) = q else {
         return q;
     };
@@ -406,7 +406,7 @@ pub fn number_artifact_count(s: &[u8], set: &Settings, c: Cursor, tape: &mut [u3
     requires { ⌜ ReadyAt (now s) c ⌝ }
     ensures { λ q. ⌜ NumberOf (artifactCount (settingsOf (now (set .entry)))) number (now (s .entry)) c (now (tape .entry)) q (now (tape .exit)) ⌝ }
 {
-    let q = payloads::read_artifact_count(s, set, c);
+    let q = length_leaves::read_artifact_count(s, set, c);
     let Number::Got(n, d) = q else {
         return q;
     };
@@ -417,7 +417,7 @@ pub fn number_method_count(s: &[u8], set: &Settings, c: Cursor, tape: &mut [u32]
     requires { ⌜ ReadyAt (now s) c ⌝ }
     ensures { λ q. ⌜ NumberOf (methodCount (settingsOf (now (set .entry)))) number (now (s .entry)) c (now (tape .entry)) q (now (tape .exit)) ⌝ }
 {
-    let q = payloads::read_method_count(s, set, c);
+    let q = length_leaves::read_method_count(s, set, c);
     let Number::Got(n, d) = q else {
         return q;
     };
@@ -433,9 +433,9 @@ pub fn field_str(s: &[u8], r: Step, tape: &mut [u32]) -> Step
     let Step::Taken(c) = r else {
         return r;
     };
-    let q = payloads::read_string(s, c.place, c.left, c.at);
+    let q = length_leaves::read_string(s, c.place, c.left, c.at);
     let Text::Got(start, length, _, d) = q else {
-        return reader::refused_text(q);
+        return reader::text_step(q);
     };
     Step::Taken(reader::keep_pair(d, start as u64, length as u64, tape))
 }
@@ -457,7 +457,7 @@ pub fn field_optional_str(s: &[u8], r: Step, tape: &mut [u32]) -> Step
     };
     let q = number_bool(s, c, tape);
     let Number::Got(n, d) = q else {
-        return reader::refused(q);
+        return reader::step_of(q);
     };
     let here = Step::Taken(d);
     if n == 0 {
@@ -473,14 +473,14 @@ pub fn field_artifact_name(s: &[u8], set: &Settings, r: Step, tape: &mut [u32]) 
     let Step::Taken(c) = r else {
         return r;
     };
-    let q = payloads::read_artifact_string(
+    let q = length_leaves::read_artifact_string(
         s,
         c,
         numbers::ARTIFACT_NAME,
         vob24::artifact_name_bytes(set),
     );
     let Text::Got(start, length, _, d) = q else {
-        return reader::refused_text(q);
+        return reader::text_step(q);
     };
     Step::Taken(reader::keep_pair(d, start as u64, length as u64, tape))
 }
@@ -492,14 +492,14 @@ pub fn field_artifact_payload(s: &[u8], set: &Settings, r: Step, tape: &mut [u32
     let Step::Taken(c) = r else {
         return r;
     };
-    let q = payloads::read_artifact_bytes(
+    let q = length_leaves::read_artifact_bytes(
         s,
         c,
         numbers::ARTIFACT_PAYLOAD,
         vob24::artifact_payload_bytes(set),
     );
     let Payload::Got(start, length, d) = q else {
-        return reader::refused_payload(q);
+        return reader::payload_step(q);
     };
     Step::Taken(reader::keep_pair(d, start as u64, length as u64, tape))
 }
@@ -508,9 +508,9 @@ pub fn span_str(s: &[u8], c: Cursor, tape: &mut [u32]) -> Payload
     requires { ⌜ ReadyAt (now s) c ⌝ }
     ensures { λ q. ⌜ SpanOf str (now (s .entry)) c (now (tape .entry)) q (now (tape .exit)) ⌝ }
 {
-    let q = payloads::read_string(s, c.place, c.left, c.at);
+    let q = length_leaves::read_string(s, c.place, c.left, c.at);
     let Text::Got(start, length, _, d) = q else {
-        return reader::span(q);
+        return reader::text_span(q);
     };
     Payload::Got(
         start,
@@ -523,14 +523,14 @@ pub fn span_artifact_name(s: &[u8], set: &Settings, c: Cursor, tape: &mut [u32])
     requires { ⌜ ReadyAt (now s) c ⌝ }
     ensures { λ q. ⌜ SpanOf (artifactName (settingsOf (now (set .entry)))) (now (s .entry)) c (now (tape .entry)) q (now (tape .exit)) ⌝ }
 {
-    let q = payloads::read_artifact_string(
+    let q = length_leaves::read_artifact_string(
         s,
         c,
         numbers::ARTIFACT_NAME,
         vob24::artifact_name_bytes(set),
     );
     let Text::Got(start, length, _, d) = q else {
-        return reader::span(q);
+        return reader::text_span(q);
     };
     Payload::Got(
         start,
@@ -543,7 +543,7 @@ pub fn span_artifact_payload(s: &[u8], set: &Settings, c: Cursor, tape: &mut [u3
     requires { ⌜ ReadyAt (now s) c ⌝ }
     ensures { λ q. ⌜ SpanOf (artifactPayload (settingsOf (now (set .entry)))) (now (s .entry)) c (now (tape .entry)) q (now (tape .exit)) ⌝ }
 {
-    let q = payloads::read_artifact_bytes(
+    let q = length_leaves::read_artifact_bytes(
         s,
         c,
         numbers::ARTIFACT_PAYLOAD,
@@ -568,7 +568,7 @@ pub fn field_magic(s: &[u8], r: Step, tape: &mut [u32]) -> Step
     let Step::Taken(c) = r else {
         return r;
     };
-    leaves::read_magic(s, c)
+    number_leaves::read_magic(s, c)
 }
 
 pub fn field_version(s: &[u8], r: Step, tape: &mut [u32]) -> Step
@@ -578,5 +578,5 @@ pub fn field_version(s: &[u8], r: Step, tape: &mut [u32]) -> Step
     let Step::Taken(c) = r else {
         return r;
     };
-    leaves::read_version(s, c)
+    number_leaves::read_version(s, c)
 }

@@ -5,11 +5,11 @@ pub mod Reading
 pub mod Record
 pub mod Layout
 -- theorems
-pub mod Settling
-pub mod Ending
-pub mod Charging
-pub mod Decoding
-pub mod Laying
-pub mod Closing
-pub mod Bounding
-pub mod Placing
+pub mod SettleTheorems
+pub mod TraceTheorems
+pub mod ChargeSums
+pub mod RecordTheorems
+pub mod LayoutTheorems
+pub mod CountsCovered
+pub mod ChargeBound
+pub mod PlacesRise

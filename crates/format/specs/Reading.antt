@@ -4,7 +4,7 @@ use mathlib.Core.List.{List, [], _∷_}
 use mathlib.Core.Bool.{Bool, true, false}
 use lib.ListN.{length, take, drop}
 use lib.Dec.{leb, ltb, eqb}
-use Rattle.format.specs.Trace.{wrong, unexpectedEof, invalidUtf8, invalidSourceInteger, Trace, stop, end, charge, asks, bind, guard, pick}
+use Rattle.format.specs.Trace.{wrong, unexpectedEof, invalidUtf8, invalidSourceInteger, Trace, stop, end, charge, needs, bind, guard, pick}
 use Rattle.format.specs.Format.{Value, none, num, text, pair, Width, byte, half, word, long, option, Ask, pay, deny, Leaf, fixed, mark, packed, string, payload, count, ask, Format, empty, leaf, seq}
 
 -- The number that bytes stand for, the low byte first.
@@ -31,7 +31,7 @@ size option = 4
 
 -- "Are the bytes there?": the file has n bytes from its start on, or 2.
 unfoldable pub room : {A : Type 0} → ℕ → List ℕ → ℕ → Trace A → Trace A
-room n s p t = guard (leb n (length s)) (wrong unexpectedEof 0) p (asks n p t)
+room n s p t = guard (leb n (length s)) (wrong unexpectedEof 0) p (needs n p t)
 
 -- The next n bytes.
 unfoldable pub field : {A : Type 0} → ℕ → List ℕ → ℕ → (List ℕ → Trace A) → Trace A

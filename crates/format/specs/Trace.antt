@@ -38,14 +38,14 @@ pub data Trace (A : Type 0) : Type 0 where
   -- context, amount, place: where 5 would stand
   charge : ℕ → ℕ → ℕ → Trace A → Trace A
   -- the pack has so many bytes: passed, where 2 would stand
-  asks : ℕ → ℕ → Trace A → Trace A
+  needs : ℕ → ℕ → Trace A → Trace A
 
 -- One reading after another: the second from the value and the place of the first.
 unfoldable pub bind : {A B : Type 0} → Trace A → (A → ℕ → Trace B) → Trace B
 bind (stop w p) k = stop w p
 bind (end a p) k = k a p
 bind (charge c n p t) k = charge c n p (bind t k)
-bind (asks n p t) k = asks n p (bind t k)
+bind (needs n p t) k = needs n p (bind t k)
 
 -- A question: no is a refusal.
 unfoldable pub guard : {A : Type 0} → Bool → Wrong → ℕ → Trace A → Trace A
@@ -57,7 +57,7 @@ unfoldable pub amounts : {A : Type 0} → Trace A → List ℕ
 amounts (stop w p) = []
 amounts (end a p) = []
 amounts (charge c n p t) = n ∷ amounts t
-amounts (asks n p t) = amounts t
+amounts (needs n p t) = amounts t
 
 unfoldable pub sum : List ℕ → ℕ
 sum [] = 0
@@ -75,7 +75,7 @@ unfoldable pub out : {A : Type 0} → Trace A → Out A
 out (stop w p) = stopped w p
 out (end a p) = ended a p
 out (charge c n p t) = out t
-out (asks n p t) = out t
+out (needs n p t) = out t
 
 abbrev pub Ends : {A : Type 0} → Trace A → A → ℕ → Type 0
 Ends t v q = out t ≡ ended v q
@@ -102,7 +102,7 @@ unfoldable pub settle : {A : Type 0} → ℕ → Trace A → Settled A
 settle b (stop w p) = refused w p b
 settle b (end a p) = taken a p b
 settle b (charge c n p t) = pick (leb n b) (settle (b - n) t) (refused (spent c n b) p b)
-settle b (asks n p t) = settle b t
+settle b (needs n p t) = settle b t
 
 -- "The starting budget covers an opening part whose sum isn't above it": the length of the longest such part.
 unfoldable pub covered : ℕ → List ℕ → ℕ
@@ -118,14 +118,14 @@ pub record Longest (b : ℕ) (ns : List ℕ) (k : ℕ) : Type 0 where
 pub data Charge {A : Type 0} : Trace A → ℕ → ℕ → ℕ → ℕ → Type 0 where
   here : {c n p : ℕ} {t : Trace A} → Charge (charge c n p t) 0 c n p
   later : {c′ n′ p′ i c n p : ℕ} {t : Trace A} → Charge t i c n p → Charge (charge c′ n′ p′ t) (suc i) c n p
-  past : {m q i c n p : ℕ} {t : Trace A} → Charge t i c n p → Charge (asks m q t) i c n p
+  past : {m q i c n p : ℕ} {t : Trace A} → Charge t i c n p → Charge (needs m q t) i c n p
 
 -- The end of a trace whose charges all go through, with so much left.
 unfoldable pub finish : {A : Type 0} → ℕ → Trace A → Settled A
 finish b (stop w p) = refused w p b
 finish b (end a p) = taken a p b
 finish b (charge c n p t) = finish b t
-finish b (asks n p t) = finish b t
+finish b (needs n p t) = finish b t
 
 -- The refusal at the charge number i, counted from 0, with so much left before it.
 unfoldable pub broke : {A : Type 0} → ℕ → ℕ → Trace A → Settled A
@@ -133,4 +133,4 @@ broke i b (stop w p) = refused w p b
 broke i b (end a p) = taken a p b
 broke zero b (charge c n p t) = refused (spent c n b) p b
 broke (suc i) b (charge c n p t) = broke i b t
-broke i b (asks n p t) = broke i b t
+broke i b (needs n p t) = broke i b t

@@ -25,11 +25,11 @@ fn code(s: &[u8], set: &Settings, r: Step, tape: &mut [u32]) -> Step
     };
     let p = instruction::number_instructions(s, set, c, tape);
     let Number::Got(instructions, d) = p else {
-        return reader::refused(p);
+        return reader::step_of(p);
     };
     let q = metadata::number_instruction_metadata(s, set, d, tape);
     let Number::Got(metadata, e) = q else {
-        return reader::refused(q);
+        return reader::step_of(q);
     };
     if metadata != instructions {
         return Step::Refused(reader::refuse(e, numbers::INVALID_INSTRUCTION_METADATA, 0));
@@ -62,11 +62,11 @@ fn number_transfer_types(s: &[u8], set: &Settings, c: Cursor, tape: &mut [u32]) 
     while 0 < k {
         here = transfer_type(s, here, tape);
         let Step::Taken(_) = here else {
-            return reader::with(n, here);
+            return reader::number_of(n, here);
         };
         k -= 1;
     }
-    reader::with(n, here)
+    reader::number_of(n, here)
 }
 
 fn capture_types(s: &[u8], set: &Settings, r: Step, tape: &mut [u32]) -> Step
@@ -76,7 +76,7 @@ fn capture_types(s: &[u8], set: &Settings, r: Step, tape: &mut [u32]) -> Step
     let Step::Taken(c) = r else {
         return r;
     };
-    let list = reader::refused(number_transfer_types(s, set, c, tape));
+    let list = reader::step_of(number_transfer_types(s, set, c, tape));
     transfers::transfer_words(s, numbers::CAPTURE_META, r, list)
 }
 
@@ -87,7 +87,7 @@ fn param_types(s: &[u8], set: &Settings, r: Step, tape: &mut [u32]) -> Step
     let Step::Taken(c) = r else {
         return r;
     };
-    let list = reader::refused(number_transfer_types(s, set, c, tape));
+    let list = reader::step_of(number_transfer_types(s, set, c, tape));
     transfers::transfer_words(s, numbers::PARAMETER_META, r, list)
 }
 
@@ -112,7 +112,7 @@ fn heap_ret_slots(s: &[u8], set: &Settings, r: Step, tape: &mut [u32]) -> Step
     };
     let q = fields::number_count(s, set, c, sizes::U16, tape);
     let Number::Got(n, d) = q else {
-        return reader::refused(q);
+        return reader::step_of(q);
     };
     lists::u16s(s, d, n, tape)
 }
@@ -183,7 +183,7 @@ fn function_slots(s: &[u8], set: &Settings, r: Step, locals: u64, tape: &mut [u3
     };
     let q = slots::number_slot_types(s, set, c, tape);
     let Number::Got(types, d) = q else {
-        return reader::refused(q);
+        return reader::step_of(q);
     };
     function_body(s, set, Step::Taken(d), types, locals, tape)
 }
@@ -199,7 +199,7 @@ pub fn function(s: &[u8], set: &Settings, r: Step, tape: &mut [u32]) -> Step
     };
     let q = fields::number_u16(s, c, tape);
     let Number::Got(locals, d) = q else {
-        return reader::refused(q);
+        return reader::step_of(q);
     };
     let returns = function_returns(s, set, Step::Taken(d), tape);
     let traits = function_traits(s, returns, tape);
@@ -220,11 +220,11 @@ pub fn number_functions(s: &[u8], set: &Settings, c: Cursor, tape: &mut [u32]) -
     while 0 < k {
         here = function(s, set, here, tape);
         let Step::Taken(_) = here else {
-            return reader::with(n, here);
+            return reader::number_of(n, here);
         };
         k -= 1;
     }
-    reader::with(n, here)
+    reader::number_of(n, here)
 }
 
 pub fn functions(s: &[u8], set: &Settings, r: Step, tape: &mut [u32]) -> Step
@@ -234,5 +234,5 @@ pub fn functions(s: &[u8], set: &Settings, r: Step, tape: &mut [u32]) -> Step
     let Step::Taken(c) = r else {
         return r;
     };
-    reader::refused(number_functions(s, set, c, tape))
+    reader::step_of(number_functions(s, set, c, tape))
 }

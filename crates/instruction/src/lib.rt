@@ -98,5 +98,5 @@ pub fn number_instructions(s: &[u8], set: &Settings, c: Cursor, tape: &mut [u32]
     let Number::Got(n, d) = q else {
         return q;
     };
-    reader::with(n, instructions(s, d, n, tape))
+    reader::number_of(n, instructions(s, d, n, tape))
 }

@@ -2,9 +2,9 @@
 // Ports what Module::deserialize of serialize.rs reads into InterfaceMeta and InterfaceMethodMeta of bytecode.rs.
 ghost use Rattle.vob24.specs.Settings.{settingsOf};
 ghost use Rattle.reader.specs.Contract.{Ready, Reader};
-ghost use Rattle.second_pass.specs.Granted.{Granted};
+ghost use Rattle.reader.specs.Accepted.{Accepted};
 ghost use Rattle.interfaces.specs.Interfaces.{nameList, methodFormat, methodList, interfaceFormat, interfaceList};
-use items::Item;
+use in_place::Item;
 use reader::Number;
 use reader::Step;
 use reader::sizes;
@@ -19,7 +19,7 @@ pub fn method_names(s: &[u8], set: &Settings, r: Step, tape: &mut [u32]) -> Step
     };
     let q = fields::number_count(s, set, c, sizes::STRING, tape);
     let Number::Got(n, d) = q else {
-        return reader::refused(q);
+        return reader::step_of(q);
     };
     let mut k = n;
     let mut here = Step::Taken(d);
@@ -50,7 +50,7 @@ pub fn interface_methods(s: &[u8], set: &Settings, r: Step, tape: &mut [u32]) ->
     };
     let q = fields::number_count(s, set, c, sizes::INTERFACE_METHOD_META, tape);
     let Number::Got(n, d) = q else {
-        return reader::refused(q);
+        return reader::step_of(q);
     };
     let mut k = n;
     let mut here = Step::Taken(d);
@@ -66,18 +66,18 @@ pub fn interface_methods(s: &[u8], set: &Settings, r: Step, tape: &mut [u32]) ->
 
 // Both lists are read before either set is charged and judged.
 pub fn interface(s: &[u8], set: &Settings, r: Step, again: bool, tape: &mut [u32]) -> Step
-    requires { ⌜ (Ready (now s) r) × (Granted again (interfaceFormat (settingsOf (now set))) (now s) r) ⌝ }
+    requires { ⌜ (Ready (now s) r) × (Accepted again (interfaceFormat (settingsOf (now set))) (now s) r) ⌝ }
     ensures { λ q. ⌜ Reader (interfaceFormat (settingsOf (now (set .entry)))) (now (s .entry)) r (now (tape .entry)) q (now (tape .exit)) ⌝ }
 {
     let name = fields::field_str(s, r, tape);
     let names = method_names(s, set, name, tape);
     let methods = interface_methods(s, set, names, tape);
-    let unique = names::method_set(s, set, Item::Name, name, methods, again);
-    names::method_set(s, set, Item::InterfaceMethod, names, unique, again)
+    let unique = unique_names::method_set(s, set, Item::Name, name, methods, again);
+    unique_names::method_set(s, set, Item::InterfaceMethod, names, unique, again)
 }
 
 pub fn interfaces(s: &[u8], set: &Settings, r: Step, again: bool, tape: &mut [u32]) -> Step
-    requires { ⌜ (Ready (now s) r) × (Granted again (interfaceList (settingsOf (now set))) (now s) r) ⌝ }
+    requires { ⌜ (Ready (now s) r) × (Accepted again (interfaceList (settingsOf (now set))) (now s) r) ⌝ }
     ensures { λ q. ⌜ Reader (interfaceList (settingsOf (now (set .entry)))) (now (s .entry)) r (now (tape .entry)) q (now (tape .exit)) ⌝ }
 {
     let Step::Taken(c) = r else {
@@ -85,7 +85,7 @@ pub fn interfaces(s: &[u8], set: &Settings, r: Step, again: bool, tape: &mut [u3
     };
     let q = fields::number_count(s, set, c, sizes::INTERFACE_META, tape);
     let Number::Got(n, d) = q else {
-        return reader::refused(q);
+        return reader::step_of(q);
     };
     let mut k = n;
     let mut here = Step::Taken(d);

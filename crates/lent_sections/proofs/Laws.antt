@@ -9,10 +9,10 @@ use Rattle.vob24.specs.Grammar.{Section}
 use Rattle.vob24.specs.Calls as vob
 use Rattle.vob24.specs.Theorems.{section-within}
 use Rattle.calls.specs.declared.Answer.{Answer}
-use Rattle.calls.specs.Call.{answerOf, SectionCall}
-use Rattle.positions.specs.Moving.{positionOf, Moves, Fits}
-use Rattle.positions.specs.declared.Position.{Position}
-use Rattle.positions.specs.Call.{LentCall}
+use Rattle.calls.specs.Contract.{answerOf, SectionCall}
+use Rattle.position.specs.Moving.{positionOf, Moves, Fits}
+use Rattle.position.specs.declared.Position.{Position}
+use Rattle.position.specs.Call.{LentCall}
 
 module _ {n : ℕ} {x : Section} {s : List ℕ} {at : Position} {t : List ℕ} {q : Answer} {t′ : List ℕ} (k : SectionCall settings n x s (at .place) (at .budget) t q t′) where
   -- the bytes taken lie in the pack

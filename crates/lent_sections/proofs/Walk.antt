@@ -23,9 +23,9 @@ use denote.Triple.Walked.{Stays, AllGo, Walks, walk-meets}
 use Rattle.vob24.specs.declared.Section.{Section}
 use Rattle.vob24.proofs.Section as E
 use Rattle.vob24.proofs.Section.Laws as E′
-use Rattle.positions.specs.declared.Position.{Position}
-use Rattle.positions.proofs.Position as P
-use Rattle.positions.proofs.Position.Laws as P′
+use Rattle.position.specs.declared.Position.{Position}
+use Rattle.position.proofs.Position as P
+use Rattle.position.proofs.Position.Laws as P′
 
 abbrev pub slice-val : RefT (List ℕ) → Val
 slice-val x = sliceVal (x .ptr) (length (x .now))

@@ -1,9 +1,9 @@
 // The section call that is lent its place and budget and advances them, over the section call by value.
 // The Rust has no such call; its ByteReader advances its pos and allocation_remaining so.
 ghost use Rattle.vob24.specs.Sections.{sectionOf, functionsOf};
-ghost use Rattle.positions.specs.Call.{LentCall};
+ghost use Rattle.position.specs.Call.{LentCall};
 use calls::Answer;
-pub use positions::Position;
+pub use position::Position;
 use vob24::Section;
 
 // An answer, and the position after it.
@@ -18,7 +18,7 @@ fn step(pack: &[u8], section: Section, from: Position, tape: &mut [u32]) -> Lent
     let answer = sections::read_section(pack, section, from.place, from.budget, tape);
     Lent {
         answer: answer,
-        next: positions::moved(from, answer),
+        next: position::moved(from, answer),
     }
 }
 

@@ -13,8 +13,8 @@ use Rattle.format.specs.Trace.{settle, taken}
 use Rattle.format.specs.Format.{Value, num, pair, Rule, Width, byte, fixed, Format, leaf, _▸_, chain, times}
 use Rattle.format.specs.Reading.{little, part, size, trace, traceLeaf}
 use Rattle.format.specs.Record.{words, wordsLeaf}
-use Rattle.format.specs.Settling.{thenS}
-use Rattle.format.specs.Ending.{settle-seq}
+use Rattle.format.specs.SettleTheorems.{thenS}
+use Rattle.format.specs.TraceTheorems.{settle-seq}
 use Rattle.vob24.specs.Leaves.{free, atMost}
 use Rattle.reader.specs.Contract.{ReadyAt, Takes, Reads, Reader}
 use Rattle.reader.specs.declared.Cursor.{Cursor}

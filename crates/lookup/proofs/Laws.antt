@@ -12,14 +12,14 @@ use borrow.Author.Tests.{eq-eqb, ne-eqb}
 use Rattle.format.specs.Trace.{pick}
 use Rattle.format.specs.Format.{text, content, first, second}
 use Rattle.format.specs.Reading.{little, part, same}
-use Rattle.format.specs.Ending.{part-length}
+use Rattle.format.specs.TraceTheorems.{part-length}
 use Rattle.vob24.specs.Refusals
 use Rattle.vob24.specs.Settings.{Settings, maxPackBytes}
 use Rattle.vob24.specs.Grammar.{artifact}
 use Rattle.vob24.specs.Calls as vob
 use Rattle.reader.specs.declared.Cursor.{Cursor}
-use Rattle.items.specs.Walk.{Stands, valueAt, nextAt, itemsAt, parts, passed, items-more, items-none, stand-more}
-use Rattle.items.specs.Contract.{Items, WordIs}
+use Rattle.in_place.specs.Walk.{Stands, valueAt, nextAt, itemsAt, parts, passed, items-more, items-none, stand-more}
+use Rattle.in_place.specs.Contract.{Items, WordIs}
 use Rattle.lookup.specs.Look.{IsName, Looks, Counted, LooksFrom}
 use Rattle.lookup.specs.declared.Found.{Found}
 

@@ -10,8 +10,8 @@ use Rattle.vob24.specs.Grammar.{artifact}
 use Rattle.vob24.specs.Calls as vob
 use Rattle.reader.specs.Contract.{wrongOf}
 use Rattle.reader.specs.declared.Cursor.{Cursor}
-use Rattle.items.specs.Contract.{Items}
-use Rattle.items.specs.Walk.{itemsAt}
+use Rattle.in_place.specs.Contract.{Items}
+use Rattle.in_place.specs.Walk.{itemsAt}
 use Rattle.lookup.specs.declared.Found.{Found}
 
 -- Document 01's values for each case of the companion's answer.

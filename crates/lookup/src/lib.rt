@@ -4,7 +4,7 @@ ghost use Prim.Native.Nat.{_+_, _≤_};
 ghost use lib.ListN.{length};
 ghost use Rattle.vob24.specs.Settings.{settingsOf};
 ghost use Rattle.vob24.specs.Grammar.{artifact};
-ghost use Rattle.items.specs.Contract.{Items};
+ghost use Rattle.in_place.specs.Contract.{Items};
 ghost use Rattle.lookup.specs.Look.{IsName, Looks, Counted, LooksFrom};
 use reader::Cursor;
 use reader::Refusal;
@@ -44,10 +44,10 @@ fn look(s: &[u8], set: &Settings, from: usize, n: usize, name: &[u8], end: Curso
     let mut at = from;
     let mut k = n;
     while 0 < k {
-        let named = items::word_at(s, at);
+        let named = in_place::word_at(s, at);
         // The version stands between the name and the payload's length.
         let payload = at + 4 + named + 4;
-        let len = items::word_at(s, payload);
+        let len = in_place::word_at(s, payload);
         if is_name(s, at + 4, named, name) {
             return Found::At(payload + 4, len);
         }
@@ -69,6 +69,6 @@ pub fn look_from(s: &[u8], set: &Settings, at: usize, name: &[u8], end: Cursor) 
     requires { ⌜ Counted (settingsOf (now set)) (now s) at ⌝ }
     ensures { λ q. ⌜ LooksFrom (settingsOf (now (set .entry))) (now (s .entry)) at (now (name .entry)) end q ⌝ }
 {
-    let n = items::word_at(s, at);
+    let n = in_place::word_at(s, at);
     look(s, set, at + 4, n, name, end)
 }

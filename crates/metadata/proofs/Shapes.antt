@@ -21,16 +21,16 @@ use Rattle.reader.specs.declared.Step.the-variants.{Taken}
 use Rattle.reader.specs.declared.Number.{Number}
 use Rattle.reader.specs.declared.Number.the-variants.{Got}
 use Rattle.reader.proofs.Parts.{tag-ok}
-use Rattle.records.specs.Recorded.{noItems, Recorded}
-use Rattle.records.specs.declared.Items.{Items}
-use Rattle.records.proofs.Recording.{recordedThen, recordedPlace, recordedLast, recordedTwo, lastTwo, lastThree, fixed-place, list-place, above, variantAt}
+use Rattle.reader.specs.Recorded.{noList, Recorded}
+use Rattle.reader.specs.declared.ListAt.{ListAt}
+use Rattle.reader.proofs.Recording.{recordedThen, recordedPlace, recordedLast, recordedTwo, lastTwo, lastThree, fixed-place, list-place, above, variantAt}
 use Rattle.metadata.specs.Records.{twoLayouts, elemLayout, mapGet, slotLayout, ifaceAssert, callIface, bareOf, oneOf, twoOf, elemOf, mapGetOf, slotOf, assertOf, callIfaceOf, metadataRecords, metadataOf}
 use Rattle.metadata.specs.declared.Metadata.{Metadata}
 use Rattle.metadata.specs.declared.Metadata.the-variants as kind
 use Rattle.metadata.specs.declared.MetadataRecord.{MetadataRecord}
 
 -- the n entries of a list whose count stands at p
-abbrev itemsOf : ℕ → ℕ → Items
+abbrev itemsOf : ℕ → ℕ → ListAt
 itemsOf p n = record { start = p + 4; count = n }
 
 -- slot types take one byte each
@@ -38,11 +38,11 @@ slots-place : (set : Settings) {s : List ℕ} {c d : Cursor} {q : Number} {n : �
 slots-place set e h = omega (arith, list-place byte (atMost 5 invalidSlotType) e h)
 
 -- one list
-pub oneLayout : {f : Format} {k : Metadata} {s : List ℕ} {c d : Cursor} {q : Number} {n : ℕ} {i : Items} {t t₁ : List ℕ} → q ≡ Got n d → NumberOf f counted s c t q t₁ → i ≡ itemsOf (c .place) n → Recorded f (oneOf k) s c t (Taken d) (record { kind = k; first = i; second = noItems }) t₁
-oneLayout {k = k} e h x = recordedLast e h (λ n p. record { kind = k; first = itemsOf p n; second = noItems }) (rw x)
+pub oneLayout : {f : Format} {k : Metadata} {s : List ℕ} {c d : Cursor} {q : Number} {n : ℕ} {i : ListAt} {t t₁ : List ℕ} → q ≡ Got n d → NumberOf f counted s c t q t₁ → i ≡ itemsOf (c .place) n → Recorded f (oneOf k) s c t (Taken d) (record { kind = k; first = i; second = noList }) t₁
+oneLayout {k = k} e h x = recordedLast e h (λ n p. record { kind = k; first = itemsOf p n; second = noList }) (rw x)
 
 -- two lists of slot types; then a bool
-module _ (set : Settings) {s : List ℕ} {c c₁ c₂ : Cursor} {q₁ q₂ : Number} {m n : ℕ} {t t₁ t₂ : List ℕ} (e₁ : q₁ ≡ Got m c₁) (h₁ : NumberOf (slotTypes set) counted s c t q₁ t₁) (e₂ : q₂ ≡ Got n c₂) (h₂ : NumberOf (slotTypes set) counted s c₁ t₁ q₂ t₂) {i j : Items}
+module _ (set : Settings) {s : List ℕ} {c c₁ c₂ : Cursor} {q₁ q₂ : Number} {m n : ℕ} {t t₁ t₂ : List ℕ} (e₁ : q₁ ≡ Got m c₁) (h₁ : NumberOf (slotTypes set) counted s c t q₁ t₁) (e₂ : q₂ ≡ Got n c₂) (h₂ : NumberOf (slotTypes set) counted s c₁ t₁ q₂ t₂) {i j : ListAt}
     (x : i ≡ itemsOf (c .place) m) (y : j ≡ itemsOf (c₁ .place) n) where
   pub twoLayout : {k : Metadata} → Recorded (twoLayouts set) (twoOf k) s c t (Taken c₂) (record { kind = k; first = i; second = j }) t₂
   twoLayout {k} =

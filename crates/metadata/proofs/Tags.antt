@@ -6,7 +6,7 @@ use native.Mathlib.Omega.{arith}
 use lib.ListN.{length, getD}
 use Rattle.format.specs.Format.{number, Rule, byte, fixed, leaf}
 use Rattle.format.specs.Reading.{little, part, trace}
-use Rattle.format.specs.Ending.{leaf-ends}
+use Rattle.format.specs.TraceTheorems.{leaf-ends}
 use Rattle.vob24.specs.Settings.{Settings}
 use Rattle.vob24.specs.Grammar.{metadata, metadataVariants}
 use Rattle.fields.specs.Fields.{metadataTagged}

@@ -6,7 +6,7 @@ use Rattle.reader.specs.Contract.{Reader}
 use Rattle.reader.specs.declared.Cursor.{Cursor}
 use Rattle.reader.specs.declared.Step.{Step}
 use Rattle.reader.specs.declared.Step.the-variants.{Taken, Refused}
-use Rattle.records.specs.Recorded.{Recorded}
+use Rattle.reader.specs.Recorded.{Recorded}
 use Rattle.metadata.specs.declared.Metadata.the-variants as kind
 use Rattle.metadata.specs.declared.MetadataRecord.{MetadataRecord}
 use Rattle.metadata.specs.declared.MetadataRead.{MetadataRead}

@@ -8,7 +8,7 @@ use Rattle.vob24.specs.Settings as of
 use Rattle.vob24.specs.Settings.{Settings}
 use Rattle.vob24.specs.Leaves.{u16, u32, bool}
 use Rattle.vob24.specs.Grammar as vob
-use Rattle.records.specs.Recorded.{noItems, itemsAt}
+use Rattle.reader.specs.Recorded.{noList, listAt}
 use Rattle.metadata.specs.declared.Metadata.{Metadata}
 use Rattle.metadata.specs.declared.Metadata.the-variants as kind
 use Rattle.metadata.specs.declared.MetadataRecord.{MetadataRecord}
@@ -45,11 +45,11 @@ callIface set = u32 ▸ u32 ▸ (slots set) ▸ (slots set)
 -- ---- the records: p is the place after the tag, v the value there
 
 abbrev pub bareOf : Metadata → MetadataRecord
-bareOf k = record { kind = k; first = noItems; second = noItems }
+bareOf k = record { kind = k; first = noList; second = noList }
 
 -- one list at p
 abbrev pub oneOf : Metadata → ℕ → Value → MetadataRecord
-oneOf k p v = record { kind = k; first = itemsAt p v; second = noItems }
+oneOf k p v = record { kind = k; first = listAt p v; second = noList }
 
 -- the place after the slot types at p: each is one byte
 abbrev pub pastSlots : ℕ → Value → ℕ
@@ -57,7 +57,7 @@ pastSlots p v = p + 4 + counted v
 
 -- two lists of slot types, one after the other
 abbrev pub twoOf : Metadata → ℕ → Value → MetadataRecord
-twoOf k p v = record { kind = k; first = itemsAt p (first v); second = itemsAt (pastSlots p (first v)) (second v) }
+twoOf k p v = record { kind = k; first = listAt p (first v); second = listAt (pastSlots p (first v)) (second v) }
 
 abbrev pub elemOf : ℕ → Value → MetadataRecord
 elemOf p v = oneOf (kind.ElemLayout (number (first v)) (eqb (number (first (second v))) 1)) (p + 5) (second (second v))
@@ -66,8 +66,8 @@ abbrev pub mapGetOf : ℕ → Value → MetadataRecord
 mapGetOf p v =
     record {
       kind = kind.MapGet (eqb (number (second (second v))) 1);
-      first = itemsAt p (first v);
-      second = itemsAt (pastSlots p (first v)) (first (second v));
+      first = listAt p (first v);
+      second = listAt (pastSlots p (first v)) (first (second v));
     }
 
 abbrev pub loopEndOf : ℕ → Value → MetadataRecord

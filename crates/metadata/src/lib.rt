@@ -14,11 +14,11 @@ ghost use Rattle.select_case.specs.Records.{selectList};
 ghost use Rattle.metadata.specs.Records.{metadataFormat, metadataList, twoLayouts, elemLayout, mapGet, slotLayout, ifaceAssert, callIface, bareOf, oneOf, twoOf, elemOf, mapGetOf, loopEndOf, slotOf, assertOf, callIfaceOf, metadataOf};
 ghost use Rattle.metadata.specs.Contract.{metadataStep, MetadataReader, ReaderAt};
 use reader::Cursor;
+use reader::ListAt;
 use reader::Number;
 use reader::Refusal;
 use reader::Step;
 use reader::sizes;
-use records::Items;
 use vob24::Settings;
 
 // The tags of the two commonest metadata.
@@ -64,8 +64,8 @@ pub enum Metadata {
 // A metadata and its lists in file order; a list that it has not is empty.
 pub struct MetadataRecord {
     pub kind: Metadata,
-    pub first: Items,
-    pub second: Items,
+    pub first: ListAt,
+    pub second: ListAt,
 }
 
 pub enum MetadataRead {
@@ -81,13 +81,13 @@ fn bare(kind: Metadata) -> MetadataRecord
 {
     MetadataRecord {
         kind,
-        first: Items { start: 0, count: 0 },
-        second: Items { start: 0, count: 0 },
+        first: ListAt { start: 0, count: 0 },
+        second: ListAt { start: 0, count: 0 },
     }
 }
 
 // A part that was not got: its refusal.
-fn not_metadata(q: Number) -> MetadataRead
+fn metadata_refusal(q: Number) -> MetadataRead
     ensures { λ r. ⌜ metadataStep r ≡ stepOf q ⌝ }
 {
     match q {
@@ -105,13 +105,13 @@ fn layout(s: &[u8], set: &Settings, c: Cursor, kind: Metadata, tape: &mut [u32])
 {
     let q = slots::number_slot_types(s, set, c, tape);
     let Number::Got(n, d) = q else {
-        return not_metadata(q);
+        return metadata_refusal(q);
     };
     MetadataRead::Got(
         MetadataRecord {
             kind,
-            first: records::items_at(s, c, n),
-            second: Items { start: 0, count: 0 },
+            first: reader::list_at(s, c, n),
+            second: ListAt { start: 0, count: 0 },
         },
         d,
     )
@@ -124,17 +124,17 @@ fn layouts(s: &[u8], set: &Settings, c: Cursor, kind: Metadata, tape: &mut [u32]
 {
     let q1 = slots::number_slot_types(s, set, c, tape);
     let Number::Got(m, d) = q1 else {
-        return not_metadata(q1);
+        return metadata_refusal(q1);
     };
     let q2 = slots::number_slot_types(s, set, d, tape);
     let Number::Got(n, e) = q2 else {
-        return not_metadata(q2);
+        return metadata_refusal(q2);
     };
     MetadataRead::Got(
         MetadataRecord {
             kind,
-            first: records::items_at(s, c, m),
-            second: records::items_at(s, d, n),
+            first: reader::list_at(s, c, m),
+            second: reader::list_at(s, d, n),
         },
         e,
     )
@@ -147,11 +147,11 @@ fn elem_layout(s: &[u8], set: &Settings, c: Cursor, tape: &mut [u32]) -> Metadat
 {
     let q1 = fields::number_u32(s, c, tape);
     let Number::Got(bytes, d) = q1 else {
-        return not_metadata(q1);
+        return metadata_refusal(q1);
     };
     let q2 = fields::number_bool(s, d, tape);
     let Number::Got(extend, e) = q2 else {
-        return not_metadata(q2);
+        return metadata_refusal(q2);
     };
     let kind = Metadata::ElemLayout {
         elem_bytes: bytes as u32,
@@ -167,21 +167,21 @@ fn map_get(s: &[u8], set: &Settings, c: Cursor, tape: &mut [u32]) -> MetadataRea
 {
     let q1 = slots::number_slot_types(s, set, c, tape);
     let Number::Got(m, d) = q1 else {
-        return not_metadata(q1);
+        return metadata_refusal(q1);
     };
     let q2 = slots::number_slot_types(s, set, d, tape);
     let Number::Got(n, e) = q2 else {
-        return not_metadata(q2);
+        return metadata_refusal(q2);
     };
     let q3 = fields::number_bool(s, e, tape);
     let Number::Got(ok, f) = q3 else {
-        return not_metadata(q3);
+        return metadata_refusal(q3);
     };
     MetadataRead::Got(
         MetadataRecord {
             kind: Metadata::MapGet { has_ok: ok == 1 },
-            first: records::items_at(s, c, m),
-            second: records::items_at(s, d, n),
+            first: reader::list_at(s, c, m),
+            second: reader::list_at(s, d, n),
         },
         f,
     )
@@ -194,7 +194,7 @@ fn loop_end(s: &[u8], c: Cursor, tape: &mut [u32]) -> MetadataRead
 {
     let q = fields::number_u32(s, c, tape);
     let Number::Got(pc, d) = q else {
-        return not_metadata(q);
+        return metadata_refusal(q);
     };
     MetadataRead::Got(bare(Metadata::LoopEnd { end_pc: pc as u32 }), d)
 }
@@ -206,7 +206,7 @@ fn slot_layout(s: &[u8], set: &Settings, c: Cursor, tape: &mut [u32]) -> Metadat
 {
     let q = fields::number_u16(s, c, tape);
     let Number::Got(length, d) = q else {
-        return not_metadata(q);
+        return metadata_refusal(q);
     };
     let kind = Metadata::SlotLayout {
         array_len: length as u16,
@@ -221,11 +221,11 @@ fn iface_assert_layout(s: &[u8], set: &Settings, c: Cursor, tape: &mut [u32]) ->
 {
     let q1 = fields::number_assert_kind(s, c, tape);
     let Number::Got(assert, d) = q1 else {
-        return not_metadata(q1);
+        return metadata_refusal(q1);
     };
     let q2 = fields::number_u32(s, d, tape);
     let Number::Got(target, e) = q2 else {
-        return not_metadata(q2);
+        return metadata_refusal(q2);
     };
     let kind = Metadata::IfaceAssertLayout {
         assert_kind: assert as u8,
@@ -241,11 +241,11 @@ fn call_iface_layout(s: &[u8], set: &Settings, c: Cursor, tape: &mut [u32]) -> M
 {
     let q1 = fields::number_u32(s, c, tape);
     let Number::Got(id, d) = q1 else {
-        return not_metadata(q1);
+        return metadata_refusal(q1);
     };
     let q2 = fields::number_u32(s, d, tape);
     let Number::Got(method, e) = q2 else {
-        return not_metadata(q2);
+        return metadata_refusal(q2);
     };
     let kind = Metadata::CallIfaceLayout {
         iface_meta_id: id as u32,
@@ -261,13 +261,13 @@ fn select_exec_layout(s: &[u8], set: &Settings, c: Cursor, tape: &mut [u32]) -> 
 {
     let q = select_case::number_select_cases(s, set, c, tape);
     let Number::Got(n, d) = q else {
-        return not_metadata(q);
+        return metadata_refusal(q);
     };
     MetadataRead::Got(
         MetadataRecord {
             kind: Metadata::SelectExecLayout,
-            first: records::items_at(s, c, n),
-            second: Items { start: 0, count: 0 },
+            first: reader::list_at(s, c, n),
+            second: ListAt { start: 0, count: 0 },
         },
         d,
     )
@@ -280,7 +280,7 @@ pub fn instruction_metadata(s: &[u8], set: &Settings, c: Cursor, tape: &mut [u32
 {
     let q = fields::number_metadata_tag(s, c, tape);
     let Number::Got(tag, d) = q else {
-        return not_metadata(q);
+        return metadata_refusal(q);
     };
     match tag {
         0 => MetadataRead::Got(bare(Metadata::None), d),
@@ -305,7 +305,7 @@ pub fn instruction_metadata(s: &[u8], set: &Settings, c: Cursor, tape: &mut [u32
 // ---- lists, in which no record is asked for
 
 // The answer without its record.
-fn without_record(q: MetadataRead) -> Step
+fn metadata_step(q: MetadataRead) -> Step
     ensures { λ r. ⌜ r ≡ metadataStep q ⌝ }
 {
     match q {
@@ -331,9 +331,9 @@ fn two_layouts(s: &[u8], set: &Settings, c: Cursor, tape: &mut [u32]) -> Step
 {
     let q = slots::number_slot_types(s, set, c, tape);
     let Number::Got(_, d) = q else {
-        return reader::refused(q);
+        return reader::step_of(q);
     };
-    reader::refused(slots::number_slot_types(s, set, d, tape))
+    reader::step_of(slots::number_slot_types(s, set, d, tape))
 }
 
 // The next of a list: the two commonest, None and CallLayout, are read without their records.
@@ -346,16 +346,16 @@ fn next_metadata(s: &[u8], set: &Settings, r: Step, tape: &mut [u32]) -> Step
     };
     let place = c.place;
     if is_tag(s, place, NONE) {
-        return reader::refused(fields::number_metadata_tag(s, c, tape));
+        return reader::step_of(fields::number_metadata_tag(s, c, tape));
     }
     if is_tag(s, place, CALL_LAYOUT) {
         let q = fields::number_metadata_tag(s, c, tape);
         let Number::Got(_, d) = q else {
-            return reader::refused(q);
+            return reader::step_of(q);
         };
         return two_layouts(s, set, d, tape);
     }
-    without_record(instruction_metadata(s, set, c, tape))
+    metadata_step(instruction_metadata(s, set, c, tape))
 }
 
 // Hands out how many they are.
@@ -372,9 +372,9 @@ pub fn number_instruction_metadata(s: &[u8], set: &Settings, c: Cursor, tape: &m
     while 0 < k {
         here = next_metadata(s, set, here, tape);
         let Step::Taken(_) = here else {
-            return reader::with(n, here);
+            return reader::number_of(n, here);
         };
         k -= 1;
     }
-    reader::with(n, here)
+    reader::number_of(n, here)
 }

@@ -21,17 +21,17 @@ use Rattle.reader.specs.declared.Number.{Number}
 use Rattle.reader.specs.declared.Number.the-variants.{Got}
 use Rattle.reader.proofs.Laws.{at-step, numberThen, takes-ends}
 use Rattle.reader.proofs.Asks.{asks-none, behind}
-use Rattle.items.specs.declared.Item.the-variants.{NamedMethod}
-use Rattle.items.specs.declared.Table.the-variants.{Methods as methodTable}
-use Rattle.items.specs.Walk.{nextAt, lastAt, stand, items-nil, stand-snoc, last-snoc}
-use Rattle.items.specs.Contract.{Items}
-use Rattle.repeats.specs.Keys.{repeatAt, FirstRepeat}
-use Rattle.repeats.specs.Tables.{keysAt}
-use Rattle.names.specs.Contract.{MethodBehind, MethodAsked}
-use Rattle.names.proofs.Lists.{method-repeat, method-refused}
-use Rattle.names.proofs.Methods.{Methods, methods-start, methods-more, methods-refused, methods-done, all-new}
-use Rattle.second_pass.specs.Granted.{Granted}
-use Rattle.second_pass.proofs.Laws.{granted-part, granted-ends}
+use Rattle.in_place.specs.declared.Item.the-variants.{NamedMethod}
+use Rattle.in_place.specs.declared.Table.the-variants.{Methods as methodTable}
+use Rattle.in_place.specs.Walk.{nextAt, lastAt, stand, items-nil, stand-snoc, last-snoc}
+use Rattle.in_place.specs.Contract.{Items}
+use Rattle.repeat_search.specs.Keys.{repeatAt, FirstRepeat}
+use Rattle.repeat_search.specs.Tables.{keysAt}
+use Rattle.unique_names.specs.Contract.{MethodBehind, MethodAsked}
+use Rattle.unique_names.proofs.Lists.{method-repeat, method-refused}
+use Rattle.unique_names.proofs.Methods.{Methods, methods-start, methods-more, methods-refused, methods-done, all-new}
+use Rattle.reader.specs.Accepted.{Accepted}
+use Rattle.reader.proofs.Accepting.{accepted-part, accepted-ends}
 use Rattle.named_types.specs.NamedTypes.{namedMethod, namedMethods, newMethods, AllNew, MethodsRead}
 
 pub methodsThen : (set : Settings) {s : List ℕ} {c d : Cursor} {q : Number} {n : ℕ} {r r₂ : Step} {t t₁ t₂ : List ℕ} → r ≡ Taken c → q ≡ Got n d → NumberOf (methodCount set) number s c t q t₁ → Reader (chain newMethod alsoSeen [] n) s (Taken d) t₁ r₂ t₂ → Reader (namedMethods set) s r t r₂ t₂
@@ -176,7 +176,7 @@ module _ {s : List ℕ} {d : Cursor} {n m first : ℕ} {t t₁ : List ℕ} {q : 
       go z e c = let i = e .1 in rw i (record { reads = again (rw i at (c .reads)); ready = tt })
 
 -- in a second pass there is none
-pub granted-run : (set : Settings) {s : List ℕ} {b : Bool} {r : Step} {c d : Cursor} {p : Number} {n m : ℕ} {q : Step} {t t₁ t₂ : List ℕ} → r ≡ Taken c → p ≡ Got n d → NumberOf (methodCount set) number s c t p t₁ → b ≡ true → Granted b (namedMethods set) s r → MethodsRead s d n n t₁ m q t₂ → Reader (namedMethods set) s r t q t₂
-granted-run set {s} {d = d} {n = n} y e h i g a =
-    let w = granted-ends i (granted-part (λ x k. methodsThen set y e h k) g) in
+pub accepted-run : (set : Settings) {s : List ℕ} {b : Bool} {r : Step} {c d : Cursor} {p : Number} {n m : ℕ} {q : Step} {t t₁ t₂ : List ℕ} → r ≡ Taken c → p ≡ Got n d → NumberOf (methodCount set) number s c t p t₁ → b ≡ true → Accepted b (namedMethods set) s r → MethodsRead s d n n t₁ m q t₂ → Reader (namedMethods set) s r t q t₂
+accepted-run set {s} {d = d} {n = n} y e h i g a =
+    let w = accepted-ends i (accepted-part (λ x k. methodsThen set y e h k) g) in
     methodsThen set y e h (a .reads (record { new = λ k l. all-new s (d .place) n (w .2) k (omega (arith, a .within)) }) (λ l. absurd (omega arith)))

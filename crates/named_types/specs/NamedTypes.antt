@@ -12,11 +12,11 @@ use Rattle.reader.specs.declared.Cursor.{Cursor}
 use Rattle.reader.specs.declared.Refusal.{Refusal}
 use Rattle.reader.specs.declared.Step.{Step}
 use Rattle.reader.specs.declared.Step.the-variants.{Taken, Refused}
-use Rattle.items.specs.declared.Item.the-variants.{NamedMethod}
-use Rattle.items.specs.declared.Table.the-variants.{Methods}
-use Rattle.items.specs.Contract.{Items}
-use Rattle.repeats.specs.Keys.{repeatAt}
-use Rattle.repeats.specs.Tables.{keysAt}
+use Rattle.in_place.specs.declared.Item.the-variants.{NamedMethod}
+use Rattle.in_place.specs.declared.Table.the-variants.{Methods}
+use Rattle.in_place.specs.Contract.{Items}
+use Rattle.repeat_search.specs.Keys.{repeatAt}
+use Rattle.repeat_search.specs.Tables.{keysAt}
 
 abbrev pub namedMethod : Format
 namedMethod = vob.method

@@ -2,10 +2,10 @@
 // Ports what Module::deserialize of serialize.rs reads into NamedTypeMeta and MethodInfo of bytecode.rs.
 ghost use Rattle.vob24.specs.Settings.{settingsOf};
 ghost use Rattle.reader.specs.Contract.{Ready, ReadyAt, Reader};
-ghost use Rattle.second_pass.specs.Granted.{Granted};
+ghost use Rattle.reader.specs.Accepted.{Accepted};
 ghost use Rattle.named_types.specs.NamedTypes.{namedMethod, namedMethods, namedFormat, namedList, MethodsRead};
-use items::Item;
-use items::Table;
+use in_place::Item;
+use in_place::Table;
 use reader::Cursor;
 use reader::Number;
 use reader::Step;
@@ -40,7 +40,7 @@ fn read_methods(s: &[u8], d: Cursor, n: usize, first: usize, tape: &mut [u32]) -
     while i < n {
         let read = method(s, here, tape);
         if i == first {
-            let step = names::new_method(s, from, i, here, read);
+            let step = unique_names::new_method(s, from, i, here, read);
             return Run { count: i, step };
         }
         here = read;
@@ -61,7 +61,7 @@ fn read_methods(s: &[u8], d: Cursor, n: usize, first: usize, tape: &mut [u32]) -
 // The methods are read, and then, in a first pass, the first repeat among those that were read is looked for; it is judged where it comes, by
 // a second run.
 pub fn methods(s: &[u8], set: &Settings, r: Step, again: bool, tape: &mut [u32]) -> Step
-    requires { ⌜ (Ready (now s) r) × (Granted again (namedMethods (settingsOf (now set))) (now s) r) ⌝ }
+    requires { ⌜ (Ready (now s) r) × (Accepted again (namedMethods (settingsOf (now set))) (now s) r) ⌝ }
     ensures { λ q. ⌜ Reader (namedMethods (settingsOf (now (set .entry)))) (now (s .entry)) r (now (tape .entry)) q (now (tape .exit)) ⌝ }
 {
     let Step::Taken(c) = r else {
@@ -69,14 +69,19 @@ pub fn methods(s: &[u8], set: &Settings, r: Step, again: bool, tape: &mut [u32])
     };
     let q = fields::number_method_count(s, set, c, tape);
     let Number::Got(n, d) = q else {
-        return reader::refused(q);
+        return reader::step_of(q);
     };
     let count = n as usize;
     let run = read_methods(s, d, count, count, tape);
     if again {
         return run.step;
     }
-    let first = repeats::first_repeat(s, Table::Methods(Item::NamedMethod), d.place, run.count);
+    let first = repeat_search::first_repeat(
+        s,
+        Table::Methods(Item::NamedMethod),
+        d.place,
+        run.count,
+    );
     if first == run.count {
         return run.step;
     }
@@ -85,7 +90,7 @@ pub fn methods(s: &[u8], set: &Settings, r: Step, again: bool, tape: &mut [u32])
 }
 
 pub fn named_type(s: &[u8], set: &Settings, r: Step, again: bool, tape: &mut [u32]) -> Step
-    requires { ⌜ (Ready (now s) r) × (Granted again (namedFormat (settingsOf (now set))) (now s) r) ⌝ }
+    requires { ⌜ (Ready (now s) r) × (Accepted again (namedFormat (settingsOf (now set))) (now s) r) ⌝ }
     ensures { λ q. ⌜ Reader (namedFormat (settingsOf (now (set .entry)))) (now (s .entry)) r (now (tape .entry)) q (now (tape .exit)) ⌝ }
 {
     let name = fields::field_str(s, r, tape);
@@ -95,7 +100,7 @@ pub fn named_type(s: &[u8], set: &Settings, r: Step, again: bool, tape: &mut [u3
 }
 
 pub fn named_types(s: &[u8], set: &Settings, r: Step, again: bool, tape: &mut [u32]) -> Step
-    requires { ⌜ (Ready (now s) r) × (Granted again (namedList (settingsOf (now set))) (now s) r) ⌝ }
+    requires { ⌜ (Ready (now s) r) × (Accepted again (namedList (settingsOf (now set))) (now s) r) ⌝ }
     ensures { λ q. ⌜ Reader (namedList (settingsOf (now (set .entry)))) (now (s .entry)) r (now (tape .entry)) q (now (tape .exit)) ⌝ }
 {
     let Step::Taken(c) = r else {
@@ -103,7 +108,7 @@ pub fn named_types(s: &[u8], set: &Settings, r: Step, again: bool, tape: &mut [u
     };
     let q = fields::number_count(s, set, c, sizes::NAMED_TYPE_META, tape);
     let Number::Got(n, d) = q else {
-        return reader::refused(q);
+        return reader::step_of(q);
     };
     let mut k = n;
     let mut here = Step::Taken(d);

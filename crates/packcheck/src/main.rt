@@ -110,7 +110,7 @@ fn print(answer: Answer) {
 
 fn check(pack: &[u8]) {
     let mut tape = [0; 16384];
-    print(serialize::read(pack, BUDGET, &mut tape));
+    print(pack::read(pack, BUDGET, &mut tape));
 }
 
 fn main() {

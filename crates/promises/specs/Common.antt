@@ -11,15 +11,15 @@ use lib.Dec.{T, leb, leb→le, nleb→lt}
 use Rattle.format.specs.Trace.{Wrong, Trace, pick, amounts, total, stopped, out, Ends, Settled, refused, taken, settle}
 use Rattle.format.specs.Format.{Value, Format}
 use Rattle.format.specs.Record.{words, decode, Held}
-use Rattle.format.specs.Settling.{settle-taken}
-use Rattle.format.specs.Charging.{trace-charges}
-use Rattle.format.specs.Placing.{Rising, placeOf, settle-within}
+use Rattle.format.specs.SettleTheorems.{settle-taken}
+use Rattle.format.specs.ChargeSums.{trace-charges}
+use Rattle.format.specs.PlacesRise.{Rising, placeOf, settle-within}
 use Rattle.vob24.specs.Refusals
 use Rattle.vob24.specs.PackCost.{Costs}
 use Rattle.vob24.specs.Calls.{Answer, Taken, Refused, Outcome, noRoomFor, closing}
-use Rattle.vob24.specs.Calling as of
-use Rattle.vob24.specs.Calling.{leftOf, Account, IsTaken, IsBroke, Reads, taken-record, call-texts, call-record, call-cost}
-use Rattle.vob24.specs.Numbered.{Listed}
+use Rattle.vob24.specs.CallTheorems as of
+use Rattle.vob24.specs.CallTheorems.{leftOf, Account, IsTaken, IsBroke, Reads, taken-record, call-texts, call-record, call-cost}
+use Rattle.vob24.specs.RefusalNumbers.{Listed}
 
 -- "A refusal changes no lent memory, an acceptance only the tape's counted words": the tape at entry, and at exit.
 abbrev pub Kept : Answer → List ℕ → List ℕ → Type 0

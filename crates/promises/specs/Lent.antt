@@ -16,13 +16,13 @@ use Rattle.vob24.specs.Grammar.{Section, section}
 use Rattle.vob24.specs.Cost.{sectionCost, sectionRecordCost}
 use Rattle.vob24.specs.Calls as vob
 use Rattle.vob24.specs.Calls.{Taken, Refused, noRoomFor}
-use Rattle.vob24.specs.Calling.{leftOf, Account, IsBroke}
-use Rattle.vob24.specs.Numbered.{Answered}
-use Rattle.calls.specs.Call.{answerOf, SectionCall}
+use Rattle.vob24.specs.CallTheorems.{leftOf, Account, IsBroke}
+use Rattle.vob24.specs.RefusalNumbers.{Answered}
+use Rattle.calls.specs.Contract.{answerOf, SectionCall}
 use Rattle.calls.specs.declared.Answer.{Answer}
-use Rattle.positions.specs.Moving.{positionOf}
-use Rattle.positions.specs.Call.{LentCall}
-use Rattle.positions.specs.declared.Position.{Position}
+use Rattle.position.specs.Moving.{positionOf}
+use Rattle.position.specs.Call.{LentCall}
+use Rattle.position.specs.declared.Position.{Position}
 use Rattle.promises.specs.Common.{Kept, Within, Accepted}
 use Rattle.promises.specs.Section as alone
 use Rattle.promises.specs.Section.{charges, LaysOut}

@@ -9,7 +9,7 @@ use lib.ListN.{length}
 use Rattle.format.specs.Trace.{Wrong, wrong, total, Settled, refused, taken, settle}
 use Rattle.format.specs.Format.{Value, start, content, entries}
 use Rattle.format.specs.Layout.{Bytes}
-use Rattle.format.specs.Settling.{settle-taken}
+use Rattle.format.specs.SettleTheorems.{settle-taken}
 use Rattle.vob24.specs.Refusals
 use Rattle.vob24.specs.Settings.{Settings, startingBudget}
 use Rattle.vob24.specs.Grammar.{artifacts}
@@ -17,9 +17,9 @@ use Rattle.vob24.specs.Cost.{partOf, packCost}
 use Rattle.vob24.specs.PackCost.{pack-costs}
 use Rattle.vob24.specs.Calls.{At, Not, foundPart}
 use Rattle.vob24.specs.Theorems.{whole-reads, whole-layout}
-use Rattle.vob24.specs.Lookup as spec
-use Rattle.vob24.specs.Lookup.{NoneNamed, FirstNamed, payloadOf}
-use Rattle.vob24.specs.Numbered.{Looked, find-numbered, whole-listed}
+use Rattle.vob24.specs.LookupTheorems as spec
+use Rattle.vob24.specs.LookupTheorems.{NoneNamed, FirstNamed, payloadOf}
+use Rattle.vob24.specs.RefusalNumbers.{Looked, find-numbered, whole-listed}
 use Rattle.lookup.specs.Look.{foundOf, Room, LocateCall, FindCall}
 use Rattle.lookup.specs.declared.Found.{Found}
 use Rattle.promises.specs.Common.{ends-cost}

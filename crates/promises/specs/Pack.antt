@@ -17,10 +17,10 @@ use Rattle.vob24.specs.Cost.{packCost, recordCost}
 use Rattle.vob24.specs.PackCost.{pack-costs}
 use Rattle.vob24.specs.Calls as vob
 use Rattle.vob24.specs.Calls.{Taken, Refused, noRoomFor, wholeTrace}
-use Rattle.vob24.specs.Calling.{leftOf, Account, IsBroke}
+use Rattle.vob24.specs.CallTheorems.{leftOf, Account, IsBroke}
 use Rattle.vob24.specs.Theorems as spec
-use Rattle.vob24.specs.Numbered.{Answered, read-numbered, whole-listed}
-use Rattle.calls.specs.Call.{answerOf, ReadCall}
+use Rattle.vob24.specs.RefusalNumbers.{Answered, read-numbered, whole-listed}
+use Rattle.calls.specs.Contract.{answerOf, ReadCall}
 use Rattle.calls.specs.declared.Answer.{Answer}
 use Rattle.promises.specs.Common as common
 use Rattle.promises.specs.Common.{Kept, Within, Accepted, Call}

@@ -11,7 +11,7 @@ use Rattle.format.specs.Trace.{Wrong, Trace, amounts, total, stopped, out, Ends
 use Rattle.format.specs.Format.{Value}
 use Rattle.format.specs.Record.{words, decode, Held}
 use Rattle.format.specs.Layout.{Bytes, Valid, bytes}
-use Rattle.format.specs.Laying.{At}
+use Rattle.format.specs.LayoutTheorems.{At}
 use Rattle.vob24.specs.Refusals
 use Rattle.vob24.specs.Settings.{Settings, Licensed, maxPackBytes}
 use Rattle.vob24.specs.Grammar.{Section, section}
@@ -19,10 +19,10 @@ use Rattle.vob24.specs.Cost.{sectionCost, sectionRecordCost}
 use Rattle.vob24.specs.PackCost.{section-costs}
 use Rattle.vob24.specs.Calls as vob
 use Rattle.vob24.specs.Calls.{Taken, Refused, noRoomFor, sectionTrace}
-use Rattle.vob24.specs.Calling.{leftOf, Account, IsBroke}
+use Rattle.vob24.specs.CallTheorems.{leftOf, Account, IsBroke}
 use Rattle.vob24.specs.Theorems as spec
-use Rattle.vob24.specs.Numbered.{Answered, section-numbered, section-listed}
-use Rattle.calls.specs.Call.{answerOf, SectionCall}
+use Rattle.vob24.specs.RefusalNumbers.{Answered, section-numbered, section-listed}
+use Rattle.calls.specs.Contract.{answerOf, SectionCall}
 use Rattle.calls.specs.declared.Answer.{Answer}
 use Rattle.promises.specs.Common as common
 use Rattle.promises.specs.Common.{Kept, Within, Accepted, Call}

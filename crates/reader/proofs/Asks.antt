@@ -9,7 +9,7 @@ use Rattle.format.specs.Trace.{Wrong, settle, refused, taken, spent, pick, Ends
 use Rattle.format.specs.Format.{Value, none, Ask, pay, deny, Format, leaf, ask, seq}
 use Rattle.format.specs.Reading.{trace, traceAsk, traceLeaf}
 use Rattle.format.specs.Record.{words, wordsLeaf}
-use Rattle.format.specs.Settling.{thenS}
+use Rattle.format.specs.SettleTheorems.{thenS}
 use Rattle.reader.specs.Contract.{refusal, Ready, ReadyAt, Reads, takes, refuses, skips, Reader, Paid, Asks, passes, denies, Behind, Follows}
 use Rattle.reader.specs.declared.Cursor.{Cursor}
 use Rattle.reader.specs.declared.Refusal.{Refusal}

@@ -12,7 +12,7 @@ use Rattle.format.specs.Trace.{Wrong, settle, taken, pick}
 use Rattle.format.specs.Format.{Value, none, num, text, number, Rule, Width, word, long, option, Leaf, fixed, mark, packed, string, payload, count, Format, leaf}
 use Rattle.format.specs.Reading.{part, size, trace, traceLeaf}
 use Rattle.format.specs.Record.{shown, words, wordsLeaf}
-use Rattle.format.specs.Ending.{part-length}
+use Rattle.format.specs.TraceTheorems.{part-length}
 use Rattle.vob24.specs.Leaves.{free}
 use Rattle.reader.specs.Contract.{stepOf, payloadStep, textStep, textSpan, ReadyAt, Takes, Refuses, takes, refuses, Reader, got, lost, NumberOf, gotSpan, lostSpan, SpanOf, Wordy, Kept, WordyPair, KeptPair}
 use Rattle.reader.specs.Leaves.{Fetched, Fetches, Answered, Denied, Answers, answered, denied, Spanned, Spans, spanned, unspanned, Marks, marked, unmarked, Texts, written, unwritten}

@@ -10,8 +10,8 @@ use Rattle.format.specs.Trace.{settle, Ends}
 use Rattle.format.specs.Format.{Value, none, pair, Format, empty, seq, chain, times}
 use Rattle.format.specs.Reading.{trace}
 use Rattle.format.specs.Record.{words}
-use Rattle.format.specs.Settling.{thenS, settle-taken}
-use Rattle.format.specs.Ending.{settle-seq, trace-within, slim}
+use Rattle.format.specs.SettleTheorems.{thenS, settle-taken}
+use Rattle.format.specs.TraceTheorems.{settle-seq, trace-within, slim}
 use Rattle.reader.specs.Contract.{stepOf, Ready, ReadyAt, Takes, Refuses, Reads, takes, refuses, skips, Reader, ReadsOf, got, lost, NumberOf}
 use Rattle.reader.specs.declared.Cursor.{Cursor}
 use Rattle.reader.specs.declared.Refusal.{Refusal}

@@ -16,8 +16,8 @@ use borrow.Author.Tests.{le-leb, lt-leb, le-ltb, lt-ltb, eq-eqb, ne-eqb}
 use Rattle.format.specs.Trace.{wrong, unexpectedEof, end, charge, settle, pick}
 use Rattle.format.specs.Format.{num, text, Rule, Width, byte, half, word, fixed, payload, count}
 use Rattle.format.specs.Reading.{little, part, size, room, traceLeaf}
-use Rattle.format.specs.Ending.{part-length}
-use Rattle.format.specs.Laying.{digits-little}
+use Rattle.format.specs.TraceTheorems.{part-length}
+use Rattle.format.specs.LayoutTheorems.{digits-little}
 use Rattle.vob24.specs.Refusals.{invalidValueKind}
 use Rattle.vob24.specs.Leaves.{kindOk, packedOk, packedWord}
 use Rattle.reader.specs.Contract.{refusal, stepOf, signedStep, floatStep, payloadStep, textStep, textSpan, numberOf, ReadyAt, Paid}

@@ -8,3 +8,6 @@ pub mod Signs
 pub mod Keeping
 pub mod Parts
 pub mod Reading
+pub mod Recording
+pub mod Numbering
+pub mod Accepting

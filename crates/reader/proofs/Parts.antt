@@ -7,7 +7,7 @@ use lib.Dec.{T, leb→le}
 use lib.ListN.{length, getD}
 use Rattle.format.specs.Format.{Value, text, number, Rule, byte, fixed, count, Format, empty, leaf, seq, times}
 use Rattle.format.specs.Reading.{little, part, trace}
-use Rattle.format.specs.Ending.{leaf-ends}
+use Rattle.format.specs.TraceTheorems.{leaf-ends}
 use Rattle.vob24.specs.Refusals.{invalidBoolean}
 use Rattle.vob24.specs.Leaves.{atMost, atMostBare, choose, optional}
 use Rattle.reader.specs.Contract.{stepOf, ReadyAt, Takes, ReadsSpan, gotSpan, Reader, NumberOf, SpanOf}

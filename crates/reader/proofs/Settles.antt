@@ -5,7 +5,7 @@ use mathlib.Core.List.{List}
 use mathlib.Core.Bool.{Bool, true, false}
 use lib.ListN.{length}
 use borrow.Author.Tests.{le-leb, lt-leb}
-use Rattle.format.specs.Trace.{Wrong, wrong, unexpectedEof, Trace, charge, asks, guard, settle, refused, spent, pick}
+use Rattle.format.specs.Trace.{Wrong, wrong, unexpectedEof, Trace, charge, needs, guard, settle, refused, spent, pick}
 use Rattle.format.specs.Reading.{part, room, field}
 
 module _ {A : Type 0} (b : ℕ) where
@@ -19,11 +19,11 @@ module _ {A : Type 0} (b : ℕ) where
 
   pub room-yes : (n : ℕ) (s : List ℕ) (p : ℕ) (t : Trace A) → n ≤ length s → settle b (room n s p t) ≡ settle b t
   unfolding room settle
-  room-yes n s p t h = guard-yes _ _ (asks n p t) (le-leb _ _ h)
+  room-yes n s p t h = guard-yes _ _ (needs n p t) (le-leb _ _ h)
 
   pub room-no : (n : ℕ) (s : List ℕ) (p : ℕ) (t : Trace A) → length s < n → settle b (room n s p t) ≡ refused (wrong unexpectedEof 0) p b
   unfolding room
-  room-no n s p t h = guard-no _ _ (asks n p t) (lt-leb _ _ h)
+  room-no n s p t h = guard-no _ _ (needs n p t) (lt-leb _ _ h)
 
   pub field-yes : (n : ℕ) (s : List ℕ) (p : ℕ) (k : List ℕ → Trace A) → p + n ≤ length s → settle b (field n s p k) ≡ settle b (k (part s p n))
   unfolding field

@@ -1,2 +1,4 @@
 pub mod Contract
 pub mod Leaves
+pub mod Recorded
+pub mod Accepted

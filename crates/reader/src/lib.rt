@@ -1,6 +1,7 @@
 // The types that readers pass on, the contract that they share and its laws, numbers of fixed width, and charges.
 // Ports `struct ByteReader` of serialize.rs and its plainest methods: place and budget go in by value, as a Cursor, and come back in the answer.
 // No leaf writes to the tape; the field readers of crate fields do, by `keep`.
+ghost use Prim.Native.Nat.{_+_};
 ghost use mathlib.Core.Path.{_≡_};
 ghost use lib.ListN.{set};
 ghost use lib.Ieee.{binary64, ofBits};
@@ -66,7 +67,7 @@ pub enum Text {
 }
 
 // A leaf's refusal, passed up.
-pub fn refused(q: Number) -> Step
+pub fn step_of(q: Number) -> Step
     ensures { λ r. ⌜ r ≡ stepOf q ⌝ }
 {
     match q {
@@ -75,7 +76,7 @@ pub fn refused(q: Number) -> Step
     }
 }
 
-pub fn refused_payload(q: Payload) -> Step
+pub fn payload_step(q: Payload) -> Step
     ensures { λ r. ⌜ r ≡ payloadStep q ⌝ }
 {
     match q {
@@ -84,7 +85,7 @@ pub fn refused_payload(q: Payload) -> Step
     }
 }
 
-pub fn refused_text(q: Text) -> Step
+pub fn text_step(q: Text) -> Step
     ensures { λ r. ⌜ r ≡ textStep q ⌝ }
 {
     match q {
@@ -93,7 +94,7 @@ pub fn refused_text(q: Text) -> Step
     }
 }
 
-pub fn refused_signed(q: Signed) -> Step
+pub fn signed_step(q: Signed) -> Step
     ensures { λ r. ⌜ r ≡ signedStep q ⌝ }
 {
     match q {
@@ -102,7 +103,7 @@ pub fn refused_signed(q: Signed) -> Step
     }
 }
 
-pub fn refused_float(q: Float) -> Step
+pub fn float_step(q: Float) -> Step
     ensures { λ r. ⌜ r ≡ floatStep q ⌝ }
 {
     match q {
@@ -112,7 +113,7 @@ pub fn refused_float(q: Float) -> Step
 }
 
 // The refusal of a leaf's first part, as the leaf's own answer.
-fn not_signed(q: Number) -> Signed
+fn signed_refusal(q: Number) -> Signed
     ensures { λ r. ⌜ signedStep r ≡ stepOf q ⌝ }
 {
     match q {
@@ -121,7 +122,7 @@ fn not_signed(q: Number) -> Signed
     }
 }
 
-fn not_float(q: Number) -> Float
+fn float_refusal(q: Number) -> Float
     ensures { λ r. ⌜ floatStep r ≡ stepOf q ⌝ }
 {
     match q {
@@ -131,7 +132,7 @@ fn not_float(q: Number) -> Float
 }
 
 // A text's answer without its characters.
-pub fn span(q: Text) -> Payload
+pub fn text_span(q: Text) -> Payload
     ensures { λ r. ⌜ r ≡ textSpan q ⌝ }
 {
     match q {
@@ -141,12 +142,30 @@ pub fn span(q: Text) -> Payload
 }
 
 // An answer, with the number that it is for.
-pub fn with(n: u64, r: Step) -> Number
+pub fn number_of(n: u64, r: Step) -> Number
     ensures { λ q. ⌜ q ≡ numberOf n r ⌝ }
 {
     match r {
         Step::Taken(c) => Number::Got(n, c),
         Step::Refused(x) => Number::Not(x),
+    }
+}
+
+// A list that was read: the place of its first entry in the pack, and how many entries it has.
+pub struct ListAt {
+    pub start: usize,
+    pub count: usize,
+}
+
+// The list of n entries whose count stands at the cursor.
+pub fn list_at(s: &[u8], c: Cursor, n: u64) -> ListAt
+    requires { ⌜ ReadyAt (now s) c ⌝ }
+    ensures { λ q. ⌜ q ≡ record { start = c .place + 4; count = n } ⌝ }
+{
+    let place = c.place;
+    ListAt {
+        start: place + 4,
+        count: n as usize,
     }
 }
 
@@ -345,7 +364,7 @@ pub fn read_i64(s: &[u8], c: Cursor) -> Signed
 {
     let q = read_u64(s, c);
     let Number::Got(n, d) = q else {
-        return not_signed(q);
+        return signed_refusal(q);
     };
     Signed::Got(i64_of(n), n, d)
 }
@@ -356,7 +375,7 @@ pub fn read_f64(s: &[u8], c: Cursor) -> Float
 {
     let q = read_u64(s, c);
     let Number::Got(n, d) = q else {
-        return not_float(q);
+        return float_refusal(q);
     };
     Float::Got(f64_of(n), n, d)
 }

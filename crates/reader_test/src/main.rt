@@ -43,14 +43,14 @@ fn packed(s: &[u8]) {
     if MOST < s.len() {
         return;
     }
-    number(leaves::read_source_u32(s, start()));
+    number(number_leaves::read_source_u32(s, start()));
 }
 
 fn value_meta(s: &[u8]) {
     if MOST < s.len() {
         return;
     }
-    number(leaves::read_packed_word(s, start(), numbers::INVALID_PACKED_VALUE_META));
+    number(number_leaves::read_packed_word(s, start(), numbers::INVALID_PACKED_VALUE_META));
 }
 
 // The text stands after its length word.
@@ -59,7 +59,7 @@ fn text(s: &[u8]) {
         return;
     }
     let c = start();
-    match payloads::read_string(s, c.place, c.left, c.at) {
+    match length_leaves::read_string(s, c.place, c.left, c.at) {
         Text::Got(_, _, n, d) => line(true, n as u64, d.place),
         Text::Not(x) => line(false, x.number, x.place),
     }

@@ -4,18 +4,18 @@ use lent_sections::Position;
 use lookup::Found;
 use reader::Step;
 use reader::Text;
-use stored::LOOKUP;
-use stored::SECTION_CALL;
-use stored::TEXT;
-use stored::Tally;
-use stored::WHOLE;
+use stored_answers::LOOKUP;
+use stored_answers::SECTION_CALL;
+use stored_answers::TEXT;
+use stored_answers::Tally;
+use stored_answers::WHOLE;
 use vob24::Section;
 
 fn whole(t: Tally, h: &[u8], pack: &[u8], words: &[u8], tape: &mut [u32]) -> Tally {
-    stored::mark(tape);
-    let answer = serialize::read(pack, stored::long(h, stored::BUDGET), tape);
-    let t = stored::hold_answer(t, h, answer);
-    stored::hold_tape(t, h, words, tape)
+    stored_answers::fill(tape);
+    let answer = pack::read(pack, stored_answers::long(h, stored_answers::BUDGET), tape);
+    let t = stored_answers::hold_answer(t, h, answer);
+    stored_answers::hold_tape(t, h, words, tape)
 }
 
 // The section that a record names by its number.
@@ -44,25 +44,25 @@ fn section_of(number: u64, functions: u64) -> Section {
 // The section that a record is about.
 fn section_in(h: &[u8]) -> Section {
     section_of(
-        stored::number(h, stored::SECTION),
-        stored::long(h, stored::FUNCTIONS),
+        stored_answers::number(h, stored_answers::SECTION),
+        stored_answers::long(h, stored_answers::FUNCTIONS),
     )
 }
 
 fn section(t: Tally, h: &[u8], pack: &[u8], words: &[u8], tape: &mut [u32]) -> Tally {
-    let place = stored::long(h, stored::PLACE) as usize;
-    let budget = stored::long(h, stored::BUDGET);
-    stored::mark(tape);
+    let place = stored_answers::long(h, stored_answers::PLACE) as usize;
+    let budget = stored_answers::long(h, stored_answers::BUDGET);
+    stored_answers::fill(tape);
     let answer = sections::read_section(pack, section_in(h), place, budget, tape);
-    let t = stored::hold_answer(t, h, answer);
-    stored::hold_tape(t, h, words, tape)
+    let t = stored_answers::hold_answer(t, h, answer);
+    stored_answers::hold_tape(t, h, words, tape)
 }
 
 // The same by the call that is lent its position, through the function by value over it.
 fn lent_section(t: Tally, h: &[u8], pack: &[u8], words: &[u8], tape: &mut [u32]) -> Tally {
-    let place = stored::long(h, stored::PLACE) as usize;
-    let budget = stored::long(h, stored::BUDGET);
-    stored::mark(tape);
+    let place = stored_answers::long(h, stored_answers::PLACE) as usize;
+    let budget = stored_answers::long(h, stored_answers::BUDGET);
+    stored_answers::fill(tape);
     let lent = lent_sections::read_section_at(
         pack,
         section_in(h),
@@ -71,31 +71,31 @@ fn lent_section(t: Tally, h: &[u8], pack: &[u8], words: &[u8], tape: &mut [u32])
     );
     let answer = lent.answer;
     let next = lent.next;
-    let t = stored::hold_answer(t, h, answer);
-    let t = stored::hold_position(t, h, next.place, next.budget);
-    stored::hold_tape(t, h, words, tape)
+    let t = stored_answers::hold_answer(t, h, answer);
+    let t = stored_answers::hold_position(t, h, next.place, next.budget);
+    stored_answers::hold_tape(t, h, words, tape)
 }
 
 fn lookup(t: Tally, h: &[u8], pack: &[u8], name: &[u8]) -> Tally {
-    let found = serialize::locate_artifact(pack, name);
+    let found = pack::locate_artifact(pack, name);
     let t = match found {
-        Found::At(start, length) => stored::hold_found(t, h, start, length),
-        Found::Not(r) => stored::hold_refusal(t, h, r),
+        Found::At(start, length) => stored_answers::hold_found(t, h, start, length),
+        Found::Not(r) => stored_answers::hold_refusal(t, h, r),
     };
-    stored::hold_payload(t, h, pack, serialize::find_artifact(pack, name))
+    stored_answers::hold_payload(t, h, pack, pack::find_artifact(pack, name))
 }
 
 // A text through the leaf, which alone says how many characters there are. The leaf requires what a call asks first.
 fn text(t: Tally, h: &[u8], pack: &[u8]) -> Tally {
-    let place = stored::long(h, stored::PLACE) as usize;
-    let opened = calls::opening(pack, place, stored::long(h, stored::BUDGET));
+    let place = stored_answers::long(h, stored_answers::PLACE) as usize;
+    let opened = calls::opening(pack, place, stored_answers::long(h, stored_answers::BUDGET));
     match opened {
-        Step::Refused(r) => stored::hold_refusal(t, h, r),
-        Step::Taken(c) => match payloads::read_string(pack, c.place, c.left, c.at) {
+        Step::Refused(r) => stored_answers::hold_refusal(t, h, r),
+        Step::Taken(c) => match length_leaves::read_string(pack, c.place, c.left, c.at) {
             Text::Got(start, length, characters, d) => {
-                stored::hold_text(t, h, start, length, characters, d)
+                stored_answers::hold_text(t, h, start, length, characters, d)
             }
-            Text::Not(r) => stored::hold_refusal(t, h, r),
+            Text::Not(r) => stored_answers::hold_refusal(t, h, r),
         },
     }
 }
@@ -108,7 +108,7 @@ fn replay_kind(
     words: &[u8],
     tape: &mut [u32],
 ) -> Tally {
-    let kind = stored::number(h, stored::KIND);
+    let kind = stored_answers::number(h, stored_answers::KIND);
     if kind == LOOKUP {
         return lookup(t, h, pack, name);
     }
@@ -119,7 +119,7 @@ fn replay_kind(
     if kind == TEXT {
         return text(t, h, pack);
     }
-    let t = stored::hold(t, b"kind", kind, WHOLE);
+    let t = stored_answers::hold(t, b"kind", kind, WHOLE);
     whole(t, h, pack, words, tape)
 }
 
@@ -131,18 +131,18 @@ fn replay_record(
     words: &[u8],
     tape: &mut [u32],
 ) -> Tally {
-    stored::swap_edit(h, pack);
-    let n = stored::room(h, tape);
+    stored_answers::swap_edit(h, pack);
+    let n = stored_answers::room(h, tape);
     let t = replay_kind(
         t,
         h,
-        stored::pack_of(h, pack),
-        stored::name_of(h, name),
+        stored_answers::pack_of(h, pack),
+        stored_answers::name_of(h, name),
         words,
         &mut tape[0..n],
     );
-    stored::swap_edit(h, pack);
-    stored::one_more(t)
+    stored_answers::swap_edit(h, pack);
+    stored_answers::one_more(t)
 }
 
 fn replay_list(
@@ -154,11 +154,11 @@ fn replay_list(
     words: &mut [u8],
     tape: &mut [u32],
 ) {
-    let mut t = stored::first_tally();
+    let mut t = stored_answers::first_tally();
     // A proved loop has to end, and nothing says that a list does.
     let mut turns = u64::MAX;
     while turns > 0 {
-        if !stored::next_record(fd, list, t, h, pack, name, words, tape) {
+        if !stored_answers::next_record(fd, list, t, h, pack, name, words, tape) {
             return;
         }
         t = replay_record(t, h, pack, name, words, tape);

@@ -12,9 +12,9 @@ use Rattle.reader.specs.declared.Number.{Number}
 use Rattle.reader.specs.declared.Number.the-variants.{Got}
 use Rattle.reader.proofs.Laws.{takes-ends, then-takes, then-refuses, got-of}
 use Rattle.reader.proofs.Asks.{asks-reads, followThen}
-use Rattle.items.specs.Contract.{ListBehind, ListAsked}
-use Rattle.items.proofs.Following.{list-here, list-follows}
-use Rattle.records.proofs.Numbering.{lostNumber}
+use Rattle.in_place.specs.Contract.{ListBehind, ListAsked}
+use Rattle.in_place.proofs.Following.{list-here, list-follows}
+use Rattle.reader.proofs.Numbering.{lostNumber}
 
 module _ {ρ : Rule} {z : ℕ} {s : List ℕ} {c d : Cursor} {q : Number} {n : ℕ} {t t₁ : List ℕ} (e : q ≡ Got n d) where
   list-reader : (f : Format) → NumberOf (listOf ρ z f) counted s c t q t₁ → Reader (listOf ρ z f) s (Taken c) t (Taken d) t₁

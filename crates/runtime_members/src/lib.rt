@@ -5,9 +5,9 @@ ghost use Rattle.vob24.specs.Settings.{settingsOf};
 ghost use Rattle.format.specs.Format.{counted};
 ghost use Rattle.reader.specs.Contract.{Ready, ReadyAt, Reader, NumberOf};
 ghost use Rattle.reader.specs.declared.Step.the-variants.{Taken};
-ghost use Rattle.second_pass.specs.Granted.{Granted};
+ghost use Rattle.reader.specs.Accepted.{Accepted};
 ghost use Rattle.runtime_members.specs.Formats.{fieldFormat, fieldList, newFields, methodFormat, methodList, newMethods, newCount};
-use items::Item;
+use in_place::Item;
 use reader::Cursor;
 use reader::Number;
 use reader::Step;
@@ -41,11 +41,11 @@ fn number_fields(s: &[u8], set: &Settings, c: Cursor, tape: &mut [u32]) -> Numbe
     while 0 < k {
         here = field(s, here, tape);
         let Step::Taken(_) = here else {
-            return reader::with(n, here);
+            return reader::number_of(n, here);
         };
         k -= 1;
     }
-    reader::with(n, here)
+    reader::number_of(n, here)
 }
 
 // A struct's fields, each with an identity of its own; hands out how many they are.
@@ -56,16 +56,16 @@ pub fn number_new_fields(
     again: bool,
     tape: &mut [u32],
 ) -> Number
-    requires { ⌜ (ReadyAt (now s) c) × (Granted again (newFields (settingsOf (now set))) (now s) (Taken c)) ⌝ }
+    requires { ⌜ (ReadyAt (now s) c) × (Accepted again (newFields (settingsOf (now set))) (now s) (Taken c)) ⌝ }
     ensures { λ q. ⌜ NumberOf (newFields (settingsOf (now (set .entry)))) newCount (now (s .entry)) c (now (tape .entry)) q (now (tape .exit)) ⌝ }
 {
     let q = number_fields(s, set, c, tape);
     let Number::Got(n, d) = q else {
         return q;
     };
-    reader::with(
+    reader::number_of(
         n,
-        names::field_set(s, set, Step::Taken(c), Step::Taken(d), again),
+        unique_names::field_set(s, set, Step::Taken(c), Step::Taken(d), again),
     )
 }
 
@@ -93,11 +93,11 @@ fn number_methods(s: &[u8], set: &Settings, c: Cursor, tape: &mut [u32]) -> Numb
     while 0 < k {
         here = method(s, here, tape);
         let Step::Taken(_) = here else {
-            return reader::with(n, here);
+            return reader::number_of(n, here);
         };
         k -= 1;
     }
-    reader::with(n, here)
+    reader::number_of(n, here)
 }
 
 // An interface's methods, each with a name of its own; hands out how many they are.
@@ -108,16 +108,16 @@ pub fn number_new_methods(
     again: bool,
     tape: &mut [u32],
 ) -> Number
-    requires { ⌜ (ReadyAt (now s) c) × (Granted again (newMethods (settingsOf (now set))) (now s) (Taken c)) ⌝ }
+    requires { ⌜ (ReadyAt (now s) c) × (Accepted again (newMethods (settingsOf (now set))) (now s) (Taken c)) ⌝ }
     ensures { λ q. ⌜ NumberOf (newMethods (settingsOf (now (set .entry)))) newCount (now (s .entry)) c (now (tape .entry)) q (now (tape .exit)) ⌝ }
 {
     let q = number_methods(s, set, c, tape);
     let Number::Got(n, d) = q else {
         return q;
     };
-    reader::with(
+    reader::number_of(
         n,
-        names::method_set(
+        unique_names::method_set(
             s,
             set,
             Item::RuntimeMethod,

@@ -17,9 +17,9 @@ use Rattle.reader.specs.declared.Step.the-variants.{Taken, Refused}
 use Rattle.reader.specs.declared.Number.{Number}
 use Rattle.reader.specs.declared.Number.the-variants.{Got}
 use Rattle.reader.proofs.Leaves.{got-up, not-up}
-use Rattle.records.specs.Recorded.{noItems}
-use Rattle.records.specs.declared.Items.{Items}
-use Rattle.records.proofs.Recording.{list-place, above}
+use Rattle.reader.specs.Recorded.{noList}
+use Rattle.reader.specs.declared.ListAt.{ListAt}
+use Rattle.reader.proofs.Recording.{list-place, above}
 use Rattle.runtime_type.specs.declared.OptionalId.the-variants.{Absent, Id}
 use Rattle.runtime_type.specs.declared.RuntimeType.{RuntimeType}
 use Rattle.runtime_type.specs.declared.RuntimeTypeRecord.{RuntimeTypeRecord}
@@ -33,10 +33,10 @@ rttids-place set e h = omega (arith, list-place word (packedWord invalidPackedVa
 
 -- ---- the records of lists
 
-pub listed : {k : RuntimeType} {i : Items} {p q n : ℕ} → i ≡ record { start = p + 4; count = n } → p ≡ q → _≡_ {A = RuntimeTypeRecord} (record { kind = k; first = i; second = noItems }) (listedAt k q n)
+pub listed : {k : RuntimeType} {i : ListAt} {p q n : ℕ} → i ≡ record { start = p + 4; count = n } → p ≡ q → _≡_ {A = RuntimeTypeRecord} (record { kind = k; first = i; second = noList }) (listedAt k q n)
 listed e h = rw (e, h)
 
-pub listedTwo : {k : RuntimeType} {i j : Items} {p q p′ m n : ℕ} → i ≡ record { start = p + 4; count = m } → j ≡ record { start = q + 4; count = n } → p ≡ p′ → q ≡ pastRttids p m → _≡_ {A = RuntimeTypeRecord} (record { kind = k; first = i; second = j }) (twoOf k p′ m n)
+pub listedTwo : {k : RuntimeType} {i j : ListAt} {p q p′ m n : ℕ} → i ≡ record { start = p + 4; count = m } → j ≡ record { start = q + 4; count = n } → p ≡ p′ → q ≡ pastRttids p m → _≡_ {A = RuntimeTypeRecord} (record { kind = k; first = i; second = j }) (twoOf k p′ m n)
 listedTwo e i h y = rw (e, i, y, h)
 
 -- ---- a record by its tag

@@ -5,7 +5,7 @@ use Rattle.format.specs.Format.{Value, Format}
 use Rattle.reader.specs.declared.Cursor.{Cursor}
 use Rattle.reader.specs.declared.Step.{Step}
 use Rattle.reader.specs.declared.Step.the-variants.{Taken, Refused}
-use Rattle.records.specs.Recorded.{Recorded}
+use Rattle.reader.specs.Recorded.{Recorded}
 use Rattle.runtime_type.specs.declared.RuntimeType.the-variants as kind
 use Rattle.runtime_type.specs.declared.RuntimeTypeRecord.{RuntimeTypeRecord}
 use Rattle.runtime_type.specs.declared.RuntimeTypeRead.{RuntimeTypeRead}

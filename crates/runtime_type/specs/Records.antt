@@ -8,7 +8,7 @@ use Rattle.vob24.specs.Settings as of
 use Rattle.vob24.specs.Settings.{Settings}
 use Rattle.vob24.specs.Leaves.{u32, u64, optionalId, bool, direction, valueRttid}
 use Rattle.vob24.specs.Grammar as vob
-use Rattle.records.specs.Recorded.{noItems}
+use Rattle.reader.specs.Recorded.{noList}
 use Rattle.runtime_type.specs.declared.OptionalId.{OptionalId}
 use Rattle.runtime_type.specs.declared.OptionalId.the-variants.{Absent, Id}
 use Rattle.runtime_type.specs.declared.RuntimeType.{RuntimeType}
@@ -55,11 +55,11 @@ optionalOf zero = Absent
 optionalOf (suc n) = Id n
 
 abbrev pub bareOf : RuntimeType → RuntimeTypeRecord
-bareOf k = record { kind = k; first = noItems; second = noItems }
+bareOf k = record { kind = k; first = noList; second = noList }
 
 -- one list of n entries, whose count stands at p
 abbrev pub listedAt : RuntimeType → ℕ → ℕ → RuntimeTypeRecord
-listedAt k p n = record { kind = k; first = record { start = p + 4; count = n }; second = noItems }
+listedAt k p n = record { kind = k; first = record { start = p + 4; count = n }; second = noList }
 
 abbrev pub oneOf : RuntimeType → ℕ → Value → RuntimeTypeRecord
 oneOf k p v = listedAt k p (counted v)

@@ -8,15 +8,15 @@ ghost use Rattle.format.specs.Format.{counted};
 ghost use Rattle.vob24.specs.Leaves.{valueKind, valueRttid};
 ghost use Rattle.reader.specs.Contract.{stepOf, Ready, ReadyAt, Reader, NumberOf};
 ghost use Rattle.reader.specs.declared.Step.the-variants.{Taken};
-ghost use Rattle.second_pass.specs.Granted.{Granted};
+ghost use Rattle.reader.specs.Accepted.{Accepted};
 ghost use Rattle.runtime_type.specs.Records.{typeFormat, typeList, rttidList, namedFormat, arrayFormat, mapFormat, directedFormat, funcFormat, structFormat, interfaceFormat, optionalOf, bareOf, basicOf, namedOf, pointerOf, arrayOf, sliceOf, mapOf, chanOf, funcOf, structOf, interfaceOf, tupleOf, portOf, runtimeTypeOf};
 ghost use Rattle.runtime_type.specs.Contract.{typeStep, TypeReader};
 use reader::Cursor;
+use reader::ListAt;
 use reader::Number;
 use reader::Refusal;
 use reader::Step;
 use reader::sizes;
-use records::Items;
 use vob24::Settings;
 
 // An id that may be absent.
@@ -46,8 +46,8 @@ pub enum RuntimeType {
 // a tuple's types. A list that it has not is empty.
 pub struct RuntimeTypeRecord {
     pub kind: RuntimeType,
-    pub first: Items,
-    pub second: Items,
+    pub first: ListAt,
+    pub second: ListAt,
 }
 
 pub enum RuntimeTypeRead {
@@ -69,11 +69,11 @@ fn number_rttids(s: &[u8], set: &Settings, c: Cursor, tape: &mut [u32]) -> Numbe
     while 0 < k {
         here = fields::field_value_rttid(s, here, tape);
         let Step::Taken(_) = here else {
-            return reader::with(n, here);
+            return reader::number_of(n, here);
         };
         k -= 1;
     }
-    reader::with(n, here)
+    reader::number_of(n, here)
 }
 
 // ---- the records' parts
@@ -94,13 +94,13 @@ fn bare(kind: RuntimeType) -> RuntimeTypeRecord
 {
     RuntimeTypeRecord {
         kind,
-        first: Items { start: 0, count: 0 },
-        second: Items { start: 0, count: 0 },
+        first: ListAt { start: 0, count: 0 },
+        second: ListAt { start: 0, count: 0 },
     }
 }
 
 // A part that was not got: its refusal.
-fn not_type(q: Number) -> RuntimeTypeRead
+fn type_refusal(q: Number) -> RuntimeTypeRead
     ensures { λ r. ⌜ typeStep r ≡ stepOf q ⌝ }
 {
     match q {
@@ -117,7 +117,7 @@ fn basic(s: &[u8], c: Cursor, tape: &mut [u32]) -> RuntimeTypeRead
 {
     let q = fields::number_value_kind(s, c, tape);
     let Number::Got(kind, d) = q else {
-        return not_type(q);
+        return type_refusal(q);
     };
     RuntimeTypeRead::Got(bare(RuntimeType::Basic(kind as u8)), d)
 }
@@ -128,11 +128,11 @@ fn named(s: &[u8], c: Cursor, tape: &mut [u32]) -> RuntimeTypeRead
 {
     let q1 = fields::number_u32(s, c, tape);
     let Number::Got(id, d) = q1 else {
-        return not_type(q1);
+        return type_refusal(q1);
     };
     let q2 = fields::number_optional_id(s, d, tape);
     let Number::Got(raw, e) = q2 else {
-        return not_type(q2);
+        return type_refusal(q2);
     };
     let kind = RuntimeType::Named {
         id: id as u32,
@@ -147,7 +147,7 @@ fn pointer(s: &[u8], c: Cursor, tape: &mut [u32]) -> RuntimeTypeRead
 {
     let q = fields::number_value_rttid(s, c, tape);
     let Number::Got(elem, d) = q else {
-        return not_type(q);
+        return type_refusal(q);
     };
     RuntimeTypeRead::Got(bare(RuntimeType::Pointer(elem as u32)), d)
 }
@@ -158,11 +158,11 @@ fn array(s: &[u8], c: Cursor, tape: &mut [u32]) -> RuntimeTypeRead
 {
     let q1 = fields::number_u64(s, c, tape);
     let Number::Got(len, d) = q1 else {
-        return not_type(q1);
+        return type_refusal(q1);
     };
     let q2 = fields::number_value_rttid(s, d, tape);
     let Number::Got(elem, e) = q2 else {
-        return not_type(q2);
+        return type_refusal(q2);
     };
     let kind = RuntimeType::Array {
         len,
@@ -177,7 +177,7 @@ fn slice(s: &[u8], c: Cursor, tape: &mut [u32]) -> RuntimeTypeRead
 {
     let q = fields::number_value_rttid(s, c, tape);
     let Number::Got(elem, d) = q else {
-        return not_type(q);
+        return type_refusal(q);
     };
     RuntimeTypeRead::Got(bare(RuntimeType::Slice(elem as u32)), d)
 }
@@ -188,11 +188,11 @@ fn map(s: &[u8], c: Cursor, tape: &mut [u32]) -> RuntimeTypeRead
 {
     let q1 = fields::number_value_rttid(s, c, tape);
     let Number::Got(key, d) = q1 else {
-        return not_type(q1);
+        return type_refusal(q1);
     };
     let q2 = fields::number_value_rttid(s, d, tape);
     let Number::Got(val, e) = q2 else {
-        return not_type(q2);
+        return type_refusal(q2);
     };
     let kind = RuntimeType::Map {
         key: key as u32,
@@ -207,11 +207,11 @@ fn chan(s: &[u8], c: Cursor, tape: &mut [u32]) -> RuntimeTypeRead
 {
     let q1 = fields::number_direction(s, c, tape);
     let Number::Got(dir, d) = q1 else {
-        return not_type(q1);
+        return type_refusal(q1);
     };
     let q2 = fields::number_value_rttid(s, d, tape);
     let Number::Got(elem, e) = q2 else {
-        return not_type(q2);
+        return type_refusal(q2);
     };
     let kind = RuntimeType::Chan {
         dir: dir as u8,
@@ -227,23 +227,23 @@ fn func(s: &[u8], set: &Settings, c: Cursor, tape: &mut [u32]) -> RuntimeTypeRea
 {
     let q1 = fields::number_bool(s, c, tape);
     let Number::Got(variadic, d) = q1 else {
-        return not_type(q1);
+        return type_refusal(q1);
     };
     let q2 = number_rttids(s, set, d, tape);
     let Number::Got(params, e) = q2 else {
-        return not_type(q2);
+        return type_refusal(q2);
     };
     let q3 = number_rttids(s, set, e, tape);
     let Number::Got(results, f) = q3 else {
-        return not_type(q3);
+        return type_refusal(q3);
     };
     RuntimeTypeRead::Got(
         RuntimeTypeRecord {
             kind: RuntimeType::Func {
                 variadic: variadic == 1,
             },
-            first: records::items_at(s, d, params),
-            second: records::items_at(s, e, results),
+            first: reader::list_at(s, d, params),
+            second: reader::list_at(s, e, results),
         },
         f,
     )
@@ -257,22 +257,22 @@ fn struct_type(
     again: bool,
     tape: &mut [u32],
 ) -> RuntimeTypeRead
-    requires { ⌜ (ReadyAt (now s) c) × (Granted again (structFormat (settingsOf (now set))) (now s) (Taken c)) ⌝ }
+    requires { ⌜ (ReadyAt (now s) c) × (Accepted again (structFormat (settingsOf (now set))) (now s) (Taken c)) ⌝ }
     ensures { λ q. ⌜ TypeReader (structFormat (settingsOf (now (set .entry)))) structOf (now (s .entry)) c (now (tape .entry)) q (now (tape .exit)) ⌝ }
 {
     let q1 = fields::number_u32(s, c, tape);
     let Number::Got(id, d) = q1 else {
-        return not_type(q1);
+        return type_refusal(q1);
     };
     let q2 = runtime_members::number_new_fields(s, set, d, again, tape);
     let Number::Got(n, e) = q2 else {
-        return not_type(q2);
+        return type_refusal(q2);
     };
     RuntimeTypeRead::Got(
         RuntimeTypeRecord {
             kind: RuntimeType::Struct { meta_id: id as u32 },
-            first: records::items_at(s, d, n),
-            second: Items { start: 0, count: 0 },
+            first: reader::list_at(s, d, n),
+            second: ListAt { start: 0, count: 0 },
         },
         e,
     )
@@ -280,22 +280,22 @@ fn struct_type(
 
 // meta_id, methods
 fn interface(s: &[u8], set: &Settings, c: Cursor, again: bool, tape: &mut [u32]) -> RuntimeTypeRead
-    requires { ⌜ (ReadyAt (now s) c) × (Granted again (interfaceFormat (settingsOf (now set))) (now s) (Taken c)) ⌝ }
+    requires { ⌜ (ReadyAt (now s) c) × (Accepted again (interfaceFormat (settingsOf (now set))) (now s) (Taken c)) ⌝ }
     ensures { λ q. ⌜ TypeReader (interfaceFormat (settingsOf (now (set .entry)))) interfaceOf (now (s .entry)) c (now (tape .entry)) q (now (tape .exit)) ⌝ }
 {
     let q1 = fields::number_u32(s, c, tape);
     let Number::Got(id, d) = q1 else {
-        return not_type(q1);
+        return type_refusal(q1);
     };
     let q2 = runtime_members::number_new_methods(s, set, d, again, tape);
     let Number::Got(n, e) = q2 else {
-        return not_type(q2);
+        return type_refusal(q2);
     };
     RuntimeTypeRead::Got(
         RuntimeTypeRecord {
             kind: RuntimeType::Interface { meta_id: id as u32 },
-            first: records::items_at(s, d, n),
-            second: Items { start: 0, count: 0 },
+            first: reader::list_at(s, d, n),
+            second: ListAt { start: 0, count: 0 },
         },
         e,
     )
@@ -307,13 +307,13 @@ fn tuple(s: &[u8], set: &Settings, c: Cursor, tape: &mut [u32]) -> RuntimeTypeRe
 {
     let q = number_rttids(s, set, c, tape);
     let Number::Got(n, d) = q else {
-        return not_type(q);
+        return type_refusal(q);
     };
     RuntimeTypeRead::Got(
         RuntimeTypeRecord {
             kind: RuntimeType::Tuple,
-            first: records::items_at(s, c, n),
-            second: Items { start: 0, count: 0 },
+            first: reader::list_at(s, c, n),
+            second: ListAt { start: 0, count: 0 },
         },
         d,
     )
@@ -325,11 +325,11 @@ fn port(s: &[u8], c: Cursor, tape: &mut [u32]) -> RuntimeTypeRead
 {
     let q1 = fields::number_direction(s, c, tape);
     let Number::Got(dir, d) = q1 else {
-        return not_type(q1);
+        return type_refusal(q1);
     };
     let q2 = fields::number_value_rttid(s, d, tape);
     let Number::Got(elem, e) = q2 else {
-        return not_type(q2);
+        return type_refusal(q2);
     };
     let kind = RuntimeType::Port {
         dir: dir as u8,
@@ -348,12 +348,12 @@ pub fn runtime_type(
     again: bool,
     tape: &mut [u32],
 ) -> RuntimeTypeRead
-    requires { ⌜ (ReadyAt (now s) c) × (Granted again (typeFormat (settingsOf (now set))) (now s) (Taken c)) ⌝ }
+    requires { ⌜ (ReadyAt (now s) c) × (Accepted again (typeFormat (settingsOf (now set))) (now s) (Taken c)) ⌝ }
     ensures { λ q. ⌜ TypeReader (typeFormat (settingsOf (now (set .entry)))) runtimeTypeOf (now (s .entry)) c (now (tape .entry)) q (now (tape .exit)) ⌝ }
 {
     let q = fields::number_runtime_tag(s, c, tape);
     let Number::Got(tag, d) = q else {
-        return not_type(q);
+        return type_refusal(q);
     };
     match tag {
         0 => basic(s, d, tape),
@@ -373,7 +373,7 @@ pub fn runtime_type(
 }
 
 // An item's refusal, passed up.
-fn type_refused(q: RuntimeTypeRead) -> Step
+fn type_step(q: RuntimeTypeRead) -> Step
     ensures { λ r. ⌜ r ≡ typeStep q ⌝ }
 {
     match q {
@@ -383,7 +383,7 @@ fn type_refused(q: RuntimeTypeRead) -> Step
 }
 
 pub fn runtime_types(s: &[u8], set: &Settings, r: Step, again: bool, tape: &mut [u32]) -> Step
-    requires { ⌜ (Ready (now s) r) × (Granted again (typeList (settingsOf (now set))) (now s) r) ⌝ }
+    requires { ⌜ (Ready (now s) r) × (Accepted again (typeList (settingsOf (now set))) (now s) r) ⌝ }
     ensures { λ q. ⌜ Reader (typeList (settingsOf (now (set .entry)))) (now (s .entry)) r (now (tape .entry)) q (now (tape .exit)) ⌝ }
 {
     let Step::Taken(c) = r else {
@@ -391,14 +391,14 @@ pub fn runtime_types(s: &[u8], set: &Settings, r: Step, again: bool, tape: &mut 
     };
     let q = fields::number_count(s, set, c, sizes::RUNTIME_TYPE, tape);
     let Number::Got(n, d) = q else {
-        return reader::refused(q);
+        return reader::step_of(q);
     };
     let mut k = n;
     let mut here = d;
     while 0 < k {
         let item = runtime_type(s, set, here, again, tape);
         let RuntimeTypeRead::Got(_, next) = item else {
-            return type_refused(item);
+            return type_step(item);
         };
         here = next;
         k -= 1;

@@ -2,7 +2,7 @@
 // The Rust has no such call; it reads what Module::deserialize reads of the section.
 ghost use Rattle.vob24.specs.Settings.{settings};
 ghost use Rattle.vob24.specs.Sections.{sectionOf, functionsOf};
-ghost use Rattle.calls.specs.Call.{SectionCall};
+ghost use Rattle.calls.specs.Contract.{SectionCall};
 use calls::Answer;
 use vob24::Section;
 

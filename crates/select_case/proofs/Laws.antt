@@ -16,8 +16,8 @@ use Rattle.reader.specs.declared.Number.{Number}
 use Rattle.reader.specs.declared.Number.the-variants.{Got}
 use Rattle.reader.proofs.Leaves.{got-up, not-up}
 use Rattle.reader.proofs.Parts.{tag-most-bare}
-use Rattle.records.specs.Recorded.{Recorded}
-use Rattle.records.proofs.Recording.{variantAt}
+use Rattle.reader.specs.Recorded.{Recorded}
+use Rattle.reader.proofs.Recording.{variantAt}
 use Rattle.select_case.specs.Records.{sendOf, recvOf, selectOf}
 use Rattle.select_case.specs.Contract.{selectStep}
 use Rattle.select_case.specs.declared.SelectCase.{SelectCase}

@@ -32,7 +32,7 @@ pub enum SelectCaseRead {
 }
 
 // A part that was not got: its refusal.
-fn not_select(q: Number) -> SelectCaseRead
+fn select_refusal(q: Number) -> SelectCaseRead
     ensures { λ r. ⌜ selectStep r ≡ stepOf q ⌝ }
 {
     match q {
@@ -55,15 +55,15 @@ fn send(s: &[u8], c: Cursor, tape: &mut [u32]) -> SelectCaseRead
 {
     let q1 = fields::number_u16(s, c, tape);
     let Number::Got(queue, d) = q1 else {
-        return not_select(q1);
+        return select_refusal(q1);
     };
     let q2 = fields::number_u16(s, d, tape);
     let Number::Got(value, e) = q2 else {
-        return not_select(q2);
+        return select_refusal(q2);
     };
     let q3 = fields::number_u16(s, e, tape);
     let Number::Got(slots, f) = q3 else {
-        return not_select(q3);
+        return select_refusal(q3);
     };
     SelectCaseRead::Got(
         SelectCase::Send {
@@ -82,19 +82,19 @@ fn recv(s: &[u8], c: Cursor, tape: &mut [u32]) -> SelectCaseRead
 {
     let q1 = fields::number_u16(s, c, tape);
     let Number::Got(destination, d) = q1 else {
-        return not_select(q1);
+        return select_refusal(q1);
     };
     let q2 = fields::number_u16(s, d, tape);
     let Number::Got(queue, e) = q2 else {
-        return not_select(q2);
+        return select_refusal(q2);
     };
     let q3 = fields::number_u16(s, e, tape);
     let Number::Got(slots, f) = q3 else {
-        return not_select(q3);
+        return select_refusal(q3);
     };
     let q4 = fields::number_bool(s, f, tape);
     let Number::Got(ok, g) = q4 else {
-        return not_select(q4);
+        return select_refusal(q4);
     };
     SelectCaseRead::Got(
         SelectCase::Recv {
@@ -113,7 +113,7 @@ pub fn select_case(s: &[u8], c: Cursor, tape: &mut [u32]) -> SelectCaseRead
 {
     let q = fields::number_select_tag(s, c, tape);
     let Number::Got(tag, d) = q else {
-        return not_select(q);
+        return select_refusal(q);
     };
     if tag == 0 {
         return send(s, d, tape);
@@ -122,7 +122,7 @@ pub fn select_case(s: &[u8], c: Cursor, tape: &mut [u32]) -> SelectCaseRead
 }
 
 // An item's refusal, passed up.
-fn select_refused(q: SelectCaseRead) -> Number
+fn number_refusal(q: SelectCaseRead) -> Number
     ensures { λ r. ⌜ stepOf r ≡ selectStep q ⌝ }
 {
     match q {
@@ -145,7 +145,7 @@ pub fn number_select_cases(s: &[u8], set: &Settings, c: Cursor, tape: &mut [u32]
     while 0 < k {
         let item = select_case(s, here, tape);
         let SelectCaseRead::Got(_, next) = item else {
-            return select_refused(item);
+            return number_refusal(item);
         };
         here = next;
         k -= 1;

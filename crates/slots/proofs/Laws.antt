@@ -17,7 +17,7 @@ use Rattle.reader.proofs.Laws.{turns-start}
 use Rattle.reader.proofs.Paying.{paid-yes}
 use Rattle.reader.proofs.Leaves.{fetched, fetch4, past-ready, counted-paid, count-then}
 use Rattle.reader.proofs.Keeping.{one-count, number-kept}
-use Rattle.records.proofs.Numbering.{numberedItems}
+use Rattle.reader.proofs.Numbering.{numberedItems}
 use Rattle.lists.specs.Runs.{wordsAt, Low, Copied, CopiedLow}
 use Rattle.lists.proofs.Copying.{byte-at}
 use Rattle.lists.proofs.Lows.{copied-start, copied-more}

@@ -24,7 +24,7 @@ fn number_any(s: &[u8], set: &Settings, c: Cursor, tape: &mut [u32]) -> Number
     };
     let r = lists::slot_types(s, d, n, tape);
     let Step::Taken(e) = r else {
-        return reader::with(n, r);
+        return reader::number_of(n, r);
     };
     Number::Got(n, e)
 }
@@ -138,5 +138,5 @@ pub fn slot_types(s: &[u8], set: &Settings, r: Step, tape: &mut [u32]) -> Step
     let pack = s;
     let start = c;
     let any = number_any(pack, set, start, tape);
-    reader::refused(any)
+    reader::step_of(any)
 }

@@ -2,7 +2,7 @@
 // Ports what Module::deserialize of serialize.rs reads into StructMeta and FieldMeta of bytecode.rs.
 ghost use Rattle.vob24.specs.Settings.{settingsOf};
 ghost use Rattle.reader.specs.Contract.{Ready, Reader};
-ghost use Rattle.second_pass.specs.Granted.{Granted};
+ghost use Rattle.reader.specs.Accepted.{Accepted};
 ghost use Rattle.structs.specs.Structs.{fieldFormat, fieldList, structFormat, structList};
 use reader::Number;
 use reader::Step;
@@ -30,7 +30,7 @@ pub fn struct_fields(s: &[u8], set: &Settings, r: Step, tape: &mut [u32]) -> Ste
     };
     let q = fields::number_count(s, set, c, sizes::FIELD_META, tape);
     let Number::Got(n, d) = q else {
-        return reader::refused(q);
+        return reader::step_of(q);
     };
     let mut k = n;
     let mut here = Step::Taken(d);
@@ -46,16 +46,16 @@ pub fn struct_fields(s: &[u8], set: &Settings, r: Step, tape: &mut [u32]) -> Ste
 
 // The field index is built after the whole list, from where the list stands.
 pub fn structure(s: &[u8], set: &Settings, r: Step, again: bool, tape: &mut [u32]) -> Step
-    requires { ⌜ (Ready (now s) r) × (Granted again (structFormat (settingsOf (now set))) (now s) r) ⌝ }
+    requires { ⌜ (Ready (now s) r) × (Accepted again (structFormat (settingsOf (now set))) (now s) r) ⌝ }
     ensures { λ q. ⌜ Reader (structFormat (settingsOf (now (set .entry)))) (now (s .entry)) r (now (tape .entry)) q (now (tape .exit)) ⌝ }
 {
     let slot_types = slots::slot_types(s, set, r, tape);
     let fields = struct_fields(s, set, slot_types, tape);
-    names::field_index(s, set, slot_types, fields, again)
+    unique_names::field_index(s, set, slot_types, fields, again)
 }
 
 pub fn structs(s: &[u8], set: &Settings, r: Step, again: bool, tape: &mut [u32]) -> Step
-    requires { ⌜ (Ready (now s) r) × (Granted again (structList (settingsOf (now set))) (now s) r) ⌝ }
+    requires { ⌜ (Ready (now s) r) × (Accepted again (structList (settingsOf (now set))) (now s) r) ⌝ }
     ensures { λ q. ⌜ Reader (structList (settingsOf (now (set .entry)))) (now (s .entry)) r (now (tape .entry)) q (now (tape .exit)) ⌝ }
 {
     let Step::Taken(c) = r else {
@@ -63,7 +63,7 @@ pub fn structs(s: &[u8], set: &Settings, r: Step, again: bool, tape: &mut [u32])
     };
     let q = fields::number_count(s, set, c, sizes::STRUCT_META, tape);
     let Number::Got(n, d) = q else {
-        return reader::refused(q);
+        return reader::step_of(q);
     };
     let mut k = n;
     let mut here = Step::Taken(d);

@@ -18,9 +18,9 @@ use Rattle.reader.specs.declared.Cursor.{Cursor}
 use Rattle.reader.specs.declared.Step.{Step}
 use Rattle.reader.specs.declared.Step.the-variants.{Taken, Refused}
 use Rattle.reader.proofs.Asks.{asks-then, asks-not, asks-none, asks-deny}
-use Rattle.items.specs.Walk.{Stands, valueAt, nextAt, itemsAt, items-length, parts}
-use Rattle.items.specs.Contract.{over, WordIs, Placed, Past}
-use Rattle.items.proofs.Places.{number-stands}
+use Rattle.in_place.specs.Walk.{Stands, valueAt, nextAt, itemsAt, items-length, parts}
+use Rattle.in_place.specs.Contract.{over, WordIs, Placed, Past}
+use Rattle.in_place.proofs.Places.{number-stands}
 use Rattle.transfers.specs.Words.{transferAsks, transferOver}
 
 -- ---- a packed word

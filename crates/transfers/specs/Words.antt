@@ -6,7 +6,7 @@ use Rattle.format.specs.Format.{Value, Ask}
 use Rattle.vob24.specs.Leaves.{packedOk}
 use Rattle.vob24.specs.Questions.{refuseUnless, functionWrong}
 use Rattle.vob24.specs.Grammar.{transferred, transfer}
-use Rattle.items.specs.Contract.{Placed}
+use Rattle.in_place.specs.Contract.{Placed}
 
 -- 20: the words meta and rttid of the entry numbered i; c is the context of the meta word
 unfoldable pub transferAsks : ℕ → ℕ → Value → List Ask

@@ -7,8 +7,8 @@ ghost use Rattle.vob24.specs.Leaves.{packedOk};
 ghost use Rattle.vob24.specs.Questions.{functionWrong, transferWords};
 ghost use Rattle.vob24.specs.Grammar.{transfer as transferFormat, transferred};
 ghost use Rattle.reader.specs.Contract.{refusal, Asks};
-ghost use Rattle.items.specs.Walk.{valueAt, itemsAt};
-ghost use Rattle.items.specs.Contract.{over, Items, ListBehind, ListAsked};
+ghost use Rattle.in_place.specs.Walk.{valueAt, itemsAt};
+ghost use Rattle.in_place.specs.Contract.{over, Items, ListBehind, ListAsked};
 ghost use Rattle.transfers.specs.Words.{transferAsks, transferOver, TransferAt};
 use reader::Cursor;
 use reader::Refusal;
@@ -43,9 +43,9 @@ fn transfer(s: &[u8], context: u64, i: usize, p: usize, c: Cursor) -> Step
     requires { ⌜ TransferAt (now s) context p ⌝ }
     ensures { λ q. ⌜ Asks (transferAsks context i (valueAt transferFormat (now (s .entry)) p)) c q ⌝ }
 {
-    let meta = items::word_at(s, p);
+    let meta = in_place::word_at(s, p);
     if packed_ok(meta) {
-        let rttid = items::word_at(s, p + 4);
+        let rttid = in_place::word_at(s, p + 4);
         if packed_ok(rttid) {
             return Step::Taken(c);
         }
@@ -85,6 +85,6 @@ pub fn transfer_words(s: &[u8], context: u64, r: Step, r1: Step) -> Step
         return r1;
     };
     let place = c.place;
-    let n = items::word_at(s, place);
+    let n = in_place::word_at(s, place);
     transfers(s, context, place + 4, n, d)
 }

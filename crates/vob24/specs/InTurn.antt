@@ -11,15 +11,15 @@ use Rattle.format.specs.Trace.{Wrong, wrong, Trace, end, guard, pick, Settled, 
 use Rattle.format.specs.Format.{Value, pair, mark, Format, leaf, seq, _▸_, counted}
 use Rattle.format.specs.Reading.{trace}
 use Rattle.format.specs.Record.{wordsLeaf, words}
-use Rattle.format.specs.Settling.{thenS, settle-taken}
-use Rattle.format.specs.Ending.{leaf-ends, trace-within, slim, settle-seq}
-use Rattle.format.specs.Charging.{chargesLeaf, charges, trace-charges}
+use Rattle.format.specs.SettleTheorems.{thenS, settle-taken}
+use Rattle.format.specs.TraceTheorems.{leaf-ends, trace-within, slim, settle-seq}
+use Rattle.format.specs.ChargeSums.{chargesLeaf, charges, trace-charges}
 use Rattle.vob24.specs.Refusals
 use Rattle.vob24.specs.Settings.{Settings, maxPackBytes}
 use Rattle.vob24.specs.Grammar.{Section, name, structs, interfaces, namedTypes, itabs, runtimeTypes, wellKnown, constants, globals, functions, externs, entry, islandInit, artifacts, files, functionLocations, inlineSources, section, afterFunctions, sections, magic, version, pack}
 use Rattle.vob24.specs.Cost.{allSections}
 use Rattle.vob24.specs.Calls.{Answer, Taken, Refused, Outcome, written, closing, readOutcome, sectionOutcome, Position, LentOutcome, advancing, lentOutcome}
-use Rattle.vob24.specs.Calling.{taken-when}
+use Rattle.vob24.specs.CallTheorems.{taken-when}
 use Rattle.vob24.specs.Theorems.{whole-settled, section-alone}
 
 -- The number of functions that the sections after this one go by, from this one's words: a list opens with its count.

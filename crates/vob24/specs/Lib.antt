@@ -20,8 +20,8 @@ pub mod Accessors
 pub mod PackCost
 pub mod PackLayout
 pub mod PackBound
-pub mod Calling
+pub mod CallTheorems
 pub mod Theorems
-pub mod Lookup
+pub mod LookupTheorems
 pub mod InTurn
-pub mod Numbered
+pub mod RefusalNumbers

@@ -11,10 +11,10 @@ use Rattle.format.specs.Trace.{Wrong, pick, sum, total}
 use Rattle.format.specs.Format.{Value, number, content, first, second, Rule, Width, Ask, fixed, mark, packed, string, payload, count, ask, Format, empty, leaf, seq, _▸_, chain, times, entries, counted}
 use Rattle.format.specs.Reading.{trace}
 use Rattle.format.specs.Layout.{digits, Bytes, bytesLeaf, bytes, Valid}
-use Rattle.format.specs.Laying.{length-digits}
-use Rattle.format.specs.Charging.{chargesAsk}
-use Rattle.format.specs.Closing.{AtLeast, least-fore, least-packed, one-fixed, one-string, one-count}
-use Rattle.format.specs.Bounding.{Rated, rated-up, rated-seq, rated-plain, rated-empty, rated-fixed, rated-mark, rated-packed, rated-string, rated-payload, rated-ask, rated-list, rated-count, rated-few, entries-under, counted-under}
+use Rattle.format.specs.LayoutTheorems.{length-digits}
+use Rattle.format.specs.ChargeSums.{chargesAsk}
+use Rattle.format.specs.CountsCovered.{AtLeast, least-fore, least-packed, one-fixed, one-string, one-count}
+use Rattle.format.specs.ChargeBound.{Rated, rated-up, rated-seq, rated-plain, rated-empty, rated-fixed, rated-mark, rated-packed, rated-string, rated-payload, rated-ask, rated-list, rated-count, rated-few, entries-under, counted-under}
 use Rattle.vob24.specs.Refusals
 use Rattle.vob24.specs.Settings as of
 use Rattle.vob24.specs.Settings.{Settings, Licensed, sizeOf, maxPackBytes}

@@ -9,7 +9,7 @@ use lib.ListN.{length, getD}
 use lib.Dec.{eqb}
 use Rattle.format.specs.Trace.{Wrong, wrong, pick, sum}
 use Rattle.format.specs.Format.{Value, number, content, first, second, Rule, Width, Ask, fixed, packed, string, count, Format, empty, leaf, seq, _▸_, chain, times, items, entries, counted}
-use Rattle.format.specs.Charging.{chargesAsk, chargesLeaf, charges}
+use Rattle.format.specs.ChargeSums.{chargesAsk, chargesLeaf, charges}
 use Rattle.vob24.specs.Refusals
 use Rattle.vob24.specs.Settings as of
 use Rattle.vob24.specs.Settings.{Settings, sizeOf}

@@ -6,7 +6,7 @@ use native.Mathlib.Omega.{arith}
 use lib.Dec.{eqb→eq}
 use Rattle.format.specs.Format.{number, Rule, byte, word, count, Format, leaf, _▸_}
 use Rattle.format.specs.Layout.{Valid, aheadLeaf, ahead}
-use Rattle.format.specs.Closing.{AtLeast, Closed, All, least-zero, least-fixed, least-string, least-seq, least-fore, closed-seq, closed-fixed, closed-get, closed}
+use Rattle.format.specs.CountsCovered.{AtLeast, Closed, All, least-zero, least-fixed, least-string, least-seq, least-fore, closed-seq, closed-fixed, closed-get, closed}
 use Rattle.vob24.specs.Refusals
 use Rattle.vob24.specs.Settings.{Settings}
 use Rattle.vob24.specs.Leaves.{choose}

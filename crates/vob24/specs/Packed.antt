@@ -7,12 +7,12 @@ use mathlib.Core.Logic.{_↔_}
 use native.Mathlib.Omega.{arith}
 use lib.ListN.{length}
 use lib.Dec.{T, leb, leb→le, nleb→lt}
-use Rattle.format.specs.Trace.{Wrong, wrong, unexpectedEof, invalidSourceInteger, Trace, stop, end, bind, guard, asks, stopped, out, Ends}
+use Rattle.format.specs.Trace.{Wrong, wrong, unexpectedEof, invalidSourceInteger, Trace, stop, end, bind, guard, needs, stopped, out, Ends}
 use Rattle.format.specs.Format.{num, leaf, packed}
 use Rattle.format.specs.Reading.{part, room, field, packedStep, tracePacked, traceLeaf, trace}
 use Rattle.format.specs.Layout.{groups, Bytes, Valid, bytes, bytesLeaf}
-use Rattle.format.specs.Laying.{At}
-use Rattle.format.specs.Closing.{closed-packed, layout-iff}
+use Rattle.format.specs.LayoutTheorems.{At}
+use Rattle.format.specs.CountsCovered.{closed-packed, layout-iff}
 use Rattle.vob24.specs.Leaves.{sourceU32}
 
 -- Taken exactly where the bytes begin with the encoding.
@@ -33,14 +33,14 @@ unfolding bind out
 bind-stops (stop w p) h e = cc
 bind-stops (end a p) h e = let no : _≡_ {A = ℕ} 0 1 = cc in absurd (omega arith)
 bind-stops (Trace.charge c n p t) h e = bind-stops t h e
-bind-stops (asks n p t) h e = bind-stops t h e
+bind-stops (needs n p t) h e = bind-stops t h e
 
 -- one byte: there, or 2
 byte-stops : (s : List ℕ) (p k : ℕ) (f : List ℕ → Trace ℕ) {w : Wrong} {q : ℕ} → p ≤ length s → (p + 1 ≤ length s → out (f (part s p 1)) ≡ stopped w q → Unpacked s p k w q) → out (field 1 s p f) ≡ stopped w q → Unpacked s p k w q
 unfolding field room guard out
 byte-stops s p k f {w} {q} h r e = there (leb (p + 1) (length s)) (leb→le _ _) (nleb→lt _ _) e
   where
-    there : (d : Bool) → (T d → p + 1 ≤ length s) → (T (not d) → length s < p + 1) → out (guard d (wrong unexpectedEof 0) p (asks (p + 1) p (f (part s p 1)))) ≡ stopped w q → Unpacked s p k w q
+    there : (d : Bool) → (T d → p + 1 ≤ length s) → (T (not d) → length s < p + 1) → out (guard d (wrong unexpectedEof 0) p (needs (p + 1) p (f (part s p 1)))) ≡ stopped w q → Unpacked s p k w q
     there true i j e = r (i tt) e
     there false i j e = let y = j tt in let x : q ≡ p = cc in short (cc) (omega arith)
 

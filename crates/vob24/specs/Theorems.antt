@@ -14,20 +14,20 @@ use Rattle.format.specs.Format.{Value}
 use Rattle.format.specs.Reading.{part, trace}
 use Rattle.format.specs.Record.{Held}
 use Rattle.format.specs.Layout.{Bytes, Valid, bytes}
-use Rattle.format.specs.Settling.{thenS, settle-bind}
-use Rattle.format.specs.Ending.{Ends-bind, bind-out, Ends-guard, guard-true, trace-within}
-use Rattle.format.specs.Laying.{At}
-use Rattle.format.specs.Closing.{layout-iff}
-use Rattle.format.specs.Decoding.{trace-held}
-use Rattle.format.specs.Bounding.{guard-under, end-free}
-use Rattle.format.specs.Placing.{Rising, rising-bind, rising-guard, rising-end, trace-rising}
+use Rattle.format.specs.SettleTheorems.{thenS, settle-bind}
+use Rattle.format.specs.TraceTheorems.{Ends-bind, bind-out, Ends-guard, guard-true, trace-within}
+use Rattle.format.specs.LayoutTheorems.{At}
+use Rattle.format.specs.CountsCovered.{layout-iff}
+use Rattle.format.specs.RecordTheorems.{trace-held}
+use Rattle.format.specs.ChargeBound.{guard-under, end-free}
+use Rattle.format.specs.PlacesRise.{Rising, rising-bind, rising-guard, rising-end, trace-rising}
 use Rattle.vob24.specs.Refusals
 use Rattle.vob24.specs.Settings.{Settings, Licensed, maxPackBytes}
 use Rattle.vob24.specs.Grammar.{Section, section, pack}
 use Rattle.vob24.specs.PackLayout.{closed-section, closed-pack}
 use Rattle.vob24.specs.PackBound.{section-bound, pack-bound}
 use Rattle.vob24.specs.Calls.{Taken, tooLarge, wholeTrace, sectionTrace, sectionOutcome}
-use Rattle.vob24.specs.Calling.{only-when, Reads}
+use Rattle.vob24.specs.CallTheorems.{only-when, Reads}
 
 -- a last question charges nothing
 judged : (t : Trace Value) (d : Value → ℕ → Bool) (w : Value → ℕ → Wrong) → total (bind t (λ v q. guard (d v q) (w v q) q (end v q))) ≤ total t
@@ -35,7 +35,7 @@ unfolding bind amounts sum
 judged (Trace.stop w p) d w′ = omega arith
 judged (end v p) d w′ = guard-under (d v p) (w′ v p) p (end v p) 0 (λ _. omega (arith, end-free v p))
 judged (Trace.charge c n p t) d w′ = omega (arith, judged t d w′)
-judged (Trace.asks n p t) d w′ = judged t d w′
+judged (Trace.needs n p t) d w′ = judged t d w′
 
 module _ (set : Settings) where
   -- ---- the charge lists of the two calls, and that of the format between their questions

@@ -12,11 +12,11 @@ enum-known-q c = search needs
 enum-told : tie.Need-enum-told
 enum-told c = search needs
 
-refused-requires : tie.Need-refused-requires
-refused-requires c κs = search needs
+step-of-requires : tie.Need-step-of-requires
+step-of-requires c κs = search needs
 
-refused-constant-requires : tie.Need-refused-constant-requires
-refused-constant-requires c κs = search needs
+constant-refusal-requires : tie.Need-constant-refusal-requires
+constant-refusal-requires c κs = search needs
 
 same-length : tie.Need-same-length
 same-length c = search needs
@@ -37,8 +37,8 @@ constant-bool-spec =
     number-bool-requires
     enum-known-q
     enum-told
-    refused-requires
-    refused-constant-requires
+    step-of-requires
+    constant-refusal-requires
     same-length
     returns
     same-length-2

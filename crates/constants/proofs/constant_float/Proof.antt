@@ -12,11 +12,11 @@ enum-known-q c = search needs
 enum-told : tie.Need-enum-told
 enum-told c = search needs
 
-refused-float-requires : tie.Need-refused-float-requires
-refused-float-requires c κs = search needs
+float-step-requires : tie.Need-float-step-requires
+float-step-requires c κs = search needs
 
-refused-constant-requires : tie.Need-refused-constant-requires
-refused-constant-requires c κs = search needs
+constant-refusal-requires : tie.Need-constant-refusal-requires
+constant-refusal-requires c κs = search needs
 
 returns : tie.Need-returns
 returns c = search (needs, constants)
@@ -37,8 +37,8 @@ constant-float-spec =
     read-f64-requires
     enum-known-q
     enum-told
-    refused-float-requires
-    refused-constant-requires
+    float-step-requires
+    constant-refusal-requires
     returns
     keep-pair-requires
     same-length

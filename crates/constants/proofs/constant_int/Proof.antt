@@ -12,11 +12,11 @@ enum-known-q c = search needs
 enum-told : tie.Need-enum-told
 enum-told c = search needs
 
-refused-signed-requires : tie.Need-refused-signed-requires
-refused-signed-requires c κs = search needs
+signed-step-requires : tie.Need-signed-step-requires
+signed-step-requires c κs = search needs
 
-refused-constant-requires : tie.Need-refused-constant-requires
-refused-constant-requires c κs = search needs
+constant-refusal-requires : tie.Need-constant-refusal-requires
+constant-refusal-requires c κs = search needs
 
 returns : tie.Need-returns
 returns c = search (needs, constants)
@@ -37,8 +37,8 @@ constant-int-spec =
     read-i64-requires
     enum-known-q
     enum-told
-    refused-signed-requires
-    refused-constant-requires
+    signed-step-requires
+    constant-refusal-requires
     returns
     keep-pair-requires
     same-length

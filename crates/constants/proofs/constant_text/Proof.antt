@@ -12,11 +12,11 @@ enum-known-q c = search needs
 enum-told : tie.Need-enum-told
 enum-told c = search needs
 
-refused-payload-requires : tie.Need-refused-payload-requires
-refused-payload-requires c κs = search needs
+payload-step-requires : tie.Need-payload-step-requires
+payload-step-requires c κs = search needs
 
-refused-constant-requires : tie.Need-refused-constant-requires
-refused-constant-requires c κs = search needs
+constant-refusal-requires : tie.Need-constant-refusal-requires
+constant-refusal-requires c κs = search needs
 
 same-length : tie.Need-same-length
 same-length c = search needs
@@ -37,8 +37,8 @@ constant-text-spec =
     span-str-requires
     enum-known-q
     enum-told
-    refused-payload-requires
-    refused-constant-requires
+    payload-step-requires
+    constant-refusal-requires
     same-length
     returns
     same-length-2

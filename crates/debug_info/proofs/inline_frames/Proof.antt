@@ -35,15 +35,15 @@ enum-known-q c = search (needs, reading)
 enum-told-2 : tie.Need-enum-told-2 Inv-loop μ-loop
 enum-told-2 c = search (needs, reading)
 
-refused-requires : tie.Need-refused-requires Inv-loop μ-loop
-refused-requires c κs = search (needs, reading)
+step-of-requires : tie.Need-step-of-requires Inv-loop μ-loop
+step-of-requires c κs = search (needs, reading)
 
 same-length : tie.Need-same-length Inv-loop μ-loop
 same-length c = search (needs, reading)
 
 returns-2 : tie.Need-returns-2 Inv-loop μ-loop
 unfolding inlineFrames
-returns-2 c = partNot ((c .before .before .before .before .before .before .before .before .before .r) .given .1) ((c .before .enum-told2) .given .1) ((c .refused) .ensures) (frames-at _ ((c .before .before .before .before .before .before .before .inline-records) .ensures) ((c .before .before .before .before .before .number-debug-count) .ensures))
+returns-2 c = partNot ((c .before .before .before .before .before .before .before .before .before .r) .given .1) ((c .before .enum-told2) .given .1) ((c .step-of) .ensures) (frames-at _ ((c .before .before .before .before .before .before .before .inline-records) .ensures) ((c .before .before .before .before .before .number-debug-count) .ensures))
 
 loop-holds : tie.Need-loop-holds Inv-loop μ-loop
 loop-holds c = search (needs, reading)
@@ -93,7 +93,7 @@ inline-frames-spec =
     number-debug-count-requires
     enum-known-q
     enum-told-2
-    refused-requires
+    step-of-requires
     same-length
     returns-2
     loop-holds

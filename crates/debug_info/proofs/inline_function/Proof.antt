@@ -54,8 +54,8 @@ enum-told-3 c = search (needs, reading, sharing)
 enum-told-4 : tie.Need-enum-told-4 Inv-loop μ-loop
 enum-told-4 c = search (needs, reading, sharing)
 
-with-requires : tie.Need-with-requires Inv-loop μ-loop
-with-requires c κs = search (needs, reading, sharing)
+number-of-requires : tie.Need-number-of-requires Inv-loop μ-loop
+number-of-requires c κs = search (needs, reading, sharing)
 
 same-length-3 : tie.Need-same-length-3 Inv-loop μ-loop
 same-length-3 c = search (needs, reading, sharing)
@@ -72,8 +72,8 @@ loop-less c = search (needs, reading, sharing)
 loop-again : tie.Need-loop-again Inv-loop μ-loop
 loop-again c = search (needs, reading, sharing)
 
-with-requires-2 : tie.Need-with-requires-2 Inv-loop μ-loop
-with-requires-2 c κs = search (needs, reading, sharing)
+number-of-requires-2 : tie.Need-number-of-requires-2 Inv-loop μ-loop
+number-of-requires-2 c κs = search (needs, reading, sharing)
 
 same-length-4 : tie.Need-same-length-4 Inv-loop μ-loop
 same-length-4 c = search (needs, reading, sharing)
@@ -101,12 +101,12 @@ inline-function-spec =
     inline-entry-requires
     enum-told-3
     enum-told-4
-    with-requires
+    number-of-requires
     same-length-3
     returns-3
     sub-k
     loop-less
     loop-again
-    with-requires-2
+    number-of-requires-2
     same-length-4
     returns-4)

@@ -35,8 +35,8 @@ enum-known-q c = search (needs, reading, sharing)
 enum-told-2 : tie.Need-enum-told-2 Inv-loop μ-loop
 enum-told-2 c = search (needs, reading, sharing)
 
-refused-requires : tie.Need-refused-requires Inv-loop μ-loop
-refused-requires c κs = search (needs, reading, sharing)
+step-of-requires : tie.Need-step-of-requires Inv-loop μ-loop
+step-of-requires c κs = search (needs, reading, sharing)
 
 same-length : tie.Need-same-length Inv-loop μ-loop
 same-length c = search (needs, reading, sharing)
@@ -56,8 +56,8 @@ enum-known-p c = search (needs, reading, sharing)
 enum-told-3 : tie.Need-enum-told-3 Inv-loop μ-loop
 enum-told-3 c = search (needs, reading, sharing)
 
-refused-requires-2 : tie.Need-refused-requires-2 Inv-loop μ-loop
-refused-requires-2 c κs = search (needs, reading, sharing)
+step-of-requires-2 : tie.Need-step-of-requires-2 Inv-loop μ-loop
+step-of-requires-2 c κs = search (needs, reading, sharing)
 
 same-length-2 : tie.Need-same-length-2 Inv-loop μ-loop
 same-length-2 c = search (needs, reading, sharing)
@@ -97,14 +97,14 @@ inline-functions-spec =
     number-debug-count-requires
     enum-known-q
     enum-told-2
-    refused-requires
+    step-of-requires
     same-length
     returns-2
     loop-holds
     inline-function-requires
     enum-known-p
     enum-told-3
-    refused-requires-2
+    step-of-requires-2
     same-length-2
     returns-3
     sub-left

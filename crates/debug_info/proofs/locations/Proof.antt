@@ -25,8 +25,8 @@ enum-known-q c = search needs
 enum-told-2 : tie.Need-enum-told-2
 enum-told-2 c = search needs
 
-refused-requires : tie.Need-refused-requires
-refused-requires c κs = search needs
+step-of-requires : tie.Need-step-of-requires
+step-of-requires c κs = search needs
 
 same-length : tie.Need-same-length
 same-length c = search needs
@@ -56,7 +56,7 @@ locations-spec =
     number-count-requires
     enum-known-q
     enum-told-2
-    refused-requires
+    step-of-requires
     same-length
     returns-2
     mul-source-numbers

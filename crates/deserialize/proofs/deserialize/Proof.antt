@@ -1,6 +1,6 @@
 use Rattle.vob24.specs.Grammar.{section, sections, pack}
 use Rattle.reader.proofs.Laws.{fieldThen}
-use Rattle.second_pass.proofs.Laws.{granted-next}
+use Rattle.reader.proofs.Accepting.{accepted-next}
 use Rattle.deserialize.proofs.Laws.{comesThen}
 use borrow.Author.Needs.{needs}
 use Rattle.deserialize.proofs.deserialize.Statement.{statement}
@@ -17,7 +17,7 @@ field-str-requires c κs = search needs
 
 types-requires : tie.Need-types-requires
 unfolding section sections pack
-types-requires c κs = (search needs, granted-next ((c .before .before .before .field-str) .ensures) (granted-next ((c .before .before .before .before .before .before .before .field-version) .ensures) (granted-next ((c .before .before .before .before .before .before .before .before .before .before .before .field-magic) .ensures) ((c .before .before .before .before .before .before .before .before .before .before .before .before .before .before .before .pre) .1))))
+types-requires c κs = (search needs, accepted-next ((c .before .before .before .field-str) .ensures) (accepted-next ((c .before .before .before .before .before .before .before .field-version) .ensures) (accepted-next ((c .before .before .before .before .before .before .before .before .before .before .before .field-magic) .ensures) ((c .before .before .before .before .before .before .before .before .before .before .before .before .before .before .before .pre) .1))))
 
 well-known-requires : tie.Need-well-known-requires
 well-known-requires c κs = search needs

@@ -2,7 +2,7 @@ use denote.Ref.{now}
 use Rattle.vob24.specs.Settings.{settingsOf}
 use Rattle.vob24.specs.Grammar.{section}
 use Rattle.vob24.specs.declared.Section.the-variants.{Name, Structs, Interfaces, NamedTypes, Itabs, RuntimeTypes, WellKnown, Constants, Globals, Functions, Externs, Entry, IslandInit, Artifacts, Files, FunctionLocations, InlineSources}
-use Rattle.deserialize.proofs.Laws.{section-at, granted-section}
+use Rattle.deserialize.proofs.Laws.{section-at, accepted-section}
 use borrow.Author.Needs.{needs}
 use Rattle.deserialize.proofs.section.Statement.{statement}
 use Rattle.deserialize.proofs.section.Tie as tie
@@ -18,21 +18,21 @@ enum-told-2 c = search needs
 
 structs-requires : tie.Need-structs-requires
 unfolding section
-structs-requires c κs = (search needs, granted-section (settingsOf (now (c .before .before .before .before .before .args .set))) Structs (c .before .enum-told2 .given .1) (c .before .before .before .before .before .pre .1))
+structs-requires c κs = (search needs, accepted-section (settingsOf (now (c .before .before .before .before .before .args .set))) Structs (c .before .enum-told2 .given .1) (c .before .before .before .before .before .pre .1))
 
 enum-told-3 : tie.Need-enum-told-3
 enum-told-3 c = search needs
 
 interfaces-requires : tie.Need-interfaces-requires
 unfolding section
-interfaces-requires c κs = (search needs, granted-section (settingsOf (now (c .before .before .before .before .before .args .set))) Interfaces (c .before .enum-told3 .given .1) (c .before .before .before .before .before .pre .1))
+interfaces-requires c κs = (search needs, accepted-section (settingsOf (now (c .before .before .before .before .before .args .set))) Interfaces (c .before .enum-told3 .given .1) (c .before .before .before .before .before .pre .1))
 
 enum-told-4 : tie.Need-enum-told-4
 enum-told-4 c = search needs
 
 named-types-requires : tie.Need-named-types-requires
 unfolding section
-named-types-requires c κs = (search needs, granted-section (settingsOf (now (c .before .before .before .before .before .args .set))) NamedTypes (c .before .enum-told4 .given .1) (c .before .before .before .before .before .pre .1))
+named-types-requires c κs = (search needs, accepted-section (settingsOf (now (c .before .before .before .before .before .args .set))) NamedTypes (c .before .enum-told4 .given .1) (c .before .before .before .before .before .pre .1))
 
 enum-told-5 : tie.Need-enum-told-5
 enum-told-5 c = search needs
@@ -45,7 +45,7 @@ enum-told-6 c = search needs
 
 runtime-types-requires : tie.Need-runtime-types-requires
 unfolding section
-runtime-types-requires c κs = (search needs, granted-section (settingsOf (now (c .before .before .before .before .before .args .set))) RuntimeTypes (c .before .enum-told6 .given .1) (c .before .before .before .before .before .pre .1))
+runtime-types-requires c κs = (search needs, accepted-section (settingsOf (now (c .before .before .before .before .before .args .set))) RuntimeTypes (c .before .enum-told6 .given .1) (c .before .before .before .before .before .pre .1))
 
 enum-told-7 : tie.Need-enum-told-7
 enum-told-7 c = search needs

@@ -1,6 +1,6 @@
 use Rattle.vob24.specs.Grammar.{section, sections, pack}
 use Rattle.deserialize.proofs.Laws.{reaches}
-use Rattle.second_pass.proofs.Laws.{granted-first, granted-next}
+use Rattle.reader.proofs.Accepting.{accepted-first, accepted-next}
 use borrow.Author.Needs.{needs}
 use Rattle.deserialize.proofs.to_artifacts.Statement.{statement}
 use Rattle.deserialize.proofs.to_artifacts.Tie as tie
@@ -16,22 +16,22 @@ field-str-requires c κs = search needs
 
 structs-requires : tie.Need-structs-requires
 unfolding section sections pack
-structs-requires c κs = (search needs, granted-first (granted-next ((c .before .before .before .field-str) .ensures) (granted-next ((c .before .before .before .before .before .before .before .field-version) .ensures) (granted-next ((c .before .before .before .before .before .before .before .before .before .before .before .field-magic) .ensures) ((c .before .before .before .before .before .before .before .before .before .before .before .before .before .before .before .pre) .1)))))
+structs-requires c κs = (search needs, accepted-first (accepted-next ((c .before .before .before .field-str) .ensures) (accepted-next ((c .before .before .before .before .before .before .before .field-version) .ensures) (accepted-next ((c .before .before .before .before .before .before .before .before .before .before .before .field-magic) .ensures) ((c .before .before .before .before .before .before .before .before .before .before .before .before .before .before .before .pre) .1)))))
 
 interfaces-requires : tie.Need-interfaces-requires
 unfolding section sections pack
-interfaces-requires c κs = (search needs, granted-first (granted-next ((c .before .before .before .structs) .ensures) (granted-next ((c .before .before .before .before .before .before .before .field-str) .ensures) (granted-next ((c .before .before .before .before .before .before .before .before .before .before .before .field-version) .ensures) (granted-next ((c .before .before .before .before .before .before .before .before .before .before .before .before .before .before .before .field-magic) .ensures) ((c .before .before .before .before .before .before .before .before .before .before .before .before .before .before .before .before .before .before .before .pre) .1))))))
+interfaces-requires c κs = (search needs, accepted-first (accepted-next ((c .before .before .before .structs) .ensures) (accepted-next ((c .before .before .before .before .before .before .before .field-str) .ensures) (accepted-next ((c .before .before .before .before .before .before .before .before .before .before .before .field-version) .ensures) (accepted-next ((c .before .before .before .before .before .before .before .before .before .before .before .before .before .before .before .field-magic) .ensures) ((c .before .before .before .before .before .before .before .before .before .before .before .before .before .before .before .before .before .before .before .pre) .1))))))
 
 named-types-requires : tie.Need-named-types-requires
 unfolding section sections pack
-named-types-requires c κs = (search needs, granted-first (granted-next ((c .before .before .before .interfaces) .ensures) (granted-next ((c .before .before .before .before .before .before .before .structs) .ensures) (granted-next ((c .before .before .before .before .before .before .before .before .before .before .before .field-str) .ensures) (granted-next ((c .before .before .before .before .before .before .before .before .before .before .before .before .before .before .before .field-version) .ensures) (granted-next ((c .before .before .before .before .before .before .before .before .before .before .before .before .before .before .before .before .before .before .before .field-magic) .ensures) ((c .before .before .before .before .before .before .before .before .before .before .before .before .before .before .before .before .before .before .before .before .before .before .before .pre) .1)))))))
+named-types-requires c κs = (search needs, accepted-first (accepted-next ((c .before .before .before .interfaces) .ensures) (accepted-next ((c .before .before .before .before .before .before .before .structs) .ensures) (accepted-next ((c .before .before .before .before .before .before .before .before .before .before .before .field-str) .ensures) (accepted-next ((c .before .before .before .before .before .before .before .before .before .before .before .before .before .before .before .field-version) .ensures) (accepted-next ((c .before .before .before .before .before .before .before .before .before .before .before .before .before .before .before .before .before .before .before .field-magic) .ensures) ((c .before .before .before .before .before .before .before .before .before .before .before .before .before .before .before .before .before .before .before .before .before .before .before .pre) .1)))))))
 
 itabs-requires : tie.Need-itabs-requires
 itabs-requires c κs = search needs
 
 runtime-types-requires : tie.Need-runtime-types-requires
 unfolding section sections pack
-runtime-types-requires c κs = (search needs, granted-first (granted-next ((c .before .before .before .itabs) .ensures) (granted-next ((c .before .before .before .before .before .before .before .named-types) .ensures) (granted-next ((c .before .before .before .before .before .before .before .before .before .before .before .interfaces) .ensures) (granted-next ((c .before .before .before .before .before .before .before .before .before .before .before .before .before .before .before .structs) .ensures) (granted-next ((c .before .before .before .before .before .before .before .before .before .before .before .before .before .before .before .before .before .before .before .field-str) .ensures) (granted-next ((c .before .before .before .before .before .before .before .before .before .before .before .before .before .before .before .before .before .before .before .before .before .before .before .field-version) .ensures) (granted-next ((c .before .before .before .before .before .before .before .before .before .before .before .before .before .before .before .before .before .before .before .before .before .before .before .before .before .before .before .field-magic) .ensures) ((c .before .before .before .before .before .before .before .before .before .before .before .before .before .before .before .before .before .before .before .before .before .before .before .before .before .before .before .before .before .before .before .pre) .1)))))))))
+runtime-types-requires c κs = (search needs, accepted-first (accepted-next ((c .before .before .before .itabs) .ensures) (accepted-next ((c .before .before .before .before .before .before .before .named-types) .ensures) (accepted-next ((c .before .before .before .before .before .before .before .before .before .before .before .interfaces) .ensures) (accepted-next ((c .before .before .before .before .before .before .before .before .before .before .before .before .before .before .before .structs) .ensures) (accepted-next ((c .before .before .before .before .before .before .before .before .before .before .before .before .before .before .before .before .before .before .before .field-str) .ensures) (accepted-next ((c .before .before .before .before .before .before .before .before .before .before .before .before .before .before .before .before .before .before .before .before .before .before .before .field-version) .ensures) (accepted-next ((c .before .before .before .before .before .before .before .before .before .before .before .before .before .before .before .before .before .before .before .before .before .before .before .before .before .before .before .field-magic) .ensures) ((c .before .before .before .before .before .before .before .before .before .before .before .before .before .before .before .before .before .before .before .before .before .before .before .before .before .before .before .before .before .before .before .pre) .1)))))))))
 
 well-known-requires : tie.Need-well-known-requires
 well-known-requires c κs = search needs

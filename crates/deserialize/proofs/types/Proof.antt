@@ -2,7 +2,7 @@ use mathlib.Core.Path.{refl}
 use Rattle.vob24.specs.Settings.{settingsOf}
 use Rattle.vob24.specs.Grammar.{section, struct, interface, namedType, itab, runtimeType}
 use Rattle.reader.proofs.Laws.{ready-at}
-use Rattle.second_pass.proofs.Laws.{granted-at, granted-first, granted-next}
+use Rattle.reader.proofs.Accepting.{accepted-at, accepted-first, accepted-next}
 use Rattle.empty_lists.proofs.Laws.{emptyFirst, emptySecond, emptyThird, emptyFourth, emptyFifth}
 use Rattle.deserialize.proofs.Laws.{comes-not, comes-at, comes-last, comes-next}
 use borrow.Author.Needs.{needs}
@@ -34,22 +34,22 @@ returns-2 c = let set = settingsOf (now (c .before .before .before .before .befo
 
 structs-requires : tie.Need-structs-requires
 unfolding section
-structs-requires c κs = ((ready-at ((c .before .before .before .before .r) .given .1) ((c .before .before .before .before .before .before .before .before .pre) .0)), granted-first (granted-at ((c .before .before .before .before .r) .given .1) ((c .before .before .before .before .before .before .before .before .pre) .1)))
+structs-requires c κs = ((ready-at ((c .before .before .before .before .r) .given .1) ((c .before .before .before .before .before .before .before .before .pre) .0)), accepted-first (accepted-at ((c .before .before .before .before .r) .given .1) ((c .before .before .before .before .before .before .before .before .pre) .1)))
 
 interfaces-requires : tie.Need-interfaces-requires
 unfolding section
-interfaces-requires c κs = (search needs, granted-first (granted-next ((c .before .before .before .structs) .ensures) (granted-at ((c .before .before .before .before .before .before .before .before .r) .given .1) ((c .before .before .before .before .before .before .before .before .before .before .before .before .pre) .1))))
+interfaces-requires c κs = (search needs, accepted-first (accepted-next ((c .before .before .before .structs) .ensures) (accepted-at ((c .before .before .before .before .before .before .before .before .r) .given .1) ((c .before .before .before .before .before .before .before .before .before .before .before .before .pre) .1))))
 
 named-types-requires : tie.Need-named-types-requires
 unfolding section
-named-types-requires c κs = (search needs, granted-first (granted-next ((c .before .before .before .interfaces) .ensures) (granted-next ((c .before .before .before .before .before .before .before .structs) .ensures) (granted-at ((c .before .before .before .before .before .before .before .before .before .before .before .before .r) .given .1) ((c .before .before .before .before .before .before .before .before .before .before .before .before .before .before .before .before .pre) .1)))))
+named-types-requires c κs = (search needs, accepted-first (accepted-next ((c .before .before .before .interfaces) .ensures) (accepted-next ((c .before .before .before .before .before .before .before .structs) .ensures) (accepted-at ((c .before .before .before .before .before .before .before .before .before .before .before .before .r) .given .1) ((c .before .before .before .before .before .before .before .before .before .before .before .before .before .before .before .before .pre) .1)))))
 
 itabs-requires : tie.Need-itabs-requires
 itabs-requires c κs = search needs
 
 runtime-types-requires : tie.Need-runtime-types-requires
 unfolding section
-runtime-types-requires c κs = (search needs, granted-first (granted-next ((c .before .before .before .itabs) .ensures) (granted-next ((c .before .before .before .before .before .before .before .named-types) .ensures) (granted-next ((c .before .before .before .before .before .before .before .before .before .before .before .interfaces) .ensures) (granted-next ((c .before .before .before .before .before .before .before .before .before .before .before .before .before .before .before .structs) .ensures) (granted-at ((c .before .before .before .before .before .before .before .before .before .before .before .before .before .before .before .before .before .before .before .before .r) .given .1) ((c .before .before .before .before .before .before .before .before .before .before .before .before .before .before .before .before .before .before .before .before .before .before .before .before .pre) .1)))))))
+runtime-types-requires c κs = (search needs, accepted-first (accepted-next ((c .before .before .before .itabs) .ensures) (accepted-next ((c .before .before .before .before .before .before .before .named-types) .ensures) (accepted-next ((c .before .before .before .before .before .before .before .before .before .before .before .interfaces) .ensures) (accepted-next ((c .before .before .before .before .before .before .before .before .before .before .before .before .before .before .before .structs) .ensures) (accepted-at ((c .before .before .before .before .before .before .before .before .before .before .before .before .before .before .before .before .before .before .before .before .r) .given .1) ((c .before .before .before .before .before .before .before .before .before .before .before .before .before .before .before .before .before .before .before .before .before .before .before .before .pre) .1)))))))
 
 same-length-2 : tie.Need-same-length-2
 same-length-2 c = search needs

@@ -25,8 +25,8 @@ enum-known-q c = search needs
 enum-told-2 : tie.Need-enum-told-2
 enum-told-2 c = search needs
 
-refused-text-requires : tie.Need-refused-text-requires
-refused-text-requires c κs = search needs
+text-step-requires : tie.Need-text-step-requires
+text-step-requires c κs = search needs
 
 returns-2 : tie.Need-returns-2
 returns-2 c = rw (← (c .before .before .before .before .artifact-name-bytes) .ensures) (search (needs, reading, keeping))
@@ -51,7 +51,7 @@ field-artifact-name-spec =
     read-artifact-string-requires
     enum-known-q
     enum-told-2
-    refused-text-requires
+    text-step-requires
     returns-2
     keep-pair-requires
     same-length

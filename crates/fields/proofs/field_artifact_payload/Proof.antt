@@ -25,8 +25,8 @@ enum-known-q c = search needs
 enum-told-2 : tie.Need-enum-told-2
 enum-told-2 c = search needs
 
-refused-payload-requires : tie.Need-refused-payload-requires
-refused-payload-requires c κs = search needs
+payload-step-requires : tie.Need-payload-step-requires
+payload-step-requires c κs = search needs
 
 returns-2 : tie.Need-returns-2
 returns-2 c = rw (← (c .before .before .before .before .artifact-payload-bytes) .ensures) (search (needs, reading, keeping))
@@ -51,7 +51,7 @@ field-artifact-payload-spec =
     read-artifact-bytes-requires
     enum-known-q
     enum-told-2
-    refused-payload-requires
+    payload-step-requires
     returns-2
     keep-pair-requires
     same-length

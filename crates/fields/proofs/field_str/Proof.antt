@@ -22,8 +22,8 @@ enum-known-q c = search needs
 enum-told-2 : tie.Need-enum-told-2
 enum-told-2 c = search needs
 
-refused-text-requires : tie.Need-refused-text-requires
-refused-text-requires c κs = search needs
+text-step-requires : tie.Need-text-step-requires
+text-step-requires c κs = search needs
 
 returns-2 : tie.Need-returns-2
 returns-2 c = search (needs, reading, keeping)
@@ -47,7 +47,7 @@ field-str-spec =
     read-string-requires
     enum-known-q
     enum-told-2
-    refused-text-requires
+    text-step-requires
     returns-2
     keep-pair-requires
     same-length

@@ -16,8 +16,8 @@ enum-known-q c = search needs
 enum-told : tie.Need-enum-told
 enum-told c = search needs
 
-span-requires : tie.Need-span-requires
-span-requires c κs = search needs
+text-span-requires : tie.Need-text-span-requires
+text-span-requires c κs = search needs
 
 returns : tie.Need-returns
 returns c = rw (← (c .before .before .before .before .artifact-name-bytes) .ensures) (search (needs, reading, keeping))
@@ -39,7 +39,7 @@ span-artifact-name-spec =
     read-artifact-string-requires
     enum-known-q
     enum-told
-    span-requires
+    text-span-requires
     returns
     keep-pair-requires
     same-length

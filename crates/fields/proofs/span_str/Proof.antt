@@ -13,8 +13,8 @@ enum-known-q c = search needs
 enum-told : tie.Need-enum-told
 enum-told c = search needs
 
-span-requires : tie.Need-span-requires
-span-requires c κs = search needs
+text-span-requires : tie.Need-text-span-requires
+text-span-requires c κs = search needs
 
 returns : tie.Need-returns
 returns c = search (needs, reading, keeping)
@@ -35,7 +35,7 @@ span-str-spec =
     read-string-requires
     enum-known-q
     enum-told
-    span-requires
+    text-span-requires
     returns
     keep-pair-requires
     same-length

@@ -32,15 +32,15 @@ enum-known-p c = search needs
 enum-told-2 : tie.Need-enum-told-2
 enum-told-2 c = search needs
 
-refused-requires : tie.Need-refused-requires
-refused-requires c κs = search needs
+step-of-requires : tie.Need-step-of-requires
+step-of-requires c κs = search needs
 
 same-length : tie.Need-same-length
 same-length c = search needs
 
 returns-2 : tie.Need-returns-2
 unfolding code
-returns-2 c = partNot ((c .before .before .before .before .before .before .before .before .r) .given .1) ((c .before .enum-told2) .given .1) ((c .refused) .ensures) ((c .before .before .before .before .before .number-instructions) .ensures)
+returns-2 c = partNot ((c .before .before .before .before .before .before .before .before .r) .given .1) ((c .before .enum-told2) .given .1) ((c .step-of) .ensures) ((c .before .before .before .before .before .number-instructions) .ensures)
 
 number-instruction-metadata-requires : tie.Need-number-instruction-metadata-requires
 number-instruction-metadata-requires c κs = search (needs, reading)
@@ -51,15 +51,15 @@ enum-known-q c = search needs
 enum-told-3 : tie.Need-enum-told-3
 enum-told-3 c = search needs
 
-refused-requires-2 : tie.Need-refused-requires-2
-refused-requires-2 c κs = search needs
+step-of-requires-2 : tie.Need-step-of-requires-2
+step-of-requires-2 c κs = search needs
 
 same-length-2 : tie.Need-same-length-2
 same-length-2 c = search needs
 
 returns-3 : tie.Need-returns-3
 unfolding code
-returns-3 c = at-step ((c .before .before .before .before .before .before .before .before .before .before .before .before .before .before .before .r) .given .1) (numberThen (λ m. seq (metadataList (settingsOf (now (c .before .before .before .before .before .before .before .before .before .before .before .before .before .before .before .before .before .before .before .args .set)))) (λ v. leaf (ask (sameCode (counted v) m)))) ((c .before .before .before .before .before .before .before .before .p) .given .1) ((c .before .before .before .before .before .before .before .before .before .before .before .before .number-instructions) .ensures) (numberNot _ ((c .before .enum-told3) .given .1) ((c .refused2) .ensures) ((c .before .before .before .before .before .number-instruction-metadata) .ensures)))
+returns-3 c = at-step ((c .before .before .before .before .before .before .before .before .before .before .before .before .before .before .before .r) .given .1) (numberThen (λ m. seq (metadataList (settingsOf (now (c .before .before .before .before .before .before .before .before .before .before .before .before .before .before .before .before .before .before .before .args .set)))) (λ v. leaf (ask (sameCode (counted v) m)))) ((c .before .before .before .before .before .before .before .before .p) .given .1) ((c .before .before .before .before .before .before .before .before .before .before .before .before .number-instructions) .ensures) (numberNot _ ((c .before .enum-told3) .given .1) ((c .step-of2) .ensures) ((c .before .before .before .before .before .number-instruction-metadata) .ensures)))
 
 refuse-requires : tie.Need-refuse-requires
 refuse-requires c κs = search needs
@@ -88,13 +88,13 @@ code-spec =
     number-instructions-requires
     enum-known-p
     enum-told-2
-    refused-requires
+    step-of-requires
     same-length
     returns-2
     number-instruction-metadata-requires
     enum-known-q
     enum-told-3
-    refused-requires-2
+    step-of-requires-2
     same-length-2
     returns-3
     refuse-requires

@@ -34,15 +34,15 @@ enum-known-q c = search needs
 enum-told-2 : tie.Need-enum-told-2
 enum-told-2 c = search needs
 
-refused-requires : tie.Need-refused-requires
-refused-requires c κs = search needs
+step-of-requires : tie.Need-step-of-requires
+step-of-requires c κs = search needs
 
 same-length-2 : tie.Need-same-length-2
 same-length-2 c = search needs
 
 returns-2 : tie.Need-returns-2
 unfolding function
-returns-2 c = fieldThen ((c .before .before .before .before .before .before .before .before .before .before .before .before .function-head) .ensures) λ _. partNot ((c .before .before .before .before .before .before .before .before .head) .given .1) ((c .before .enum-told2) .given .1) ((c .refused) .ensures) ((c .before .before .before .before .before .number-u16) .ensures)
+returns-2 c = fieldThen ((c .before .before .before .before .before .before .before .before .before .before .before .before .function-head) .ensures) λ _. partNot ((c .before .before .before .before .before .before .before .before .head) .given .1) ((c .before .enum-told2) .given .1) ((c .step-of) .ensures) ((c .before .before .before .before .before .number-u16) .ensures)
 
 function-returns-requires : tie.Need-function-returns-requires
 function-returns-requires c κs = got-ready ((c .before .before .q) .given .1) ((c .before .before .before .before .before .before .number-u16) .ensures)
@@ -72,7 +72,7 @@ function-spec =
     number-u16-requires
     enum-known-q
     enum-told-2
-    refused-requires
+    step-of-requires
     same-length-2
     returns-2
     function-returns-requires

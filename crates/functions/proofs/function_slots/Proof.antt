@@ -25,14 +25,14 @@ enum-known-q c = search needs
 enum-told-2 : tie.Need-enum-told-2
 enum-told-2 c = search needs
 
-refused-requires : tie.Need-refused-requires
-refused-requires c κs = search needs
+step-of-requires : tie.Need-step-of-requires
+step-of-requires c κs = search needs
 
 same-length : tie.Need-same-length
 same-length c = search needs
 
 returns-2 : tie.Need-returns-2
-returns-2 c = partNot ((c .before .before .before .before .before .before .before .before .r) .given .1) ((c .before .enum-told2) .given .1) ((c .refused) .ensures) ((c .before .before .before .before .before .number-slot-types) .ensures)
+returns-2 c = partNot ((c .before .before .before .before .before .before .before .before .r) .given .1) ((c .before .enum-told2) .given .1) ((c .step-of) .ensures) ((c .before .before .before .before .before .number-slot-types) .ensures)
 
 function-body-requires : tie.Need-function-body-requires
 function-body-requires c κs = got-ready ((c .before .before .q) .given .1) ((c .before .before .before .before .before .before .number-slot-types) .ensures)
@@ -53,7 +53,7 @@ function-slots-spec =
     number-slot-types-requires
     enum-known-q
     enum-told-2
-    refused-requires
+    step-of-requires
     same-length
     returns-2
     function-body-requires

@@ -15,8 +15,8 @@ returns c = search (needs, reading)
 number-functions-requires : tie.Need-number-functions-requires
 number-functions-requires c κs = search (needs, reading)
 
-refused-requires : tie.Need-refused-requires
-refused-requires c κs = search needs
+step-of-requires : tie.Need-step-of-requires
+step-of-requires c κs = search needs
 
 same-length : tie.Need-same-length
 same-length c = search needs
@@ -32,6 +32,6 @@ functions-spec =
     enum-told
     returns
     number-functions-requires
-    refused-requires
+    step-of-requires
     same-length
     returns-2)

@@ -23,8 +23,8 @@ enum-known-q c = search needs
 enum-told-2 : tie.Need-enum-told-2
 enum-told-2 c = search needs
 
-refused-requires : tie.Need-refused-requires
-refused-requires c κs = search needs
+step-of-requires : tie.Need-step-of-requires
+step-of-requires c κs = search needs
 
 same-length : tie.Need-same-length
 same-length c = search needs
@@ -51,7 +51,7 @@ heap-ret-slots-spec =
     number-count-requires
     enum-known-q
     enum-told-2
-    refused-requires
+    step-of-requires
     same-length
     returns-2
     u16s-requires

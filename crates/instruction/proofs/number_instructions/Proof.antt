@@ -1,5 +1,5 @@
 use Rattle.reader.proofs.Reading.{reading}
-use Rattle.records.proofs.Numbering.{numberedItems, numbering}
+use Rattle.reader.proofs.Numbering.{numberedItems, numbering}
 use Rattle.instruction.specs.Formats.{instructionFormat}
 use borrow.Author.Needs.{needs}
 use Rattle.instruction.proofs.number_instructions.Statement.{statement}
@@ -23,14 +23,14 @@ returns c = search (needs, reading, numbering)
 instructions-requires : tie.Need-instructions-requires
 instructions-requires c κs = search (needs, reading, numbering)
 
-with-requires : tie.Need-with-requires
-with-requires c κs = search needs
+number-of-requires : tie.Need-number-of-requires
+number-of-requires c κs = search needs
 
 same-length-2 : tie.Need-same-length-2
 same-length-2 c = search needs
 
 returns-2 : tie.Need-returns-2
-returns-2 c = numberedItems (c .before .before .before .before .before .before .q .given .1) (c .before .before .before .before .before .before .before .before .before .before .number-count .ensures) instructionFormat (c .before .before .before .instructions .ensures) (c .with .ensures)
+returns-2 c = numberedItems (c .before .before .before .before .before .before .q .given .1) (c .before .before .before .before .before .before .before .before .before .before .number-count .ensures) instructionFormat (c .before .before .before .instructions .ensures) (c .number-of .ensures)
 
 pub number-instructions-spec : {M : Type 1} → statement M
 number-instructions-spec =
@@ -42,6 +42,6 @@ number-instructions-spec =
     same-length
     returns
     instructions-requires
-    with-requires
+    number-of-requires
     same-length-2
     returns-2)

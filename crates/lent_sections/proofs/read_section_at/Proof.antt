@@ -48,10 +48,10 @@ use Rattle.vob24.proofs.Section.Laws as E′
 use Rattle.calls.specs.declared.Answer.{Answer}
 use Rattle.calls.proofs.Answer as R
 use Rattle.calls.proofs.Answer.Laws as R′
-use Rattle.positions.specs.declared.Position.{Position}
-use Rattle.positions.proofs.Position as P
-use Rattle.positions.proofs.Position.Laws as P′
-use Rattle.positions.specs.Call.{LentCall}
+use Rattle.position.specs.declared.Position.{Position}
+use Rattle.position.proofs.Position as P
+use Rattle.position.proofs.Position.Laws as P′
+use Rattle.position.specs.Call.{LentCall}
 use Rattle.lent_sections.specs.declared.Lent.{Lent}
 use Rattle.lent_sections.proofs.Walk.{slice-val, section-val, position-val, by-walk}
 use Rattle.lent_sections.proofs.Lent as S

@@ -1,7 +1,7 @@
 use Rattle.vob24.specs.Grammar.{metadata}
 use Rattle.reader.proofs.Reading.{reading}
 use Rattle.reader.proofs.Laws.{got-ready}
-use Rattle.records.proofs.Recording.{recordedEmpty, recording}
+use Rattle.reader.proofs.Recording.{recordedEmpty, recording}
 use Rattle.metadata.proofs.Shapes.{metadataAt, last-tag}
 use borrow.Author.Needs.{needs}
 use Rattle.metadata.proofs.instruction_metadata.Statement.{statement}
@@ -16,8 +16,8 @@ enum-known-q c = search needs
 enum-told : tie.Need-enum-told
 enum-told c = search needs
 
-not-metadata-requires : tie.Need-not-metadata-requires
-not-metadata-requires c κs = search needs
+metadata-refusal-requires : tie.Need-metadata-refusal-requires
+metadata-refusal-requires c κs = search needs
 
 same-length : tie.Need-same-length
 same-length c = search needs
@@ -177,7 +177,7 @@ instruction-metadata-spec =
     number-metadata-tag-requires
     enum-known-q
     enum-told
-    not-metadata-requires
+    metadata-refusal-requires
     same-length
     returns
     bare-requires

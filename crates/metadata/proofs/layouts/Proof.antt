@@ -1,7 +1,7 @@
 use Rattle.reader.proofs.Reading.{reading}
 use Rattle.reader.proofs.Laws.{got-ready}
 use Rattle.metadata.proofs.Shapes.{twoLayout}
-use Rattle.records.proofs.Recording.{recording}
+use Rattle.reader.proofs.Recording.{recording}
 use borrow.Author.Needs.{needs}
 use Rattle.metadata.proofs.layouts.Statement.{statement}
 use Rattle.metadata.proofs.layouts.Tie as tie
@@ -15,8 +15,8 @@ enum-known-q1 c = search needs
 enum-told : tie.Need-enum-told
 enum-told c = search needs
 
-not-metadata-requires : tie.Need-not-metadata-requires
-not-metadata-requires c κs = search needs
+metadata-refusal-requires : tie.Need-metadata-refusal-requires
+metadata-refusal-requires c κs = search needs
 
 same-length : tie.Need-same-length
 same-length c = search needs
@@ -33,8 +33,8 @@ enum-known-q2 c = search needs
 enum-told-2 : tie.Need-enum-told-2
 enum-told-2 c = search needs
 
-not-metadata-requires-2 : tie.Need-not-metadata-requires-2
-not-metadata-requires-2 c κs = search needs
+metadata-refusal-requires-2 : tie.Need-metadata-refusal-requires-2
+metadata-refusal-requires-2 c κs = search needs
 
 same-length-2 : tie.Need-same-length-2
 same-length-2 c = search needs
@@ -42,17 +42,17 @@ same-length-2 c = search needs
 returns-2 : tie.Need-returns-2
 returns-2 c = search (needs, reading, recording)
 
-items-at-requires : tie.Need-items-at-requires
-items-at-requires c κs = search needs
+list-at-requires : tie.Need-list-at-requires
+list-at-requires c κs = search needs
 
-items-at-requires-2 : tie.Need-items-at-requires-2
-items-at-requires-2 c κs = got-ready ((c .before .before .before .before .before .before .before .before .before .q1) .given .1) ((c .before .before .before .before .before .before .before .before .before .before .before .before .before .number-slot-types) .ensures)
+list-at-requires-2 : tie.Need-list-at-requires-2
+list-at-requires-2 c κs = got-ready ((c .before .before .before .before .before .before .before .before .before .q1) .given .1) ((c .before .before .before .before .before .before .before .before .before .before .before .before .before .number-slot-types) .ensures)
 
 same-length-3 : tie.Need-same-length-3
 same-length-3 c = search needs
 
 returns-3 : tie.Need-returns-3
-returns-3 c = twoLayout _ ((c .before .before .before .before .before .before .before .before .before .before .q1) .given .1) ((c .before .before .before .before .before .before .before .before .before .before .before .before .before .before .number-slot-types) .ensures) ((c .before .before .before .q2) .given .1) ((c .before .before .before .before .before .before .before .number-slot-types2) .ensures) ((c .before .items-at) .ensures) ((c .items-at2) .ensures)
+returns-3 c = twoLayout _ ((c .before .before .before .before .before .before .before .before .before .before .q1) .given .1) ((c .before .before .before .before .before .before .before .before .before .before .before .before .before .before .number-slot-types) .ensures) ((c .before .before .before .q2) .given .1) ((c .before .before .before .before .before .before .before .number-slot-types2) .ensures) ((c .before .list-at) .ensures) ((c .list-at2) .ensures)
 
 pub layouts-spec : {M : Type 1} → statement M
 layouts-spec =
@@ -61,16 +61,16 @@ layouts-spec =
     number-slot-types-requires
     enum-known-q1
     enum-told
-    not-metadata-requires
+    metadata-refusal-requires
     same-length
     returns
     number-slot-types-requires-2
     enum-known-q2
     enum-told-2
-    not-metadata-requires-2
+    metadata-refusal-requires-2
     same-length-2
     returns-2
-    items-at-requires
-    items-at-requires-2
+    list-at-requires
+    list-at-requires-2
     same-length-3
     returns-3)

@@ -1,7 +1,7 @@
 use native.Mathlib.Omega.{arith}
 use Rattle.metadata.specs.declared.Metadata.the-variants as kind
 use Rattle.metadata.specs.Records.{bareOf}
-use Rattle.records.proofs.Recording.{recordedLast, recording, fixed-fits}
+use Rattle.reader.proofs.Recording.{recordedLast, recording, fixed-fits}
 use Rattle.reader.proofs.Reading.{reading}
 use borrow.Author.Needs.{needs}
 use Rattle.metadata.proofs.loop_end.Statement.{statement}
@@ -16,8 +16,8 @@ enum-known-q c = search needs
 enum-told : tie.Need-enum-told
 enum-told c = search needs
 
-not-metadata-requires : tie.Need-not-metadata-requires
-not-metadata-requires c κs = search needs
+metadata-refusal-requires : tie.Need-metadata-refusal-requires
+metadata-refusal-requires c κs = search needs
 
 same-length : tie.Need-same-length
 same-length c = search needs
@@ -44,7 +44,7 @@ loop-end-spec =
     number-u32-requires
     enum-known-q
     enum-told
-    not-metadata-requires
+    metadata-refusal-requires
     same-length
     returns
     cast-t10

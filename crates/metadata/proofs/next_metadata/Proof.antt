@@ -22,14 +22,14 @@ is-tag-requires c κs = ready-at (c .before .r .given .1) (c .before .before .be
 number-metadata-tag-requires : tie.Need-number-metadata-tag-requires
 number-metadata-tag-requires c κs = search (needs, reading)
 
-refused-requires : tie.Need-refused-requires
-refused-requires c κs = search needs
+step-of-requires : tie.Need-step-of-requires
+step-of-requires c κs = search needs
 
 same-length : tie.Need-same-length
 same-length c = search needs
 
 returns-2 : tie.Need-returns-2
-returns-2 c = noneNext _ (c .before .before .before .before .before .before .before .before .r .given .1) (c .before .before .before .number-metadata-tag .ensures) (c .before .before .before .before .before .before .is-tag .ensures (c .before .before .before .before .before .if1 .taken)) (c .refused .ensures)
+returns-2 c = noneNext _ (c .before .before .before .before .before .before .before .before .r .given .1) (c .before .before .before .number-metadata-tag .ensures) (c .before .before .before .before .before .before .is-tag .ensures (c .before .before .before .before .before .if1 .taken)) (c .step-of .ensures)
 
 is-tag-requires-2 : tie.Need-is-tag-requires-2
 is-tag-requires-2 c κs = ready-at (c .before .before .before .r .given .1) (c .before .before .before .before .before .before .before .pre) .within
@@ -43,15 +43,15 @@ enum-known-q c = search needs
 enum-told-2 : tie.Need-enum-told-2
 enum-told-2 c = search needs
 
-refused-requires-2 : tie.Need-refused-requires-2
-refused-requires-2 c κs = search needs
+step-of-requires-2 : tie.Need-step-of-requires-2
+step-of-requires-2 c κs = search needs
 
 same-length-2 : tie.Need-same-length-2
 same-length-2 c = search needs
 
 returns-3 : tie.Need-returns-3
 unfolding metadata
-returns-3 c = partNot (c .before .before .before .before .before .before .before .before .before .before .before .before .r .given .1) (c .before .enum-told2 .given .1) (c .refused2 .ensures) (c .before .before .before .before .before .number-metadata-tag2 .ensures)
+returns-3 c = partNot (c .before .before .before .before .before .before .before .before .before .before .before .before .r .given .1) (c .before .enum-told2 .given .1) (c .step-of2 .ensures) (c .before .before .before .before .before .number-metadata-tag2 .ensures)
 
 two-layouts-requires : tie.Need-two-layouts-requires
 two-layouts-requires c κs = got-ready (c .before .before .q .given .1) (c .before .before .before .before .before .before .number-metadata-tag2 .ensures)
@@ -65,14 +65,14 @@ returns-4 c = callNext _ (c .before .before .before .before .before .before .bef
 instruction-metadata-requires : tie.Need-instruction-metadata-requires
 instruction-metadata-requires c κs = search (needs, reading)
 
-without-record-requires : tie.Need-without-record-requires
-without-record-requires c κs = search needs
+metadata-step-requires : tie.Need-metadata-step-requires
+metadata-step-requires c κs = search needs
 
 same-length-4 : tie.Need-same-length-4
 same-length-4 c = search needs
 
 returns-5 : tie.Need-returns-5
-returns-5 c = at-step (c .before .before .before .before .before .before .before .before .before .before .r .given .1) (rw (c .without-record .ensures) (c .before .before .before .instruction-metadata .ensures .reader))
+returns-5 c = at-step (c .before .before .before .before .before .before .before .before .before .before .r .given .1) (rw (c .metadata-step .ensures) (c .before .before .before .instruction-metadata .ensures .reader))
 
 pub next-metadata-spec : {M : Type 1} → statement M
 next-metadata-spec =
@@ -83,20 +83,20 @@ next-metadata-spec =
     returns
     is-tag-requires
     number-metadata-tag-requires
-    refused-requires
+    step-of-requires
     same-length
     returns-2
     is-tag-requires-2
     number-metadata-tag-requires-2
     enum-known-q
     enum-told-2
-    refused-requires-2
+    step-of-requires-2
     same-length-2
     returns-3
     two-layouts-requires
     same-length-3
     returns-4
     instruction-metadata-requires
-    without-record-requires
+    metadata-step-requires
     same-length-4
     returns-5)

@@ -1,6 +1,6 @@
 use Rattle.metadata.proofs.Shapes.{oneLayout}
 use Rattle.reader.proofs.Reading.{reading}
-use Rattle.records.proofs.Recording.{recording}
+use Rattle.reader.proofs.Recording.{recording}
 use borrow.Author.Needs.{needs}
 use Rattle.metadata.proofs.select_exec_layout.Statement.{statement}
 use Rattle.metadata.proofs.select_exec_layout.Tie as tie
@@ -14,8 +14,8 @@ enum-known-q c = search needs
 enum-told : tie.Need-enum-told
 enum-told c = search needs
 
-not-metadata-requires : tie.Need-not-metadata-requires
-not-metadata-requires c κs = search needs
+metadata-refusal-requires : tie.Need-metadata-refusal-requires
+metadata-refusal-requires c κs = search needs
 
 same-length : tie.Need-same-length
 same-length c = search needs
@@ -23,14 +23,14 @@ same-length c = search needs
 returns : tie.Need-returns
 returns c = search (needs, reading, recording)
 
-items-at-requires : tie.Need-items-at-requires
-items-at-requires c κs = search needs
+list-at-requires : tie.Need-list-at-requires
+list-at-requires c κs = search needs
 
 same-length-2 : tie.Need-same-length-2
 same-length-2 c = search needs
 
 returns-2 : tie.Need-returns-2
-returns-2 c = oneLayout ((c .before .before .q) .given .1) ((c .before .before .before .before .before .before .number-select-cases) .ensures) ((c .items-at) .ensures)
+returns-2 c = oneLayout ((c .before .before .q) .given .1) ((c .before .before .before .before .before .before .number-select-cases) .ensures) ((c .list-at) .ensures)
 
 pub select-exec-layout-spec : {M : Type 1} → statement M
 select-exec-layout-spec =
@@ -39,9 +39,9 @@ select-exec-layout-spec =
     number-select-cases-requires
     enum-known-q
     enum-told
-    not-metadata-requires
+    metadata-refusal-requires
     same-length
     returns
-    items-at-requires
+    list-at-requires
     same-length-2
     returns-2)

@@ -1,7 +1,7 @@
 use native.Mathlib.Omega.{arith}
 use Rattle.metadata.proofs.Shapes.{slotRecord}
 use Rattle.reader.proofs.Reading.{reading}
-use Rattle.records.proofs.Recording.{recording, fixed-fits}
+use Rattle.reader.proofs.Recording.{recording, fixed-fits}
 use borrow.Author.Needs.{needs}
 use Rattle.metadata.proofs.slot_layout.Statement.{statement}
 use Rattle.metadata.proofs.slot_layout.Tie as tie
@@ -15,8 +15,8 @@ enum-known-q c = search needs
 enum-told : tie.Need-enum-told
 enum-told c = search needs
 
-not-metadata-requires : tie.Need-not-metadata-requires
-not-metadata-requires c κs = search needs
+metadata-refusal-requires : tie.Need-metadata-refusal-requires
+metadata-refusal-requires c κs = search needs
 
 same-length : tie.Need-same-length
 same-length c = search needs
@@ -43,7 +43,7 @@ slot-layout-spec =
     number-u16-requires
     enum-known-q
     enum-told
-    not-metadata-requires
+    metadata-refusal-requires
     same-length
     returns
     cast-t11

@@ -15,26 +15,26 @@ enum-known-q c = search needs
 enum-told : tie.Need-enum-told
 enum-told c = search needs
 
-refused-requires : tie.Need-refused-requires
-refused-requires c κs = search needs
+step-of-requires : tie.Need-step-of-requires
+step-of-requires c κs = search needs
 
 same-length : tie.Need-same-length
 same-length c = search needs
 
 returns : tie.Need-returns
-returns c = numberNot _ (c .before .enum-told .given .1) (c .refused .ensures) (c .before .before .before .before .before .number-slot-types .ensures)
+returns c = numberNot _ (c .before .enum-told .given .1) (c .step-of .ensures) (c .before .before .before .before .before .number-slot-types .ensures)
 
 number-slot-types-requires-2 : tie.Need-number-slot-types-requires-2
 number-slot-types-requires-2 c κs = got-ready (c .before .before .q .given .1) (c .before .before .before .before .before .before .number-slot-types .ensures)
 
-refused-requires-2 : tie.Need-refused-requires-2
-refused-requires-2 c κs = search needs
+step-of-requires-2 : tie.Need-step-of-requires-2
+step-of-requires-2 c κs = search needs
 
 same-length-2 : tie.Need-same-length-2
 same-length-2 c = search needs
 
 returns-2 : tie.Need-returns-2
-returns-2 c = numberThen (λ _. slotTypes (settingsOf (now (c .before .before .before .before .before .before .before .before .before .before .before .before .before .before .args .set)))) (c .before .before .before .before .before .before .q .given .1) (c .before .before .before .before .before .before .before .before .before .before .number-slot-types .ensures) (numberJust (c .refused2 .ensures) (c .before .before .before .number-slot-types2 .ensures))
+returns-2 c = numberThen (λ _. slotTypes (settingsOf (now (c .before .before .before .before .before .before .before .before .before .before .before .before .before .before .args .set)))) (c .before .before .before .before .before .before .q .given .1) (c .before .before .before .before .before .before .before .before .before .before .number-slot-types .ensures) (numberJust (c .step-of2 .ensures) (c .before .before .before .number-slot-types2 .ensures))
 
 pub two-layouts-spec : {M : Type 1} → statement M
 two-layouts-spec =
@@ -43,10 +43,10 @@ two-layouts-spec =
     number-slot-types-requires
     enum-known-q
     enum-told
-    refused-requires
+    step-of-requires
     same-length
     returns
     number-slot-types-requires-2
-    refused-requires-2
+    step-of-requires-2
     same-length-2
     returns-2)

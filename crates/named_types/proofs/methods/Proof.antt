@@ -2,7 +2,7 @@ use borrow.Author.Needs.{needs}
 use Rattle.vob24.specs.Grammar.{methods as methodsFormat}
 use Rattle.reader.proofs.Reading.{reading}
 use Rattle.reader.proofs.Laws.{got-ready}
-use Rattle.named_types.proofs.Laws.{methodsThen, granted-run, first-run, second-run}
+use Rattle.named_types.proofs.Laws.{methodsThen, accepted-run, first-run, second-run}
 use Rattle.named_types.proofs.methods.Statement.{statement}
 use Rattle.named_types.proofs.methods.Tie as tie
 
@@ -24,8 +24,8 @@ enum-known-q c = search needs
 enum-told-2 : tie.Need-enum-told-2
 enum-told-2 c = search needs
 
-refused-requires : tie.Need-refused-requires
-refused-requires c κs = search needs
+step-of-requires : tie.Need-step-of-requires
+step-of-requires c κs = search needs
 
 same-length : tie.Need-same-length
 same-length c = search needs
@@ -41,7 +41,7 @@ same-length-2 : tie.Need-same-length-2
 same-length-2 c = search needs
 
 returns-3 : tie.Need-returns-3
-returns-3 c = granted-run _ ((c .before .before .before .before .before .before .before .before .before .before .before .before .before .r) .given .1) ((c .before .before .before .before .before .before .q) .given .1) ((c .before .before .before .before .before .before .before .before .before .before .number-method-count) .ensures) ((c .if1) .taken) ((c .before .before .before .before .before .before .before .before .before .before .before .before .before .before .before .before .before .pre) .1) ((c .before .before .before .read-methods) .ensures)
+returns-3 c = accepted-run _ ((c .before .before .before .before .before .before .before .before .before .before .before .before .before .r) .given .1) ((c .before .before .before .before .before .before .q) .given .1) ((c .before .before .before .before .before .before .before .before .before .before .number-method-count) .ensures) ((c .if1) .taken) ((c .before .before .before .before .before .before .before .before .before .before .before .before .before .before .before .before .before .pre) .1) ((c .before .before .before .read-methods) .ensures)
 
 first-repeat-requires : tie.Need-first-repeat-requires
 first-repeat-requires c κs = search needs
@@ -71,7 +71,7 @@ methods-spec =
     number-method-count-requires
     enum-known-q
     enum-told-2
-    refused-requires
+    step-of-requires
     same-length
     returns-2
     read-methods-requires

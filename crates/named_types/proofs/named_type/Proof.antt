@@ -1,7 +1,7 @@
 use borrow.Author.Needs.{needs}
 use Rattle.vob24.specs.Grammar.{namedType}
 use Rattle.reader.proofs.Reading.{reading}
-use Rattle.second_pass.proofs.Laws.{granted-next}
+use Rattle.reader.proofs.Accepting.{accepted-next}
 use Rattle.named_types.proofs.named_type.Statement.{statement}
 use Rattle.named_types.proofs.named_type.Tie as tie
 
@@ -16,7 +16,7 @@ field-value-rttid-requires c κs = search needs
 
 methods-requires : tie.Need-methods-requires
 unfolding namedType
-methods-requires c κs = (search needs, granted-next ((c .before .before .before .field-value-rttid) .ensures) (granted-next ((c .before .before .before .before .before .before .before .field-value-meta) .ensures) (granted-next ((c .before .before .before .before .before .before .before .before .before .before .before .field-str) .ensures) ((c .before .before .before .before .before .before .before .before .before .before .before .before .before .before .before .pre) .1))))
+methods-requires c κs = (search needs, accepted-next ((c .before .before .before .field-value-rttid) .ensures) (accepted-next ((c .before .before .before .before .before .before .before .field-value-meta) .ensures) (accepted-next ((c .before .before .before .before .before .before .before .before .before .before .before .field-str) .ensures) ((c .before .before .before .before .before .before .before .before .before .before .before .before .before .before .before .pre) .1))))
 
 same-length : tie.Need-same-length
 same-length c = search needs

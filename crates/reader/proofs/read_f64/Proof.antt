@@ -12,8 +12,8 @@ enum-known-q c = search needs
 enum-told : tie.Need-enum-told
 enum-told c = search needs
 
-not-float-requires : tie.Need-not-float-requires
-not-float-requires c κs = search needs
+float-refusal-requires : tie.Need-float-refusal-requires
+float-refusal-requires c κs = search needs
 
 returns : tie.Need-returns
 returns c = search (needs, leaves)
@@ -31,7 +31,7 @@ read-f64-spec =
     read-u64-requires
     enum-known-q
     enum-told
-    not-float-requires
+    float-refusal-requires
     returns
     f64-of-requires
     returns-2)

@@ -12,8 +12,8 @@ enum-known-q c = search needs
 enum-told : tie.Need-enum-told
 enum-told c = search needs
 
-not-signed-requires : tie.Need-not-signed-requires
-not-signed-requires c κs = search needs
+signed-refusal-requires : tie.Need-signed-refusal-requires
+signed-refusal-requires c κs = search needs
 
 returns : tie.Need-returns
 returns c = search (needs, leaves)
@@ -31,7 +31,7 @@ read-i64-spec =
     read-u64-requires
     enum-known-q
     enum-told
-    not-signed-requires
+    signed-refusal-requires
     returns
     i64-of-requires
     returns-2)

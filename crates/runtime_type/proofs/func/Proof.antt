@@ -4,7 +4,7 @@ use lib.Dec.{eqb}
 use borrow.Author.Needs.{needs}
 use Rattle.reader.proofs.Reading.{reading}
 use Rattle.reader.proofs.Laws.{got-ready}
-use Rattle.records.proofs.Recording.{recording, lastThree, fixed-place}
+use Rattle.reader.proofs.Recording.{recording, lastThree, fixed-place}
 use Rattle.runtime_type.proofs.Laws.{listedTwo, rttids-place}
 use Rattle.runtime_type.specs.declared.RuntimeType.the-variants as kind
 use Rattle.runtime_type.specs.Records.{twoOf}
@@ -20,8 +20,8 @@ enum-known-q1 c = search (needs, reading, recording)
 enum-told : tie.Need-enum-told
 enum-told c = search (needs, reading, recording)
 
-not-type-requires : tie.Need-not-type-requires
-not-type-requires c κs = search (needs, reading, recording)
+type-refusal-requires : tie.Need-type-refusal-requires
+type-refusal-requires c κs = search (needs, reading, recording)
 
 same-length : tie.Need-same-length
 same-length c = search (needs, reading, recording)
@@ -38,8 +38,8 @@ enum-known-q2 c = search (needs, reading, recording)
 enum-told-2 : tie.Need-enum-told-2
 enum-told-2 c = search (needs, reading, recording)
 
-not-type-requires-2 : tie.Need-not-type-requires-2
-not-type-requires-2 c κs = search (needs, reading, recording)
+type-refusal-requires-2 : tie.Need-type-refusal-requires-2
+type-refusal-requires-2 c κs = search (needs, reading, recording)
 
 same-length-2 : tie.Need-same-length-2
 same-length-2 c = search (needs, reading, recording)
@@ -56,8 +56,8 @@ enum-known-q3 c = search (needs, reading, recording)
 enum-told-3 : tie.Need-enum-told-3
 enum-told-3 c = search (needs, reading, recording)
 
-not-type-requires-3 : tie.Need-not-type-requires-3
-not-type-requires-3 c κs = search (needs, reading, recording)
+type-refusal-requires-3 : tie.Need-type-refusal-requires-3
+type-refusal-requires-3 c κs = search (needs, reading, recording)
 
 same-length-3 : tie.Need-same-length-3
 same-length-3 c = search (needs, reading, recording)
@@ -65,17 +65,17 @@ same-length-3 c = search (needs, reading, recording)
 returns-3 : tie.Need-returns-3
 returns-3 c = search (needs, reading, recording)
 
-items-at-requires : tie.Need-items-at-requires
-items-at-requires c κs = got-ready ((c .before .before .before .before .before .before .before .before .before .before .before .before .before .before .before .q1) .given .1) ((c .before .before .before .before .before .before .before .before .before .before .before .before .before .before .before .before .before .before .before .number-bool) .ensures)
+list-at-requires : tie.Need-list-at-requires
+list-at-requires c κs = got-ready ((c .before .before .before .before .before .before .before .before .before .before .before .before .before .before .before .q1) .given .1) ((c .before .before .before .before .before .before .before .before .before .before .before .before .before .before .before .before .before .before .before .number-bool) .ensures)
 
-items-at-requires-2 : tie.Need-items-at-requires-2
-items-at-requires-2 c κs = got-ready ((c .before .before .before .before .before .before .before .before .before .q2) .given .1) ((c .before .before .before .before .before .before .before .before .before .before .before .before .before .number-rttids) .ensures)
+list-at-requires-2 : tie.Need-list-at-requires-2
+list-at-requires-2 c κs = got-ready ((c .before .before .before .before .before .before .before .before .before .q2) .given .1) ((c .before .before .before .before .before .before .before .before .before .before .before .before .before .number-rttids) .ensures)
 
 same-length-4 : tie.Need-same-length-4
 same-length-4 c = omega (arith, (c .before .before .before .before .before .before .before .before .before .before .before .before .before .before .before .before .before .before .before .before .before .number-bool) .kept .1 .1 .0, (c .before .before .before .before .before .before .before .before .before .before .before .before .before .before .number-rttids) .kept .1 .1 .1 .0, (c .before .before .before .before .before .before .before .number-rttids2) .kept .1 .1 .1 .0)
 
 returns-4 : tie.Need-returns-4
-returns-4 c = lastThree ((c .before .before .before .before .before .before .before .before .before .before .before .before .before .before .before .before .before .q1) .given .1) ((c .before .before .before .before .before .before .before .before .before .before .before .before .before .before .before .before .before .before .before .before .before .number-bool) .ensures) ((c .before .before .before .before .before .before .before .before .before .before .q2) .given .1) ((c .before .before .before .before .before .before .before .before .before .before .before .before .before .before .number-rttids) .ensures) ((c .before .before .before .q3) .given .1) ((c .before .before .before .before .before .before .before .number-rttids2) .ensures) (λ a m n p. twoOf (kind.Func (eqb a 1)) (p + 1) m n) (listedTwo ((c .before .items-at) .ensures) ((c .items-at2) .ensures) (fixed-place ((c .before .before .before .before .before .before .before .before .before .before .before .before .before .before .before .before .before .q1) .given .1) ((c .before .before .before .before .before .before .before .before .before .before .before .before .before .before .before .before .before .before .before .before .before .number-bool) .ensures)) (rttids-place _ ((c .before .before .before .before .before .before .before .before .before .before .q2) .given .1) ((c .before .before .before .before .before .before .before .before .before .before .before .before .before .before .number-rttids) .ensures)))
+returns-4 c = lastThree ((c .before .before .before .before .before .before .before .before .before .before .before .before .before .before .before .before .before .q1) .given .1) ((c .before .before .before .before .before .before .before .before .before .before .before .before .before .before .before .before .before .before .before .before .before .number-bool) .ensures) ((c .before .before .before .before .before .before .before .before .before .before .q2) .given .1) ((c .before .before .before .before .before .before .before .before .before .before .before .before .before .before .number-rttids) .ensures) ((c .before .before .before .q3) .given .1) ((c .before .before .before .before .before .before .before .number-rttids2) .ensures) (λ a m n p. twoOf (kind.Func (eqb a 1)) (p + 1) m n) (listedTwo ((c .before .list-at) .ensures) ((c .list-at2) .ensures) (fixed-place ((c .before .before .before .before .before .before .before .before .before .before .before .before .before .before .before .before .before .q1) .given .1) ((c .before .before .before .before .before .before .before .before .before .before .before .before .before .before .before .before .before .before .before .before .before .number-bool) .ensures)) (rttids-place _ ((c .before .before .before .before .before .before .before .before .before .before .q2) .given .1) ((c .before .before .before .before .before .before .before .before .before .before .before .before .before .before .number-rttids) .ensures)))
 
 pub func-spec : {M : Type 1} → statement M
 func-spec =
@@ -84,22 +84,22 @@ func-spec =
     number-bool-requires
     enum-known-q1
     enum-told
-    not-type-requires
+    type-refusal-requires
     same-length
     returns
     number-rttids-requires
     enum-known-q2
     enum-told-2
-    not-type-requires-2
+    type-refusal-requires-2
     same-length-2
     returns-2
     number-rttids-requires-2
     enum-known-q3
     enum-told-3
-    not-type-requires-3
+    type-refusal-requires-3
     same-length-3
     returns-3
-    items-at-requires
-    items-at-requires-2
+    list-at-requires
+    list-at-requires-2
     same-length-4
     returns-4)

@@ -5,9 +5,9 @@ use borrow.Author.Needs.{needs}
 use Rattle.reader.proofs.Reading.{reading}
 use Rattle.reader.proofs.Laws.{got-ready}
 use Rattle.reader.proofs.Parts.{tag-most, chooseAt}
-use Rattle.second_pass.proofs.Laws.{granted-part}
+use Rattle.reader.proofs.Accepting.{accepted-part}
 use Rattle.vob24.specs.Grammar.{runtimeType, runtimeVariants}
-use Rattle.records.proofs.Recording.{recording, recordedEmpty, variantAt}
+use Rattle.reader.proofs.Recording.{recording, recordedEmpty, variantAt}
 use Rattle.runtime_type.proofs.Laws.{last-tag}
 use Rattle.runtime_type.specs.declared.RuntimeType.the-variants as kind
 use Rattle.runtime_type.specs.Records.{bareOf, typeRecords, runtimeTypeOf}
@@ -23,8 +23,8 @@ enum-known-q c = search (needs, reading, recording)
 enum-told : tie.Need-enum-told
 enum-told c = search (needs, reading, recording)
 
-not-type-requires : tie.Need-not-type-requires
-not-type-requires c κs = search (needs, reading, recording)
+type-refusal-requires : tie.Need-type-refusal-requires
+type-refusal-requires c κs = search (needs, reading, recording)
 
 same-length : tie.Need-same-length
 same-length c = search (needs, reading, recording)
@@ -59,11 +59,11 @@ func-requires c κs = search (needs, reading, recording)
 
 struct-type-requires : tie.Need-struct-type-requires
 unfolding runtimeType
-struct-type-requires c κs = (search (needs, reading, recording), granted-part (λ x k. chooseAt (runtimeVariants (settingsOf (now (c .before .before .before .before .before .before .before .before .before .before .before .args .set)))) 8 refl ((c .before .before .before .q) .given .1) ((c .before .match2) .keys9) ((c .before .before .before .before .before .before .before .number-runtime-tag) .ensures) k) ((c .before .before .before .before .before .before .before .before .before .before .before .pre) .1))
+struct-type-requires c κs = (search (needs, reading, recording), accepted-part (λ x k. chooseAt (runtimeVariants (settingsOf (now (c .before .before .before .before .before .before .before .before .before .before .before .args .set)))) 8 refl ((c .before .before .before .q) .given .1) ((c .before .match2) .keys9) ((c .before .before .before .before .before .before .before .number-runtime-tag) .ensures) k) ((c .before .before .before .before .before .before .before .before .before .before .before .pre) .1))
 
 interface-requires : tie.Need-interface-requires
 unfolding runtimeType
-interface-requires c κs = (search (needs, reading, recording), granted-part (λ x k. chooseAt (runtimeVariants (settingsOf (now (c .before .before .before .before .before .before .before .before .before .before .before .args .set)))) 9 refl ((c .before .before .before .q) .given .1) ((c .before .match2) .keys10) ((c .before .before .before .before .before .before .before .number-runtime-tag) .ensures) k) ((c .before .before .before .before .before .before .before .before .before .before .before .pre) .1))
+interface-requires c κs = (search (needs, reading, recording), accepted-part (λ x k. chooseAt (runtimeVariants (settingsOf (now (c .before .before .before .before .before .before .before .before .before .before .before .args .set)))) 9 refl ((c .before .before .before .q) .given .1) ((c .before .match2) .keys10) ((c .before .before .before .before .before .before .before .number-runtime-tag) .ensures) k) ((c .before .before .before .before .before .before .before .before .before .before .before .pre) .1))
 
 tuple-requires : tie.Need-tuple-requires
 tuple-requires c κs = search (needs, reading, recording)
@@ -172,7 +172,7 @@ runtime-type-spec =
     number-runtime-tag-requires
     enum-known-q
     enum-told
-    not-type-requires
+    type-refusal-requires
     same-length
     returns
     basic-requires

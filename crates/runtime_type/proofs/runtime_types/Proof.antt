@@ -4,10 +4,10 @@ use borrow.Author.Needs.{needs}
 use Rattle.reader.proofs.Reading.{reading}
 use Rattle.reader.proofs.Laws.{Turns}
 use Rattle.reader.proofs.Parts.{list-done, list-refused}
-use Rattle.second_pass.proofs.Laws.{granted-item}
+use Rattle.reader.proofs.Accepting.{accepted-item}
 use Rattle.reader.specs.declared.Step.the-variants.{Taken}
 use Rattle.vob24.specs.Grammar.{runtimeType}
-use Rattle.records.proofs.Numbering.{itemTaken}
+use Rattle.reader.proofs.Numbering.{itemTaken}
 use Rattle.runtime_type.proofs.Laws.{type-got, typeRefused, refused-as}
 use Rattle.runtime_type.proofs.runtime_types.Statement.{statement}
 use Rattle.runtime_type.proofs.runtime_types.Tie as tie
@@ -36,8 +36,8 @@ enum-known-q c = search (needs, reading)
 enum-told-2 : tie.Need-enum-told-2 Inv-loop μ-loop
 enum-told-2 c = search (needs, reading)
 
-refused-requires : tie.Need-refused-requires Inv-loop μ-loop
-refused-requires c κs = search (needs, reading)
+step-of-requires : tie.Need-step-of-requires Inv-loop μ-loop
+step-of-requires c κs = search (needs, reading)
 
 same-length : tie.Need-same-length Inv-loop μ-loop
 same-length c = search (needs, reading)
@@ -49,7 +49,7 @@ loop-holds : tie.Need-loop-holds Inv-loop μ-loop
 loop-holds c = search (needs, reading)
 
 runtime-type-requires : tie.Need-runtime-type-requires Inv-loop μ-loop
-runtime-type-requires c κs = (search (needs, reading), granted-item ((c .before .before .before .before .before .before .before .before .before .before .before .r) .given .1) ((c .before .before .before .before .q) .given .1) ((c .before .before .before .before .before .before .before .before .number-count) .ensures) ((c .before .loop-test) .taken) ((c .before .before .loop) .inv) (c .before .before .before .before .before .before .before .before .before .before .before .before .before .before .before .pre .1))
+runtime-type-requires c κs = (search (needs, reading), accepted-item ((c .before .before .before .before .before .before .before .before .before .before .before .r) .given .1) ((c .before .before .before .before .q) .given .1) ((c .before .before .before .before .before .before .before .before .number-count) .ensures) ((c .before .loop-test) .taken) ((c .before .before .loop) .inv) (c .before .before .before .before .before .before .before .before .before .before .before .before .before .before .before .pre .1))
 
 enum-known-item : tie.Need-enum-known-item Inv-loop μ-loop
 enum-known-item c = search (needs, reading)
@@ -57,14 +57,14 @@ enum-known-item c = search (needs, reading)
 enum-told-3 : tie.Need-enum-told-3 Inv-loop μ-loop
 enum-told-3 c = search (needs, reading)
 
-type-refused-requires : tie.Need-type-refused-requires Inv-loop μ-loop
-type-refused-requires c κs = search (needs, reading)
+type-step-requires : tie.Need-type-step-requires Inv-loop μ-loop
+type-step-requires c κs = search (needs, reading)
 
 same-length-2 : tie.Need-same-length-2 Inv-loop μ-loop
 same-length-2 c = search (needs, reading)
 
 returns-3 : tie.Need-returns-3 Inv-loop μ-loop
-returns-3 c = list-refused ((c .before .before .before .before .before .before .before .before .before .before .before .before .before .before .before .before .before .r) .given .1) ((c .before .before .before .before .before .before .before .before .before .before .q) .given .1) ((c .before .before .before .before .before .before .before .before .before .before .before .before .before .before .number-count) .ensures) ((c .before .before .before .before .before .before .before .loop-test) .taken) ((c .before .before .before .before .before .before .before .before .loop) .inv) (typeRefused ((c .before .enum-told3) .given .1) ((c .type-refused) .ensures) ((c .before .before .before .before .before .runtime-type) .ensures)) (refused-as ((c .before .enum-told3) .given .1) ((c .type-refused) .ensures))
+returns-3 c = list-refused ((c .before .before .before .before .before .before .before .before .before .before .before .before .before .before .before .before .before .r) .given .1) ((c .before .before .before .before .before .before .before .before .before .before .q) .given .1) ((c .before .before .before .before .before .before .before .before .before .before .before .before .before .before .number-count) .ensures) ((c .before .before .before .before .before .before .before .loop-test) .taken) ((c .before .before .before .before .before .before .before .before .loop) .inv) (typeRefused ((c .before .enum-told3) .given .1) ((c .type-step) .ensures) ((c .before .before .before .before .before .runtime-type) .ensures)) (refused-as ((c .before .enum-told3) .given .1) ((c .type-step) .ensures))
 
 sub-k : tie.Need-sub-k Inv-loop μ-loop
 sub-k c = search (needs, reading)
@@ -93,14 +93,14 @@ runtime-types-spec =
     number-count-requires
     enum-known-q
     enum-told-2
-    refused-requires
+    step-of-requires
     same-length
     returns-2
     loop-holds
     runtime-type-requires
     enum-known-item
     enum-told-3
-    type-refused-requires
+    type-step-requires
     same-length-2
     returns-3
     sub-k

@@ -1,8 +1,8 @@
 use borrow.Author.Needs.{needs}
 use Rattle.vob24.specs.Settings.{settings, settingsOf}
 use Rattle.vob24.specs.Sections.{sectionOf, functionsOf}
-use Rattle.calls.proofs.Laws.{section-since, section-granted, section-refused, section-taken}
-use Rattle.second_pass.proofs.Laws.{unknown}
+use Rattle.calls.proofs.Laws.{section-since, section-accepted, section-refused, section-taken}
+use Rattle.reader.proofs.Accepting.{unknown}
 use Rattle.sections.proofs.read_section.Statement.{statement}
 use Rattle.sections.proofs.read_section.Tie as tie
 
@@ -37,7 +37,7 @@ returns c = section-refused settings (functionsOf ((c .before .before .before .b
 
 section-requires-2 : tie.Need-section-requires-2
 unfolding settingsOf
-section-requires-2 c κs = (search needs, section-granted settings (functionsOf ((c .before .before .before .before .before .before .before .before .before .before .before .before .args) .section)) (sectionOf ((c .before .before .before .before .before .before .before .before .before .before .before .before .args) .section)) (c .before .before .before .before .before .before .before .before .opening .ensures) (c .before .before .before .before .before .before .section .ensures) (c .before .before .before .closed .ensures) (c .before .enum-told .given .1))
+section-requires-2 c κs = (search needs, section-accepted settings (functionsOf ((c .before .before .before .before .before .before .before .before .before .before .before .before .args) .section)) (sectionOf ((c .before .before .before .before .before .before .before .before .before .before .before .before .args) .section)) (c .before .before .before .before .before .before .before .before .opening .ensures) (c .before .before .before .before .before .before .section .ensures) (c .before .before .before .closed .ensures) (c .before .enum-told .given .1))
 
 same-length-2 : tie.Need-same-length-2
 same-length-2 c = search needs

@@ -1,6 +1,6 @@
 use mathlib.Core.Path.{refl, sym}
 use Rattle.select_case.proofs.Laws.{select-got, select-not, answers}
-use Rattle.records.proofs.Numbering.{numberedDone, itemRefused, itemTaken, numbering}
+use Rattle.reader.proofs.Numbering.{numberedDone, itemRefused, itemTaken, numbering}
 use borrow.Author.Needs.{needs}
 use Rattle.reader.proofs.Reading.{reading}
 use Rattle.reader.proofs.Laws.{Turns}
@@ -42,14 +42,14 @@ enum-known-item c = search (needs, reading, numbering, answers)
 enum-told-2 : tie.Need-enum-told-2 Inv-loop μ-loop
 enum-told-2 c = search (needs, reading, numbering, answers)
 
-select-refused-requires : tie.Need-select-refused-requires Inv-loop μ-loop
-select-refused-requires c κs = search (needs, reading, numbering, answers)
+number-refusal-requires : tie.Need-number-refusal-requires Inv-loop μ-loop
+number-refusal-requires c κs = search (needs, reading, numbering, answers)
 
 same-length-2 : tie.Need-same-length-2 Inv-loop μ-loop
 same-length-2 c = search (needs, reading, numbering, answers)
 
 returns-2 : tie.Need-returns-2 Inv-loop μ-loop
-returns-2 c = itemRefused ((c .before .before .before .before .before .before .before .before .before .before .q) .given .1) ((c .before .before .before .before .before .before .before .before .before .before .before .before .before .before .number-count) .ensures) ((c .before .before .before .before .before .before .before .loop-test) .taken) ((c .before .before .before .before .before .before .before .before .loop) .inv) ((c .before .before .before .before .before .select-case) .ensures) (sym (select-not ((c .before .enum-told2) .given .1))) ((c .select-refused) .ensures)
+returns-2 c = itemRefused ((c .before .before .before .before .before .before .before .before .before .before .q) .given .1) ((c .before .before .before .before .before .before .before .before .before .before .before .before .before .before .number-count) .ensures) ((c .before .before .before .before .before .before .before .loop-test) .taken) ((c .before .before .before .before .before .before .before .before .loop) .inv) ((c .before .before .before .before .before .select-case) .ensures) (sym (select-not ((c .before .enum-told2) .given .1))) ((c .number-refusal) .ensures)
 
 sub-k : tie.Need-sub-k Inv-loop μ-loop
 sub-k c = search (needs, reading, numbering, answers)
@@ -81,7 +81,7 @@ number-select-cases-spec =
     select-case-requires
     enum-known-item
     enum-told-2
-    select-refused-requires
+    number-refusal-requires
     same-length-2
     returns-2
     sub-k

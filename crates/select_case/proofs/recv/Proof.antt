@@ -1,5 +1,5 @@
 use native.Mathlib.Omega.{arith}
-use Rattle.records.proofs.Recording.{recordedNot, lostThen, lostLast, lastFour, recording, fixed-fits}
+use Rattle.reader.proofs.Recording.{recordedNot, lostThen, lostLast, lastFour, recording, fixed-fits}
 use Rattle.reader.proofs.Reading.{reading}
 use Rattle.reader.proofs.Laws.{got-ready}
 use lib.Dec.{eqb}
@@ -18,8 +18,8 @@ enum-known-q1 c = search needs
 enum-told : tie.Need-enum-told
 enum-told c = search needs
 
-not-select-requires : tie.Need-not-select-requires
-not-select-requires c κs = search needs
+select-refusal-requires : tie.Need-select-refusal-requires
+select-refusal-requires c κs = search needs
 
 same-length : tie.Need-same-length
 same-length c = search needs
@@ -36,8 +36,8 @@ enum-known-q2 c = search needs
 enum-told-2 : tie.Need-enum-told-2
 enum-told-2 c = search needs
 
-not-select-requires-2 : tie.Need-not-select-requires-2
-not-select-requires-2 c κs = search needs
+select-refusal-requires-2 : tie.Need-select-refusal-requires-2
+select-refusal-requires-2 c κs = search needs
 
 same-length-2 : tie.Need-same-length-2
 same-length-2 c = search needs
@@ -54,8 +54,8 @@ enum-known-q3 c = search needs
 enum-told-3 : tie.Need-enum-told-3
 enum-told-3 c = search needs
 
-not-select-requires-3 : tie.Need-not-select-requires-3
-not-select-requires-3 c κs = search needs
+select-refusal-requires-3 : tie.Need-select-refusal-requires-3
+select-refusal-requires-3 c κs = search needs
 
 same-length-3 : tie.Need-same-length-3
 same-length-3 c = search needs
@@ -72,14 +72,14 @@ enum-known-q4 c = search needs
 enum-told-4 : tie.Need-enum-told-4
 enum-told-4 c = search needs
 
-not-select-requires-4 : tie.Need-not-select-requires-4
-not-select-requires-4 c κs = search needs
+select-refusal-requires-4 : tie.Need-select-refusal-requires-4
+select-refusal-requires-4 c κs = search needs
 
 same-length-4 : tie.Need-same-length-4
 same-length-4 c = omega (arith, (c .before .before .before .before .before .before .before .before .before .before .before .before .before .before .before .before .before .before .before .before .before .before .before .before .before .before .number-u16) .kept .1 .1 .0, (c .before .before .before .before .before .before .before .before .before .before .before .before .before .before .before .before .before .before .before .number-u162) .kept .1 .1 .0, (c .before .before .before .before .before .before .before .before .before .before .before .before .number-u163) .kept .1 .1 .0, (c .before .before .before .before .before .number-bool) .kept .1 .1 .0)
 
 returns-4 : tie.Need-returns-4
-returns-4 c = recordedNot (lostThen ((c .before .before .before .before .before .before .before .before .before .before .before .before .before .before .before .before .before .before .before .before .before .before .q1) .given .1) ((c .before .before .before .before .before .before .before .before .before .before .before .before .before .before .before .before .before .before .before .before .before .before .before .before .before .before .number-u16) .ensures) λ _. lostThen ((c .before .before .before .before .before .before .before .before .before .before .before .before .before .before .before .q2) .given .1) ((c .before .before .before .before .before .before .before .before .before .before .before .before .before .before .before .before .before .before .before .number-u162) .ensures) λ _. lostThen ((c .before .before .before .before .before .before .before .before .q3) .given .1) ((c .before .before .before .before .before .before .before .before .before .before .before .before .number-u163) .ensures) λ _. lostLast ((c .before .enum-told4) .given .1) ((c .not-select4) .ensures) ((c .before .before .before .before .before .number-bool) .ensures))
+returns-4 c = recordedNot (lostThen ((c .before .before .before .before .before .before .before .before .before .before .before .before .before .before .before .before .before .before .before .before .before .before .q1) .given .1) ((c .before .before .before .before .before .before .before .before .before .before .before .before .before .before .before .before .before .before .before .before .before .before .before .before .before .before .number-u16) .ensures) λ _. lostThen ((c .before .before .before .before .before .before .before .before .before .before .before .before .before .before .before .q2) .given .1) ((c .before .before .before .before .before .before .before .before .before .before .before .before .before .before .before .before .before .before .before .number-u162) .ensures) λ _. lostThen ((c .before .before .before .before .before .before .before .before .q3) .given .1) ((c .before .before .before .before .before .before .before .before .before .before .before .before .number-u163) .ensures) λ _. lostLast ((c .before .enum-told4) .given .1) ((c .select-refusal4) .ensures) ((c .before .before .before .before .before .number-bool) .ensures))
 
 cast-t24 : tie.Need-cast-t24
 cast-t24 c = record { fits = fixed-fits ((c .before .before .before .before .before .before .before .before .before .before .before .before .before .before .before .before .before .before .before .before .before .before .q1) .given .1) ((c .before .before .before .before .before .before .before .before .before .before .before .before .before .before .before .before .before .before .before .before .before .before .before .before .before .before .number-u16) .ensures) (λ i. omega (arith, (c .before .before .before .before .before .before .before .before .before .before .before .before .before .before .before .before .before .before .before .before .before .before .before .before .before .before .before .before .before .shared-slice-known) .given i)) }
@@ -103,25 +103,25 @@ recv-spec =
     number-u16-requires
     enum-known-q1
     enum-told
-    not-select-requires
+    select-refusal-requires
     same-length
     returns
     number-u16-requires-2
     enum-known-q2
     enum-told-2
-    not-select-requires-2
+    select-refusal-requires-2
     same-length-2
     returns-2
     number-u16-requires-3
     enum-known-q3
     enum-told-3
-    not-select-requires-3
+    select-refusal-requires-3
     same-length-3
     returns-3
     number-bool-requires
     enum-known-q4
     enum-told-4
-    not-select-requires-4
+    select-refusal-requires-4
     same-length-4
     returns-4
     cast-t24

@@ -1,7 +1,7 @@
 use Rattle.vob24.specs.Grammar.{selectCase}
 use Rattle.select_case.proofs.Laws.{selectAt, select-one}
 use Rattle.reader.proofs.Reading.{reading}
-use Rattle.records.proofs.Recording.{recording}
+use Rattle.reader.proofs.Recording.{recording}
 use borrow.Author.Needs.{needs}
 use Rattle.select_case.proofs.select_case.Statement.{statement}
 use Rattle.select_case.proofs.select_case.Tie as tie
@@ -15,8 +15,8 @@ enum-known-q c = search needs
 enum-told : tie.Need-enum-told
 enum-told c = search needs
 
-not-select-requires : tie.Need-not-select-requires
-not-select-requires c κs = search needs
+select-refusal-requires : tie.Need-select-refusal-requires
+select-refusal-requires c κs = search needs
 
 same-length : tie.Need-same-length
 same-length c = search needs
@@ -50,7 +50,7 @@ select-case-spec =
     number-select-tag-requires
     enum-known-q
     enum-told
-    not-select-requires
+    select-refusal-requires
     same-length
     returns
     send-requires

@@ -3,7 +3,7 @@ use Rattle.reader.proofs.Reading.{reading}
 use Rattle.reader.proofs.Laws.{got-ready}
 use mathlib.Core.Path.{refl}
 use Rattle.select_case.specs.declared.SelectCase.the-variants.{Send}
-use Rattle.records.proofs.Recording.{lastThree, recording, fixed-fits}
+use Rattle.reader.proofs.Recording.{lastThree, recording, fixed-fits}
 use borrow.Author.Needs.{needs}
 use Rattle.select_case.proofs.send.Statement.{statement}
 use Rattle.select_case.proofs.send.Tie as tie
@@ -17,8 +17,8 @@ enum-known-q1 c = search needs
 enum-told : tie.Need-enum-told
 enum-told c = search needs
 
-not-select-requires : tie.Need-not-select-requires
-not-select-requires c κs = search needs
+select-refusal-requires : tie.Need-select-refusal-requires
+select-refusal-requires c κs = search needs
 
 same-length : tie.Need-same-length
 same-length c = search needs
@@ -35,8 +35,8 @@ enum-known-q2 c = search needs
 enum-told-2 : tie.Need-enum-told-2
 enum-told-2 c = search needs
 
-not-select-requires-2 : tie.Need-not-select-requires-2
-not-select-requires-2 c κs = search needs
+select-refusal-requires-2 : tie.Need-select-refusal-requires-2
+select-refusal-requires-2 c κs = search needs
 
 same-length-2 : tie.Need-same-length-2
 same-length-2 c = search needs
@@ -53,8 +53,8 @@ enum-known-q3 c = search needs
 enum-told-3 : tie.Need-enum-told-3
 enum-told-3 c = search needs
 
-not-select-requires-3 : tie.Need-not-select-requires-3
-not-select-requires-3 c κs = search needs
+select-refusal-requires-3 : tie.Need-select-refusal-requires-3
+select-refusal-requires-3 c κs = search needs
 
 same-length-3 : tie.Need-same-length-3
 same-length-3 c = search needs
@@ -84,19 +84,19 @@ send-spec =
     number-u16-requires
     enum-known-q1
     enum-told
-    not-select-requires
+    select-refusal-requires
     same-length
     returns
     number-u16-requires-2
     enum-known-q2
     enum-told-2
-    not-select-requires-2
+    select-refusal-requires-2
     same-length-2
     returns-2
     number-u16-requires-3
     enum-known-q3
     enum-told-3
-    not-select-requires-3
+    select-refusal-requires-3
     same-length-3
     returns-3
     cast-t19

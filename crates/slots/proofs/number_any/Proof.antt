@@ -1,5 +1,5 @@
 use Rattle.reader.proofs.Reading.{reading}
-use Rattle.records.proofs.Numbering.{numberedItems, numbering}
+use Rattle.reader.proofs.Numbering.{numberedItems, numbering}
 use mathlib.Core.Path.{ap, sym}
 use Rattle.reader.specs.Contract.{numberOf}
 use Rattle.vob24.specs.Leaves.{slotType}
@@ -31,14 +31,14 @@ enum-known-r c = search needs
 enum-told-2 : tie.Need-enum-told-2
 enum-told-2 c = search needs
 
-with-requires : tie.Need-with-requires
-with-requires c κs = search needs
+number-of-requires : tie.Need-number-of-requires
+number-of-requires c κs = search needs
 
 same-length-2 : tie.Need-same-length-2
 same-length-2 c = search needs
 
 returns-2 : tie.Need-returns-2
-returns-2 c = numberedItems ((c .before .before .before .before .before .before .before .before .q) .given .1) ((c .before .before .before .before .before .before .before .before .before .before .before .before .number-count) .ensures) slotType ((c .before .before .before .before .before .slot-types) .ensures) ((c .with) .ensures)
+returns-2 c = numberedItems ((c .before .before .before .before .before .before .before .before .q) .given .1) ((c .before .before .before .before .before .before .before .before .before .before .before .before .number-count) .ensures) slotType ((c .before .before .before .before .before .slot-types) .ensures) ((c .number-of) .ensures)
 
 same-length-3 : tie.Need-same-length-3
 same-length-3 c = search needs
@@ -58,7 +58,7 @@ number-any-spec =
     slot-types-requires
     enum-known-r
     enum-told-2
-    with-requires
+    number-of-requires
     same-length-2
     returns-2
     same-length-3

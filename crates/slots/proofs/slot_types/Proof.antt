@@ -53,14 +53,14 @@ returns-2 c = at-step ((c .before .before .before .before .before .before .befor
 number-any-requires : tie.Need-number-any-requires
 number-any-requires c κs = (ready-at ((c .before .before .before .before .r) .given .1) (c .before .before .before .before .before .before .before .before .pre))
 
-refused-requires : tie.Need-refused-requires
-refused-requires c κs = search needs
+step-of-requires : tie.Need-step-of-requires
+step-of-requires c κs = search needs
 
 same-length-2 : tie.Need-same-length-2
 same-length-2 c = let e = ⊎-elim (λ w. w .6 ∙ keeps-other (w .5 .left) (w .2 .ensures)) (λ w. w .1) ((c .before .before .before .before .before .if1) .came) in search (needs, e)
 
 returns-3 : tie.Need-returns-3
-returns-3 c = at-step ((c .before .before .before .before .before .before .before .before .r) .given .1) (numberJust ((c .refused) .ensures) (rw (⊎-elim (λ w. w .6 ∙ keeps-other (w .5 .left) (w .2 .ensures)) (λ w. w .1) ((c .before .before .before .before .before .if1) .came)) at ((c .before .before .before .number-any) .ensures)))
+returns-3 c = at-step ((c .before .before .before .before .before .before .before .before .r) .given .1) (numberJust ((c .step-of) .ensures) (rw (⊎-elim (λ w. w .6 ∙ keeps-other (w .5 .left) (w .2 .ensures)) (λ w. w .1) ((c .before .before .before .before .before .if1) .came)) at ((c .before .before .before .number-any) .ensures)))
 
 pub slot-types-spec : {M : Type 1} → statement M
 slot-types-spec =
@@ -81,6 +81,6 @@ slot-types-spec =
     same-length
     returns-2
     number-any-requires
-    refused-requires
+    step-of-requires
     same-length-2
     returns-3)

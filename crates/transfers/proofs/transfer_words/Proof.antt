@@ -1,5 +1,5 @@
 use native.Mathlib.Omega.{arith}
-use Rattle.items.proofs.Asking.{list-refused, list-skipped, list-asked, list-room, list-small, list-items}
+use Rattle.in_place.proofs.Asking.{list-refused, list-skipped, list-asked, list-room, list-small, list-items}
 use Rattle.transfers.proofs.Words.{transfers-asked}
 use borrow.Author.Needs.{needs}
 use Rattle.transfers.proofs.transfer_words.Statement.{statement}

@@ -2,7 +2,7 @@ use native.Mathlib.Omega.{arith}
 use denote.Ref.{now}
 use Rattle.transfers.proofs.Words.{transfer-stands, transfer-past, transfer-turn}
 use borrow.Author.Needs.{needs}
-use Rattle.items.proofs.Asking.{asking, Asking, asking-here, asking-not, asking-more}
+use Rattle.in_place.proofs.Asking.{asking, Asking, asking-here, asking-not, asking-more}
 use Prim.Native.Nat.{_-_}
 use Rattle.vob24.specs.Grammar.{transfer}
 use Rattle.transfers.specs.Words.{transferOver}

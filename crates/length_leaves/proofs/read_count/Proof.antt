@@ -1,0 +1,37 @@
+use Rattle.reader.proofs.Leaves.{leaves}
+use borrow.Author.Needs.{needs}
+use Rattle.length_leaves.proofs.read_count.Statement.{statement}
+use Rattle.length_leaves.proofs.read_count.Tie as tie
+
+read-u32-requires : tie.Need-read-u32-requires
+read-u32-requires c κs = search needs
+
+enum-known-q : tie.Need-enum-known-q
+enum-known-q c = search needs
+
+enum-told : tie.Need-enum-told
+enum-told c = search needs
+
+returns : tie.Need-returns
+returns c = search (needs, leaves)
+
+size-requires : tie.Need-size-requires
+size-requires c κs = search needs
+
+counted-requires : tie.Need-counted-requires
+counted-requires c κs = search (needs, leaves)
+
+returns-2 : tie.Need-returns-2
+returns-2 c = search (needs, leaves)
+
+pub read-count-spec : {M : Type 1} → statement M
+read-count-spec =
+    tie.close
+    (tie.spec
+    read-u32-requires
+    enum-known-q
+    enum-told
+    returns
+    size-requires
+    counted-requires
+    returns-2)

@@ -1,7 +1,0 @@
-pub mod Counting
-pub mod Asking
-pub mod Paying
-pub mod Orders
-pub mod Lists
-pub mod Methods
-pub mod Granting

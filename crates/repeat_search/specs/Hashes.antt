@@ -1,0 +1,60 @@
+-- The hash of a key, under a seed: keys that are the same have the same hash.
+use Prim.Native.Nat.{ℕ, suc, zero, _+_, _-_, _*_, _/_, _%_, _≤_, _<_}
+use mathlib.Core.Path.{_≡_}
+use mathlib.Core.List.{List}
+use lib.ListN.{length, getD}
+use lib.Bits.{bitXor}
+use lib.Dec.{eqb, ltb}
+use Rattle.format.specs.Trace.{pick}
+use Rattle.format.specs.Reading.{little, part}
+use Rattle.repeat_search.specs.Keys.{Key}
+
+abbrev pub mixed : ℕ → ℕ → ℕ → ℕ
+mixed seed h w = bitXor h w % 4294967296 * seed + bitXor h w / 4294967296
+
+-- two words at once, each by a factor of its own
+abbrev pub folded : ℕ → ℕ → ℕ → ℕ → ℕ
+folded seed h v w = bitXor (bitXor (h % 4294967296) v * seed) (bitXor (h / 4294967296) w * ((seed + 1013904242) % 4294967296))
+
+-- of the second lane
+abbrev pub secondSeed : ℕ → ℕ
+secondSeed seed = (seed + 2773480762) % 4294967296
+
+unfoldable pub wordIn : List ℕ → ℕ → ℕ
+wordIn x j = little (part x j 4)
+
+-- fewer than eight bytes
+unfoldable pub shortHash : ℕ → ℕ → List ℕ → ℕ
+shortHash seed h x =
+    pick (eqb (length x) 0) h
+    (pick (ltb (length x) 4) (folded seed h (getD x 0 0 + 256 * getD x (length x / 2) 0) (getD x (length x - 1) 0))
+    (folded seed h (wordIn x 0) (wordIn x (length x - 4))))
+
+-- m blocks of sixteen bytes from j on in two lanes, and then the last sixteen, or of fewer the first eight and the last eight
+unfoldable pub lanesHash : ℕ → ℕ → ℕ → List ℕ → ℕ → ℕ → ℕ
+lanesHash seed lane1 lane2 x j zero =
+    bitXor (folded seed lane1 (wordIn x (length x - 16)) (wordIn x (length x - 16 + 4)))
+    (folded (secondSeed seed) lane2 (wordIn x (length x - 8)) (wordIn x (length x - 4)))
+lanesHash seed lane1 lane2 x j (suc m) = lanesHash seed (folded seed lane1 (wordIn x j) (wordIn x (j + 4))) (folded (secondSeed seed) lane2 (wordIn x (j + 8)) (wordIn x (j + 12))) x (j + 16) m
+
+unfoldable pub bytesHash : ℕ → ℕ → List ℕ → ℕ
+bytesHash seed h x = pick (ltb (length x) 8) (shortHash seed h x) (lanesHash seed h h x 0 ((length x - 1) / 16))
+
+unfoldable pub textHash : ℕ → ℕ → List ℕ → ℕ
+textHash seed h x = bytesHash seed (mixed seed h (length x)) x
+
+unfoldable pub keyHash : ℕ → Key → ℕ
+keyHash seed x = mixed seed (mixed seed (textHash seed (textHash seed 0 (x .packageName)) (x .name)) 0) 0
+
+-- ---- of bytes in a row: what the code asks and tells
+
+-- n bytes at start, to be hashed under a seed
+pub record PartAt (seed : ℕ) (s : List ℕ) (start n : ℕ) : Type 0 where
+  pub room : start + n ≤ length s
+  pub small : seed < 4294967296
+
+pub record JoinIs (seed lane1 lane2 : ℕ) (s : List ℕ) (p end q : ℕ) : Type 0 where
+  pub is : q ≡ bitXor (folded seed lane1 (little (part s p 4)) (little (part s (p + 4) 4))) (folded (secondSeed seed) lane2 (little (part s (end - 8) 4)) (little (part s (end - 4) 4)))
+
+pub record HashIs (seed h : ℕ) (x : List ℕ) (q : ℕ) : Type 0 where
+  pub is : q ≡ bytesHash seed h x

@@ -1,0 +1,560 @@
+// The first item of a table that repeats one before it. A filter says which items are to be compared with all before them.
+// Stands in for the HashMap and HashSet by which serialize.rs finds repeats.
+ghost use mathlib.Core.Path.{_≡_};
+ghost use Prim.Native.Nat.{_+_, _≤_, _<_};
+ghost use lib.ListN.{length};
+ghost use Rattle.format.specs.Reading.{part};
+ghost use Rattle.in_place.specs.Tables.{formatIn};
+ghost use Rattle.repeat_search.specs.Keys.{repeatAt, FirstRepeat};
+ghost use Rattle.repeat_search.specs.Marks.{Marked, AllNew};
+ghost use Rattle.repeat_search.specs.Hashes.{mixed, folded, secondSeed, PartAt, JoinIs, HashIs};
+ghost use Rattle.repeat_search.specs.Filters.{maskOf, Lacks, Entered, Outside, Classed, Chosen, Noted, Filter, Probed, PassedOr, Suspects, FirstOr};
+ghost use Rattle.repeat_search.specs.Tables.{keysAt, ExemptIs, MarkIs, TextHash, PackageHash, KeyHash, Standing, Within};
+ghost use Rattle.in_place.specs.Contract.{TextAt, Placed, Items};
+use in_place::Table;
+
+// Fewer items are told apart by one word of marks.
+const FEW: usize = 24;
+
+// Fewer have a small filter.
+const MIDDLING: usize = 1024;
+
+// Fewer have a large filter, of which each word then has 1.5 items; from here on suspects are looked for first.
+const MANY: usize = 24576;
+
+// The suspects of so many items are looked for at once: twelve to a word of the filter.
+const CLASS: usize = 196608;
+
+// An item repeats one before it; too many were compared in vain; or go on, with so many comparisons left.
+enum Probe {
+    Repeat,
+    TooMany,
+    Next(usize),
+}
+
+// The first repeat, or the number of items where there is none; or too many were compared in vain.
+enum Outcome {
+    First(usize),
+    GaveUp,
+}
+
+// ---- whether an item repeats one before it
+
+// May the name at p be repeated?
+fn exempt(s: &[u8], table: Table, p: usize) -> bool
+    requires { ⌜ TextAt (now s) p ⌝ }
+    ensures { λ q. ⌜ ExemptIs table (now (s .entry)) p q ⌝ }
+{
+    match table {
+        Table::Fields => in_place::blank(s, p),
+        Table::Methods(_) => false,
+        Table::Identities => in_place::blank(s, p),
+    }
+}
+
+fn wide(b: u8) -> u64
+    ensures { λ q. ⌜ (q ≡ b) × (q < 256) ⌝ }
+{
+    b as u64
+}
+
+// A bit for the text at p, by its length and its last byte; that of an empty text is the length's.
+fn mark(s: &[u8], p: usize) -> u64
+    requires { ⌜ TextAt (now s) p ⌝ }
+    ensures { λ q. ⌜ MarkIs (now (s .entry)) p q ⌝ }
+{
+    let n = in_place::word_at(s, p);
+    1 << ((n as u64 + wide(s[p + 3 + n])) % 64)
+}
+
+// Does the item at p, which has the mark m, repeat one of the i before it? It repeats none if its mark is new.
+fn repeats_one(s: &[u8], table: Table, from: usize, i: usize, p: usize, marks: u64, m: u64) -> bool
+    requires { ⌜ (Standing table (now s) from i p) × (Marked (keysAt table (now s) from) i marks) × (MarkIs (now s) p m) ⌝ }
+    ensures { λ q. ⌜ q ≡ repeatAt (keysAt table (now (s .entry)) from) i ⌝ }
+{
+    let x = marks & m;
+    if x != m {
+        return false;
+    }
+    if exempt(s, table, p) {
+        return false;
+    }
+    in_place::seen(s, table, from, i, p)
+}
+
+// Have the n items from `from` on different marks? Most tables of a few have.
+fn all_new(s: &[u8], table: Table, from: usize, n: usize) -> bool
+    requires { ⌜ Items (formatIn table) n (now s) from ⌝ }
+    ensures { λ q. ⌜ AllNew (keysAt table (now (s .entry)) from) n q ⌝ }
+{
+    let mut p = from;
+    let mut i = 0;
+    let mut marks: u64 = 0;
+    while i < n {
+        let m = mark(s, p);
+        let x = marks & m;
+        if x == m {
+            return false;
+        }
+        marks = marks | m;
+        p = in_place::past_item(s, table, p);
+        i += 1;
+    }
+    true
+}
+
+// The first of the n items from `from` on that repeats one before it, or n: each whose mark is not new is compared with all before it.
+fn scan(s: &[u8], table: Table, from: usize, n: usize) -> usize
+    requires { ⌜ Items (formatIn table) n (now s) from ⌝ }
+    ensures { λ q. ⌜ FirstRepeat (keysAt table (now (s .entry)) from) n q ⌝ }
+{
+    let mut p = from;
+    let mut i = 0;
+    let mut marks: u64 = 0;
+    while i < n {
+        let m = mark(s, p);
+        if repeats_one(s, table, from, i, p, marks, m) {
+            return i;
+        }
+        marks = marks | m;
+        p = in_place::past_item(s, table, p);
+        i += 1;
+    }
+    n
+}
+
+// ---- a hash of an item's key: its package, then its name
+
+fn mix(seed: u64, h: u64, w: u64) -> u64
+    requires { ⌜ seed < 4294967296 ⌝ }
+    ensures { λ q. ⌜ q ≡ mixed seed h w ⌝ }
+{
+    let x = h ^ w;
+    (x % 4294967296) * seed + x / 4294967296
+}
+
+// Two words at once: half of the hash and a word by the seed, and by another factor.
+fn fold(seed: u64, h: u64, v: u64, w: u64) -> u64
+    requires { ⌜ (seed < 4294967296) × (v < 4294967296) × (w < 4294967296) ⌝ }
+    ensures { λ q. ⌜ q ≡ folded seed h v w ⌝ }
+{
+    let x = (h % 4294967296) ^ v;
+    let y = (h / 4294967296) ^ w;
+    let other = (seed + 1013904242) % 4294967296;
+    (x * seed) ^ (y * other)
+}
+
+// Fewer than eight bytes: the first four and the last four, or else the first, the middle and the last.
+fn hash_short(s: &[u8], start: usize, len: usize, seed: u64, h: u64) -> u64
+    requires { ⌜ (PartAt seed (now s) start len) × (len < 8) ⌝ }
+    ensures { λ q. ⌜ HashIs seed h (part (now (s .entry)) start len) q ⌝ }
+{
+    if len == 0 {
+        return h;
+    }
+    let end = start + len;
+    if len < 4 {
+        let v = wide(s[start]) + 256 * wide(s[start + len / 2]);
+        return fold(seed, h, v, wide(s[end - 1]));
+    }
+    let v = in_place::word_at(s, start) as u64;
+    let w = in_place::word_at(s, end - 4) as u64;
+    fold(seed, h, v, w)
+}
+
+// Of the second lane. No two words are taken in by one factor, or a bit of one could make up for a bit of the other under many seeds.
+fn second_seed(seed: u64) -> u64
+    requires { ⌜ seed < 4294967296 ⌝ }
+    ensures { λ q. ⌜ q ≡ secondSeed seed ⌝ }
+{
+    (seed + 2773480762) % 4294967296
+}
+
+// The two lanes taken on over the eight bytes at p and the eight before end, and joined.
+fn join(s: &[u8], p: usize, end: usize, seed: u64, lane1: u64, lane2: u64) -> u64
+    requires { ⌜ (p + 8 ≤ end) × (end ≤ length (now s)) × (seed < 4294967296) ⌝ }
+    ensures { λ q. ⌜ JoinIs seed lane1 lane2 (now (s .entry)) p end q ⌝ }
+{
+    let v1 = in_place::word_at(s, p) as u64;
+    let w1 = in_place::word_at(s, p + 4) as u64;
+    let v2 = in_place::word_at(s, end - 8) as u64;
+    let w2 = in_place::word_at(s, end - 4) as u64;
+    fold(seed, lane1, v1, w1) ^ fold(second_seed(seed), lane2, v2, w2)
+}
+
+// More than sixteen bytes: sixteen at a time in two lanes, which do not wait for each other, and then the last sixteen.
+fn hash_long(s: &[u8], start: usize, len: usize, seed: u64, h: u64) -> u64
+    requires { ⌜ (PartAt seed (now s) start len) × (16 < len) ⌝ }
+    ensures { λ q. ⌜ HashIs seed h (part (now (s .entry)) start len) q ⌝ }
+{
+    let second = second_seed(seed);
+    let mut lane1 = h;
+    let mut lane2 = h;
+    let mut p = start;
+    let mut k = len;
+    while 16 < k {
+        let v1 = in_place::word_at(s, p) as u64;
+        let w1 = in_place::word_at(s, p + 4) as u64;
+        let v2 = in_place::word_at(s, p + 8) as u64;
+        let w2 = in_place::word_at(s, p + 12) as u64;
+        lane1 = fold(seed, lane1, v1, w1);
+        lane2 = fold(second, lane2, v2, w2);
+        p += 16;
+        k -= 16;
+    }
+    let end = p + k;
+    join(s, end - 16, end, seed, lane1, lane2)
+}
+
+// The hash h taken on over the len bytes at start.
+fn hash_bytes(s: &[u8], start: usize, len: usize, seed: u64, h: u64) -> u64
+    requires { ⌜ PartAt seed (now s) start len ⌝ }
+    ensures { λ q. ⌜ HashIs seed h (part (now (s .entry)) start len) q ⌝ }
+{
+    if len < 8 {
+        return hash_short(s, start, len, seed, h);
+    }
+    if 16 < len {
+        return hash_long(s, start, len, seed, h);
+    }
+    join(s, start, start + len, seed, h, h)
+}
+
+// The hash h taken on over the text at p. Its length goes in first, times the seed: or a name and a package would have the hash of each other
+// split of their bytes, and two lanes that start from what is known could be made to cancel out under every seed.
+fn hash_text(s: &[u8], p: usize, seed: u64, h: u64) -> u64
+    requires { ⌜ (TextAt (now s) p) × (seed < 4294967296) ⌝ }
+    ensures { λ q. ⌜ TextHash seed h (now (s .entry)) p q ⌝ }
+{
+    let n = in_place::word_at(s, p);
+    hash_bytes(s, p + 4, n, seed, mix(seed, h, n as u64))
+}
+
+// No package has the hash of an empty one.
+fn hash_package(s: &[u8], table: Table, p: usize, seed: u64) -> u64
+    requires { ⌜ (Placed (formatIn table) (now s) p) × (seed < 4294967296) ⌝ }
+    ensures { λ q. ⌜ PackageHash seed table (now (s .entry)) p q ⌝ }
+{
+    match table {
+        Table::Fields => 0,
+        Table::Methods(_) => 0,
+        Table::Identities => {
+            let package = in_place::package_at(s, p);
+            hash_text(s, package, seed, 0)
+        }
+    }
+}
+
+fn hash_key(s: &[u8], table: Table, p: usize, seed: u64) -> u64
+    requires { ⌜ (Placed (formatIn table) (now s) p) × (seed < 4294967296) ⌝ }
+    ensures { λ q. ⌜ KeyHash seed table (now (s .entry)) p q ⌝ }
+{
+    let h = hash_text(s, p, seed, hash_package(s, table, p, seed));
+    mix(seed, mix(seed, h, 0), 0)
+}
+
+// ---- filters: a hash that was entered has left six bits in one of the words
+
+fn mask(h: u64) -> u64
+    ensures { λ q. ⌜ q ≡ maskOf h ⌝ }
+{
+    (1 << (h / 1048576 % 64))
+        | (1 << (h / 4294967296 % 64))
+        | (1 << (h / 274877906944 % 64))
+        | (1 << (h / 17592186044416 % 64))
+        | (1 << (h / 1125899906842624 % 64))
+        | (1 << (h / 72057594037927936 % 64))
+}
+
+// Are some of h's bits not in the filter?
+fn lacks(filter: &[u64], h: u64) -> bool
+    requires { ⌜ 0 < length (now filter) ⌝ }
+    ensures { λ q. ⌜ Lacks (now (filter .entry)) h q ⌝ }
+{
+    let m = mask(h);
+    let k = (h as usize) & (filter.len() - 1);
+    let x = filter[k] & m;
+    x != m
+}
+
+// Enters h, and tells whether some of its bits were not there before.
+fn enter(filter: &mut [u64], h: u64) -> bool
+    requires { ⌜ 0 < length (now filter) ⌝ }
+    ensures { λ q. ⌜ Entered (now (filter .entry)) h (now (filter .exit)) q ⌝ }
+{
+    let m = mask(h);
+    let k = (h as usize) & (filter.len() - 1);
+    let w = filter[k];
+    filter[k] = w | m;
+    let x = w & m;
+    x != m
+}
+
+// Is the class of h not from lo to hi?
+fn outside(h: u64, lo: u64, hi: u64) -> bool
+    ensures { λ q. ⌜ Outside lo hi h q ⌝ }
+{
+    // Of the lower half, which is even: the upper half stays below the seed.
+    let class = h / 65536 % 65536;
+    if class < lo {
+        return true;
+    }
+    hi <= class
+}
+
+// ---- a pass over the items
+
+// Does the item at p repeat one of the i before it? Asked where its class is from lo to hi and it is a suspect. At most `left` items are still
+// to be compared with all before them in vain.
+fn probed(
+    s: &[u8],
+    table: Table,
+    from: usize,
+    i: usize,
+    p: usize,
+    lo: u64,
+    hi: u64,
+    seed: u64,
+    left: usize,
+    filter: &mut [u64],
+    suspects: &[u64],
+) -> Probe
+    requires { ⌜ (Standing table (now s) from i p) × (Filter (Chosen lo hi (now suspects)) seed (keysAt table (now s) from) i (now filter)) × (seed < 4294967296) × (0 < length (now suspects)) ⌝ }
+    ensures { λ q. ⌜ Probed (Chosen lo hi (now (suspects .entry))) seed (keysAt table (now (s .entry)) from) i (now (filter .exit)) q ⌝ }
+{
+    let h = hash_key(s, table, p, seed);
+    if outside(h, lo, hi) {
+        return Probe::Next(left);
+    }
+    if lacks(suspects, h) {
+        return Probe::Next(left);
+    }
+    if enter(filter, h) {
+        return Probe::Next(left);
+    }
+    if exempt(s, table, p) {
+        return Probe::Next(left);
+    }
+    if left == 0 {
+        return Probe::TooMany;
+    }
+    if in_place::seen(s, table, from, i, p) {
+        return Probe::Repeat;
+    }
+    Probe::Next(left - 1)
+}
+
+// The first repeat, of the suspects whose class is from lo to hi, by a filter that is empty yet.
+fn pass(
+    s: &[u8],
+    table: Table,
+    from: usize,
+    n: usize,
+    lo: u64,
+    hi: u64,
+    seed: u64,
+    filter: &mut [u64],
+    suspects: &[u64],
+) -> Outcome
+    requires { ⌜ (Items (formatIn table) n (now s) from) × (0 < length (now filter)) × (seed < 4294967296) × (0 < length (now suspects)) ⌝ }
+    ensures { λ q. ⌜ PassedOr (Chosen lo hi (now (suspects .entry))) seed (keysAt table (now (s .entry)) from) n q ⌝ }
+{
+    let mut left: usize = 32;
+    let mut p = from;
+    let mut i = 0;
+    while i < n {
+        match probed(s, table, from, i, p, lo, hi, seed, left, filter, suspects) {
+            Probe::Repeat => {
+                return Outcome::First(i);
+            }
+            Probe::TooMany => {
+                return Outcome::GaveUp;
+            }
+            Probe::Next(l) => {
+                left = l;
+            }
+        }
+        p = in_place::past_item(s, table, p);
+        i += 1;
+    }
+    Outcome::First(n)
+}
+
+// Enters h, if it is of these classes, and among the suspects too if its bits were in the filter before.
+fn note(h: u64, lo: u64, hi: u64, filter: &mut [u64], suspects: &mut [u64])
+    requires { ⌜ (0 < length (now filter)) × (0 < length (now suspects)) ⌝ }
+    ensures { λ q. ⌜ Noted lo hi h (now (filter .entry)) (now (filter .exit)) (now (suspects .entry)) (now (suspects .exit)) ⌝ }
+{
+    if outside(h, lo, hi) {
+        return;
+    }
+    if enter(filter, h) {
+        return;
+    }
+    enter(suspects, h);
+}
+
+// Finds the suspects among the n items of these classes, by a filter and a set of suspects that are empty yet.
+fn suspect(
+    s: &[u8],
+    table: Table,
+    from: usize,
+    n: usize,
+    lo: u64,
+    hi: u64,
+    seed: u64,
+    filter: &mut [u64],
+    suspects: &mut [u64],
+)
+    requires { ⌜ (Items (formatIn table) n (now s) from) × (0 < length (now filter)) × (seed < 4294967296) × (0 < length (now suspects)) ⌝ }
+    ensures { λ q. ⌜ Suspects lo hi seed (keysAt table (now (s .entry)) from) n (now (suspects .exit)) ⌝ }
+{
+    let mut p = from;
+    let mut i = 0;
+    while i < n {
+        let h = hash_key(s, table, p, seed);
+        note(h, lo, hi, filter, suspects);
+        p = in_place::past_item(s, table, p);
+        i += 1;
+    }
+}
+
+fn clear(filter: &mut [u64]) {
+    let mut i = 0;
+    while i < filter.len() {
+        filter[i] = 0;
+        i += 1;
+    }
+}
+
+// ---- tables of each size
+
+// The first repeat of a small table under this seed: one pass with a small filter, each item being a suspect.
+fn few(s: &[u8], table: Table, from: usize, n: usize, seed: u64) -> Outcome
+    requires { ⌜ (Items (formatIn table) n (now s) from) × (seed < 4294967296) ⌝ }
+    ensures { λ q. ⌜ FirstOr (keysAt table (now (s .entry)) from) n q ⌝ }
+{
+    let mut filter = [0u64; 1024];
+    let suspects = [18446744073709551615u64; 1];
+    pass(s, table, from, n, 0, 65536, seed, &mut filter, &suspects)
+}
+
+fn middle(s: &[u8], table: Table, from: usize, n: usize, seed: u64) -> Outcome
+    requires { ⌜ (Items (formatIn table) n (now s) from) × (seed < 4294967296) ⌝ }
+    ensures { λ q. ⌜ FirstOr (keysAt table (now (s .entry)) from) n q ⌝ }
+{
+    let mut filter = [0u64; 16384];
+    let suspects = [18446744073709551615u64; 1];
+    pass(s, table, from, n, 0, 65536, seed, &mut filter, &suspects)
+}
+
+// The first repeat of the items of these classes: a pass that finds the suspects, about one in thirty, and one that compares them. A filter that
+// the second alone could rest on has room for an eighth of the items.
+fn two_passes(s: &[u8], table: Table, from: usize, n: usize, lo: u64, hi: u64, seed: u64) -> Outcome
+    requires { ⌜ (Items (formatIn table) n (now s) from) × (seed < 4294967296) ⌝ }
+    ensures { λ q. ⌜ PassedOr (Classed lo hi) seed (keysAt table (now (s .entry)) from) n q ⌝ }
+{
+    let mut filter = [0u64; 16384];
+    let mut suspects = [0u64; 2048];
+    suspect(s, table, from, n, lo, hi, seed, &mut filter, &mut suspects);
+    clear(&mut filter);
+    pass(s, table, from, n, lo, hi, seed, &mut filter, &suspects)
+}
+
+// The first repeat of any table under this seed: one pass, or two for each 196608 items.
+fn many(s: &[u8], table: Table, from: usize, n: usize, seed: u64) -> Outcome
+    requires { ⌜ (Items (formatIn table) n (now s) from) × (seed < 4294967296) ⌝ }
+    ensures { λ q. ⌜ FirstOr (keysAt table (now (s .entry)) from) n q ⌝ }
+{
+    if n < MANY {
+        return middle(s, table, from, n, seed);
+    }
+    let parts = n / CLASS + 1;
+    let classes = 65536 / (parts as u64) + 1;
+    let mut first = n;
+    let mut lo: u64 = 0;
+    while lo < 65536 {
+        let hi = lo + classes;
+        let Outcome::First(q) = two_passes(s, table, from, first, lo, hi, seed) else {
+            return Outcome::GaveUp;
+        };
+        first = q;
+        lo = hi;
+    }
+    Outcome::First(first)
+}
+
+// The place past the n items from `from` on.
+fn past_items(s: &[u8], table: Table, from: usize, n: usize) -> usize
+    requires { ⌜ Items (formatIn table) n (now s) from ⌝ }
+    ensures { λ q. ⌜ Within (now (s .entry)) from q ⌝ }
+{
+    let mut p = from;
+    let mut k = n;
+    while 0 < k {
+        p = in_place::past_item(s, table, p);
+        k -= 1;
+    }
+    p
+}
+
+// A seed that depends on every byte of the table, by a hash under a seed that no filter takes: names can't be made to collide under it
+// without changing it.
+fn fresh_seed(s: &[u8], table: Table, from: usize, n: usize, seed: u64) -> u64
+    requires { ⌜ (Items (formatIn table) n (now s) from) × (seed < 4294967296) ⌝ }
+    ensures { λ q. ⌜ q < 4294967296 ⌝ }
+{
+    let end = past_items(s, table, from, n);
+    if end <= from {
+        return seed;
+    }
+    let h = hash_bytes(s, from, end - from, 3266489917, seed);
+    2147483649 + h / 65536 % 1073741824 * 2
+}
+
+// The first repeat, with a large filter or a small one. Names that were made to have the same hash under one seed are told apart under the
+// next. The first seed stands apart: a function that is called twice is not merged into this one, and the large filter's frame stays out of it.
+fn searched(s: &[u8], table: Table, from: usize, n: usize, large: bool) -> usize
+    requires { ⌜ Items (formatIn table) n (now s) from ⌝ }
+    ensures { λ q. ⌜ FirstRepeat (keysAt table (now (s .entry)) from) n q ⌝ }
+{
+    let mut seed: u64 = 2654435761;
+    if large {
+        if let Outcome::First(first) = many(s, table, from, n, seed) {
+            return first;
+        }
+    } else if let Outcome::First(first) = few(s, table, from, n, seed) {
+        return first;
+    }
+    let mut k: usize = 1;
+    while k < 16 {
+        seed = fresh_seed(s, table, from, n, seed);
+        if large {
+            if let Outcome::First(first) = many(s, table, from, n, seed) {
+                return first;
+            }
+        } else if let Outcome::First(first) = few(s, table, from, n, seed) {
+            return first;
+        }
+        k += 1;
+    }
+    scan(s, table, from, n)
+}
+
+// The first of the n items from `from` on that repeats one before it, or n. `searched` is called twice, so that the filters' frames stay out of
+// this function: most tables need none.
+pub fn first_repeat(s: &[u8], table: Table, from: usize, n: usize) -> usize
+    requires { ⌜ Items (formatIn table) n (now s) from ⌝ }
+    ensures { λ q. ⌜ FirstRepeat (keysAt table (now (s .entry)) from) n q ⌝ }
+{
+    if n < FEW {
+        if all_new(s, table, from, n) {
+            return n;
+        }
+        return scan(s, table, from, n);
+    }
+    if n < MIDDLING {
+        return searched(s, table, from, n, false);
+    }
+    searched(s, table, from, n, true)
+}

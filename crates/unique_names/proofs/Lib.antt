@@ -1,0 +1,7 @@
+pub mod Counting
+pub mod Asking
+pub mod Paying
+pub mod Orders
+pub mod Lists
+pub mod Methods
+pub mod Accepting
