@@ -27,7 +27,7 @@ use Rattle.reader.specs.declared.Cursor.{Cursor}
 use Rattle.reader.specs.declared.Refusal.{Refusal}
 use Rattle.reader.specs.declared.Step.{Step}
 use Rattle.reader.specs.declared.Step.the-variants.{Taken, Refused}
-use Rattle.calls.specs.Contract.{answerOf, from, opened, Opens, ended, closed, Ends, Closes, Since, Within, ReadCall, SectionCall}
+use Rattle.calls.specs.Contract.{answerOf, from, opened, Opens, ended, closed, Ends, Closes, Since, StaysWithin, ReadCall, SectionCall}
 use Rattle.calls.specs.declared.Answer.{Answer}
 
 -- ---- the three questions
@@ -261,7 +261,7 @@ module _ (set : Settings) (n : ℕ) (x : Section) {s : List ℕ} {p b : ℕ} {r�
 -- ---- the call on a whole pack
 
 module _ (set : Settings) {s : List ℕ} {b : ℕ} {r₀ r : Step} {t₀ e : List ℕ} (o : Opens s 0 b r₀) (k : Reader (pack set) s r₀ t₀ r e) where
-  pub read-within : Within (length s) r
+  pub read-within : StaysWithin (length s) r
   read-within = record { place = λ c i. let y : ReadyAt s c = rw i at (k .ready) in y .within }
 
   pub read-passed : {r′ : Step} → Ends (length s) r r′ → Passed (pack set) (vob.wholeTrace set s) s 0 b r₀ r′

@@ -68,5 +68,5 @@ pub record Since (p b : ℕ) (r : Step) : Type 0 where
   pub left : (c : Cursor) → r ≡ Taken c → c .left ≤ b
 
 -- It stays within n bytes.
-pub record Within (n : ℕ) (r : Step) : Type 0 where
+pub record StaysWithin (n : ℕ) (r : Step) : Type 0 where
   pub place : (c : Cursor) → r ≡ Taken c → c .place ≤ n

@@ -4,7 +4,7 @@ ghost use mathlib.Core.Path.{_≡_};
 ghost use Prim.Native.Nat.{_≤_};
 ghost use lib.ListN.{length};
 ghost use lib.Seq.{paste};
-ghost use Rattle.calls.specs.Contract.{Opens, Since, Within, Ends, Closes, ended};
+ghost use Rattle.calls.specs.Contract.{Opens, Since, StaysWithin, Ends, Closes, ended};
 use reader::Cursor;
 use reader::Refusal;
 use reader::Step;
@@ -56,7 +56,7 @@ pub fn opening(pack: &[u8], place: usize, budget: u64) -> Step
 
 // Nothing after the end?
 pub fn ended(first: Step, length: usize) -> Step
-    requires { ⌜ Within length first ⌝ }
+    requires { ⌜ StaysWithin length first ⌝ }
     ensures { λ q. ⌜ Ends length first q ⌝ }
 {
     let Step::Taken(c) = first else {
@@ -126,7 +126,7 @@ pub fn opening_whole(pack: &[u8], budget: u64) -> Step
 }
 
 pub fn closed_whole(first: Step, length: usize, budget: u64, room: usize) -> Answer
-    requires { ⌜ Within length first ⌝ }
+    requires { ⌜ StaysWithin length first ⌝ }
     requires { ⌜ Since 0 budget (ended length first) ⌝ }
     ensures { λ q. ⌜ Closes 0 budget room (ended length first) q ⌝ }
 {

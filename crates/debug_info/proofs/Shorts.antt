@@ -23,7 +23,7 @@ use Rattle.reader.specs.declared.Number.the-variants.{Got}
 use Rattle.reader.proofs.Gather.{read, read-take}
 use Rattle.reader.proofs.Leaves.{fetched}
 use Rattle.reader.proofs.Settles.{guard-yes, field-yes}
-use Rattle.lists.specs.Runs.{moved, Runs, Copied}
+use Rattle.lists.specs.Runs.{advanced, Runs, Copied}
 use Rattle.lists.specs.declared.Rest.{Rest}
 use Rattle.lists.proofs.Copying.{byte-at}
 use Rattle.lists.proofs.Items.{Item, runs-of, runs-one, runs-join}
@@ -114,7 +114,7 @@ begins-past : {s : List ℕ} {p w x : ℕ} → Begins s p (suc w) x → Begins s
 unfolding little
 begins-past {s} {p} {w} {x} k = record { room = omega (arith, k .room); bytes = k .bytes .1; is = above x (getD s p 0) (little (read w s (p + 1))) (k .bytes .0) (k .is) }
 
-runs-begun : {s : List ℕ} {c : Cursor} {w x v j n : ℕ} {t : List ℕ} → Begins s (c .place) w x → ReadyAt s c → 0 < n → j ≤ w → Packs 4 0 x v j → Runs sourceU32 s c t n (record { items = n - 1; at = moved c j 1 }) (set t (c .at) v)
+runs-begun : {s : List ℕ} {c : Cursor} {w x v j n : ℕ} {t : List ℕ} → Begins s (c .place) w x → ReadyAt s c → 0 < n → j ≤ w → Packs 4 0 x v j → Runs sourceU32 s c t n (record { items = n - 1; at = advanced c j 1 }) (set t (c .at) v)
 unfolding words wordsLeaf
 runs-begun {s} {c} {w} {v = v} k r h i a =
     runs-one {v = num v} h r
@@ -127,17 +127,17 @@ runs-begun {s} {c} {w} {v = v} k r h i a =
 
 -- the eight bytes were there
 module _ {s : List ℕ} {c d : Cursor} {x : ℕ} {q : Number} (g : q ≡ Got x d) (f : Fetches 8 s c q) (r : ReadyAt s c) {n : ℕ} {t t′ : List ℕ} {z : Rest} where
-  pub runs-eight : 8 ≤ n → bitAnd x 9259542123273814144 ≡ 0 → Copied (1 ∷ []) 8 s (c .place) t (c .at) t′ → z ≡ record { items = n - 8; at = moved c 8 8 } → Runs sourceU32 s c t n z t′
+  pub runs-eight : 8 ≤ n → bitAnd x 9259542123273814144 ≡ 0 → Copied (1 ∷ []) 8 s (c .place) t (c .at) t′ → z ≡ record { items = n - 8; at = advanced c 8 8 } → Runs sourceU32 s c t n z t′
   runs-eight h o a e =
       let k = begins (fetched g f) in
       let low = none-high 8 s (c .place) (k .bytes) (rw (k .is) at o) in
       runs-of {ws = 1 ∷ []} {m = 8} r h (omega (arith, k .room)) (omega arith) (λ p i l. one-byte s p (omega (arith, k .room)) (low p i (omega arith))) a (omega arith) (omega arith) e
 
-  pub runs-short : {v j : ℕ} → 0 < n → j ≤ 4 → Packs 4 0 x v j → t′ ≡ set t (c .at) v → z ≡ record { items = n - 1; at = moved c j 1 } → Runs sourceU32 s c t n z t′
+  pub runs-short : {v j : ℕ} → 0 < n → j ≤ 4 → Packs 4 0 x v j → t′ ≡ set t (c .at) v → z ≡ record { items = n - 1; at = advanced c j 1 } → Runs sourceU32 s c t n z t′
   runs-short h i a w e = rw (w, e) (runs-begun (begins (fetched g f)) r h (omega arith) a)
 
   -- a number of one byte, and a second one
-  pub runs-pair : {v j u i : ℕ} {t₁ : List ℕ} → 2 ≤ n → j ≡ 1 → Packs 4 0 x v j → t₁ ≡ set t (c .at) v → i ≤ 4 → Packs 4 0 (x / 256) u i → t′ ≡ set t₁ (c .at + 1) u → z ≡ record { items = n - 2; at = moved c (1 + i) 2 } → Runs sourceU32 s c t n z t′
+  pub runs-pair : {v j u i : ℕ} {t₁ : List ℕ} → 2 ≤ n → j ≡ 1 → Packs 4 0 x v j → t₁ ≡ set t (c .at) v → i ≤ 4 → Packs 4 0 (x / 256) u i → t′ ≡ set t₁ (c .at + 1) u → z ≡ record { items = n - 2; at = advanced c (1 + i) 2 } → Runs sourceU32 s c t n z t′
   runs-pair {v} {j} {u} {i} h o a w k b y e =
       let m = begins (fetched g f) in
       let l = runs-begun {n = n} {t = t} m r (omega arith) (omega arith) (rw o at a) in

@@ -12,7 +12,7 @@ use Rattle.calls.specs.declared.Answer.{Answer}
 use Rattle.calls.specs.Contract.{answerOf, SectionCall}
 use Rattle.position.specs.Moving.{positionOf, Moves, Fits}
 use Rattle.position.specs.declared.Position.{Position}
-use Rattle.position.specs.Call.{LentCall}
+use Rattle.position.specs.Contract.{LentCall}
 
 module _ {n : ℕ} {x : Section} {s : List ℕ} {at : Position} {t : List ℕ} {q : Answer} {t′ : List ℕ} (k : SectionCall settings n x s (at .place) (at .budget) t q t′) where
   -- the bytes taken lie in the pack

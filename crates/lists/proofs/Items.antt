@@ -24,7 +24,7 @@ use Rattle.reader.specs.declared.Refusal.{Refusal}
 use Rattle.reader.proofs.Settles.{guard-yes, field-yes}
 use Rattle.reader.proofs.Leaves.{Narrow, narrow-byte, narrow-half, narrow-word}
 use Rattle.reader.proofs.Laws.{sets-append, takes-ready, thenReads, Turns, turns-done, turns-refused}
-use Rattle.lists.specs.Runs.{moved, Runs, width, numbersAt, wordsAt, Copied, Low}
+use Rattle.lists.specs.Runs.{advanced, Runs, width, numbersAt, wordsAt, Copied, Low}
 use Rattle.lists.specs.declared.Rest.{Rest}
 use Rattle.lists.proofs.Copying.{byte-at, numbers-length}
 
@@ -34,7 +34,7 @@ pub record Item (f : Format) (ws : List ℕ) (s : List ℕ) (p : ℕ) : Type 0 w
   pub settles : (b : ℕ) → settle b (trace f s p) ≡ taken value (p + width ws) b
   pub shows : words f value ≡ numbersAt ws s p
 
-item-takes : {f : Format} {ws s t : List ℕ} {c : Cursor} (i : Item f ws s (c .place)) → Takes f s c t (i .value) (moved c (width ws) (length ws)) (sets t (c .at) (numbersAt ws s (c .place)))
+item-takes : {f : Format} {ws s t : List ℕ} {c : Cursor} (i : Item f ws s (c .place)) → Takes f s c t (i .value) (advanced c (width ws) (length ws)) (sets t (c .at) (numbersAt ws s (c .place)))
 item-takes {ws = ws} {s = s} {c = c} i = record { settles = i .settles (c .left); moves = rw (i .shows, numbers-length ws s (c .place)); writes = rw (i .shows) }
 
 -- a number that passes its rule
@@ -86,7 +86,7 @@ flat-some (flat-more o k) = omega (arith, narrow-some o, flat-some k)
 
 -- m of n items, and the rest
 items-lead : {f : Format} {s : List ℕ} (ws : List ℕ) (m n : ℕ) (c : Cursor) (t : List ℕ) → m ≤ n → ((p : ℕ) → c .place ≤ p → p + width ws ≤ c .place + width ws * m → Item f ws s p) → {r : Step} {t″ : List ℕ}
-    → Reads (times f (n - m)) s (Taken (moved c (width ws * m) (length ws * m))) (sets t (c .at) (wordsAt ws m s (c .place))) r t″ → Reads (times f n) s (Taken c) t r t″
+    → Reads (times f (n - m)) s (Taken (advanced c (width ws * m) (length ws * m))) (sets t (c .at) (wordsAt ws m s (c .place))) r t″ → Reads (times f n) s (Taken c) t r t″
 unfolding wordsAt chain
 items-lead ws zero n c t l i h =
     let e₁ : n - 0 ≡ n = omega arith in
@@ -101,11 +101,11 @@ items-lead {f} {s} ws (suc m) (suc n) c t l i h =
     let e₄ = sets-append t (c .at) (numbersAt ws s (c .place)) (wordsAt ws m s (c .place + width ws)) in
     let h′ = rw (e₁, e₂, e₃, e₄, numbers-length ws s (c .place)) at h in
     thenReads (item-takes (i (c .place) (omega arith) (omega (arith, mul-suc (width ws) m))))
-    (items-lead ws m n (moved c (width ws) (length ws)) (sets t (c .at) (numbersAt ws s (c .place))) (omega arith) (λ p x y. i p (omega arith) (omega (arith, mul-suc (width ws) m))) h′)
+    (items-lead ws m n (advanced c (width ws) (length ws)) (sets t (c .at) (numbersAt ws s (c .place))) (omega arith) (λ p x y. i p (omega arith) (omega (arith, mul-suc (width ws) m))) h′)
 
 module _ {ws : List ℕ} {m n b x : ℕ} {s : List ℕ} {c : Cursor} {t t′ : List ℕ} {q : Rest} where
   -- THE law of runs: m items whose words were copied, in so many bytes and words
-  pub runs-of : {f : Format} → ReadyAt s c → m ≤ n → c .place + width ws * m ≤ length s → length ws ≤ width ws → ((p : ℕ) → c .place ≤ p → p + width ws ≤ c .place + width ws * m → Item f ws s p) → Copied ws m s (c .place) t (c .at) t′ → b ≡ width ws * m → x ≡ length ws * m → q ≡ record { items = n - m; at = moved c b x } → Runs f s c t n q t′
+  pub runs-of : {f : Format} → ReadyAt s c → m ≤ n → c .place + width ws * m ≤ length s → length ws ≤ width ws → ((p : ℕ) → c .place ≤ p → p + width ws ≤ c .place + width ws * m → Item f ws s p) → Copied ws m s (c .place) t (c .at) t′ → b ≡ width ws * m → x ≡ length ws * m → q ≡ record { items = n - m; at = advanced c b x } → Runs f s c t n q t′
   runs-of r l h k i a y u e =
       rw (e, y, u, a .is)
       (record {
@@ -113,11 +113,11 @@ module _ {ws : List ℕ} {m n b x : ℕ} {s : List ℕ} {c : Cursor} {t t′ : L
         ready = record { small = r .small; within = h; behind = omega (arith, r .behind, mul-le-mul-right m k) };
       })
 
-  pub runs-flat : {f : Format} → Flat f ws → ReadyAt s c → m ≤ n → c .place + width ws * m ≤ length s → Copied ws m s (c .place) t (c .at) t′ → b ≡ width ws * m → x ≡ length ws * m → q ≡ record { items = n - m; at = moved c b x } → Runs f s c t n q t′
+  pub runs-flat : {f : Format} → Flat f ws → ReadyAt s c → m ≤ n → c .place + width ws * m ≤ length s → Copied ws m s (c .place) t (c .at) t′ → b ≡ width ws * m → x ≡ length ws * m → q ≡ record { items = n - m; at = advanced c b x } → Runs f s c t n q t′
   runs-flat f r l h a y u e = runs-of r l h (flat-some f) (λ p x z. item-flat s p f (omega (arith, h))) a y u e
 
 -- small bytes
-pub runs-low : {m n most y : ℕ} {s : List ℕ} {c : Cursor} {t t′ : List ℕ} {q : Rest} → ReadyAt s c → m ≤ n → c .place + m ≤ length s → Low s (c .place) (c .place + m) most → Copied (1 ∷ []) m s (c .place) t (c .at) t′ → q ≡ record { items = n - m; at = moved c m m } → Runs (leaf (fixed byte (atMost most y))) s c t n q t′
+pub runs-low : {m n most y : ℕ} {s : List ℕ} {c : Cursor} {t t′ : List ℕ} {q : Rest} → ReadyAt s c → m ≤ n → c .place + m ≤ length s → Low s (c .place) (c .place + m) most → Copied (1 ∷ []) m s (c .place) t (c .at) t′ → q ≡ record { items = n - m; at = advanced c m m } → Runs (leaf (fixed byte (atMost most y))) s c t n q t′
 runs-low {m} {most = most} {y = y} {s = s} {c = c} r l h k a e = runs-of r l (omega arith) (omega arith) item a (omega arith) (omega arith) e
   where
     passes : (p : ℕ) → p + 1 ≤ length s → getD s p 0 ≤ most → leb (little (part s p 1)) most ≡ true

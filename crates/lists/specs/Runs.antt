@@ -17,8 +17,8 @@ abbrev pub ItemsReader : Format → ℕ → List ℕ → Cursor → List ℕ →
 ItemsReader f n s c t q t′ = Reader (times f n) s (Taken c) t q t′
 
 -- the cursor past so many bytes and words, at no charge
-abbrev pub moved : Cursor → ℕ → ℕ → Cursor
-moved c bytes words = record { place = c .place + bytes; left = c .left; at = c .at + words }
+abbrev pub advanced : Cursor → ℕ → ℕ → Cursor
+advanced c bytes words = record { place = c .place + bytes; left = c .left; at = c .at + words }
 
 -- The contract of a run: the reading of n items at c comes down to that of the rest.
 pub record Runs (f : Format) (s : List ℕ) (c : Cursor) (t : List ℕ) (n : ℕ) (q : Rest) (t′ : List ℕ) : Type 0 where

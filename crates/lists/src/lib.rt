@@ -9,7 +9,7 @@ ghost use lib.ListN.{length};
 ghost use Rattle.format.specs.Reading.{little, part};
 ghost use Rattle.vob24.specs.Leaves.{u16, u32, slotType};
 ghost use Rattle.reader.specs.Contract.{ReadyAt};
-ghost use Rattle.lists.specs.Runs.{moved, Runs, ItemsReader, Copied, Fits, Low, CopiedLow};
+ghost use Rattle.lists.specs.Runs.{advanced, Runs, ItemsReader, Copied, Fits, Low, CopiedLow};
 use reader::Cursor;
 use reader::Step;
 
@@ -49,7 +49,7 @@ pub fn fitting(n: usize, words: usize, at: usize, length: usize) -> usize
 // The rest of n items after k of them, in so many bytes and words.
 pub fn remaining(c: Cursor, n: u64, k: usize, bytes: usize, words: usize) -> Rest
     requires { ⌜ (k ≤ n) × (c .place + bytes < 18446744073709551616) × (c .at + words < 18446744073709551616) ⌝ }
-    ensures { λ q. ⌜ q ≡ record { items = n - k; at = moved c bytes words } ⌝ }
+    ensures { λ q. ⌜ q ≡ record { items = n - k; at = advanced c bytes words } ⌝ }
 {
     Rest {
         items: n - (k as u64),

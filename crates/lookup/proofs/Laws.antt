@@ -20,7 +20,7 @@ use Rattle.vob24.specs.Calls as vob
 use Rattle.reader.specs.declared.Cursor.{Cursor}
 use Rattle.in_place.specs.Walk.{Stands, valueAt, nextAt, itemsAt, parts, passed, items-more, items-none, stand-more}
 use Rattle.in_place.specs.Contract.{Items, WordIs}
-use Rattle.lookup.specs.Look.{IsName, Looks, Counted, LooksFrom}
+use Rattle.lookup.specs.Look.{IsName, Looks, ArtifactsAt, LooksFrom}
 use Rattle.lookup.specs.declared.Found.{Found}
 
 -- the length word of the payload of an artifact at p
@@ -157,7 +157,7 @@ module _ {set : Settings} {s : List ℕ} {from n : ℕ} {name : List ℕ} {c : C
 -- ---- the count before the artifacts
 
 module _ {set : Settings} {s : List ℕ} {p n : ℕ} (w : WordIs s p n) where
-  pub counted-items : Counted set s p → Items (artifact set) n s (p + 4)
+  pub counted-items : ArtifactsAt set s p → Items (artifact set) n s (p + 4)
   counted-items h = rw (w .is) (h .items)
 
   pub looks-from : {name : List ℕ} {c : Cursor} {q : Found} → Looks set s (p + 4) n name c q → LooksFrom set s p name c q

@@ -41,7 +41,7 @@ pub record Looks (set : Settings) (s : List ℕ) (p n : ℕ) (name : List ℕ) (
   pub room : Room s q
 
 -- A count at p, and the artifacts that it says.
-pub record Counted (set : Settings) (s : List ℕ) (p : ℕ) : Type 0 where
+pub record ArtifactsAt (set : Settings) (s : List ℕ) (p : ℕ) : Type 0 where
   pub count : p + 4 ≤ length s
   pub items : Items (artifact set) (little (part s p 4)) s (p + 4)
 

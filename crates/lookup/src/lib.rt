@@ -5,7 +5,7 @@ ghost use lib.ListN.{length};
 ghost use Rattle.vob24.specs.Settings.{settingsOf};
 ghost use Rattle.vob24.specs.Grammar.{artifact};
 ghost use Rattle.in_place.specs.Contract.{Items};
-ghost use Rattle.lookup.specs.Look.{IsName, Looks, Counted, LooksFrom};
+ghost use Rattle.lookup.specs.Look.{IsName, Looks, ArtifactsAt, LooksFrom};
 use reader::Cursor;
 use reader::Refusal;
 use reader::numbers;
@@ -66,7 +66,7 @@ fn look(s: &[u8], set: &Settings, from: usize, n: usize, name: &[u8], end: Curso
 
 // The same among the artifacts that a count at `at` says.
 pub fn look_from(s: &[u8], set: &Settings, at: usize, name: &[u8], end: Cursor) -> Found
-    requires { ⌜ Counted (settingsOf (now set)) (now s) at ⌝ }
+    requires { ⌜ ArtifactsAt (settingsOf (now set)) (now s) at ⌝ }
     ensures { λ q. ⌜ LooksFrom (settingsOf (now (set .entry))) (now (s .entry)) at (now (name .entry)) end q ⌝ }
 {
     let n = in_place::word_at(s, at);

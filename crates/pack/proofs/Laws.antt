@@ -14,7 +14,7 @@ use Rattle.vob24.specs.Grammar.{artifacts, pack, artifact}
 use Rattle.vob24.specs.Cost.{partOf}
 use Rattle.calls.specs.Contract.{from, Opens, Ends}
 use Rattle.calls.proofs.Laws.{Passed, passed, denied, read-passed}
-use Rattle.lookup.specs.Look.{Counted, LooksFrom, LocateCall, FindCall}
+use Rattle.lookup.specs.Look.{ArtifactsAt, LooksFrom, LocateCall, FindCall}
 use Rattle.lookup.specs.declared.Found.{Found}
 use Rattle.reader.specs.Accepted.{Accepted}
 use Rattle.reader.proofs.Accepting.{taken-accepted}
@@ -41,7 +41,7 @@ module _ {set : Settings} {s : List ℕ} {r r′ : Step} {c : Cursor} (w : Whole
     at-artifacts : (v : Value) → On (pack set) s v (c .place) (c .left) r → Items (artifact set) (little (part s (a .place) 4)) s (a .place + 4) × (entries (partOf artifacts v) ≡ itemsAt (artifact set) (little (part s (a .place) 4)) s (a .place + 4)) × (a .place + 4 ≤ length s)
     at-artifacts v o = let k = h .reach v (c .place) (c .left) o in let i : k .0 ≡ a = cc (k .1) in (rw i at (k .2), rw i at (k .3), rw i at (k .4))
 
-    pub located-counted : Counted set s (a .place)
+    pub located-counted : ArtifactsAt set s (a .place)
     located-counted = let k = at-artifacts (w .value) (w .on) in record { count = k .2; items = k .0 }
 
     pub located-look : {name : List ℕ} {q : Found} → LooksFrom set s (a .place) name c q → Located set s r name c q

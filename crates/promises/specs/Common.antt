@@ -30,9 +30,9 @@ abbrev pub Accepted : Answer → Type 0
 Accepted q = (w n c l : ℕ) × (q ≡ Taken w n c l)
 
 -- The bytes taken from the place a on, or the place shown, lie before e.
-abbrev pub Within : ℕ → ℕ → Answer → Type 0
-Within a e (Taken w n c l) = a + n ≤ e
-Within a e (Refused x p l) = (a ≤ p) × (p ≤ e)
+abbrev pub StaysWithin : ℕ → ℕ → Answer → Type 0
+StaysWithin a e (Taken w n c l) = a + n ≤ e
+StaysWithin a e (Refused x p l) = (a ≤ p) × (p ≤ e)
 
 -- The answer q and the tape t′ at exit are those of reading f from the place a on, by this charge list, under the budget b.
 pub record Call (f : Format) (tr : Trace Value) (a b : ℕ) (t : List ℕ) (q : Answer) (t′ : List ℕ) : Type 0 where
@@ -60,10 +60,10 @@ closing-kept f a b t (taken v p l) =
     (λ h. (simp (length-append, length-drop) (omega arith), drop-append-seam (words f v) (drop (length (words f v)) t)))
     (λ _. refl)
 
-closing-within : (f : Format) (a b e : ℕ) (t : List ℕ) (r : Settled Value) → a ≤ placeOf r → placeOf r ≤ e → Within a e (closing f a b t r .answer)
+closing-within : (f : Format) (a b e : ℕ) (t : List ℕ) (r : Settled Value) → a ≤ placeOf r → placeOf r ≤ e → StaysWithin a e (closing f a b t r .answer)
 unfolding placeOf
 closing-within f a b e t (refused x p l) h k = (h, k)
-closing-within f a b e t (taken v p l) h k = room f a b t (λ o. Within a e (o .answer)) v p l (λ _. omega arith) (λ _. (h, k))
+closing-within f a b e t (taken v p l) h k = room f a b t (λ o. StaysWithin a e (o .answer)) v p l (λ _. omega arith) (λ _. (h, k))
 
 -- the charges of a list that ends with a value are the value's cost
 pub ends-cost : {f : Format} {tr : Trace Value} {s : List ℕ} {a : ℕ} {cost : Value → ℕ} → Reads f tr s a → Costs f cost → {v : Value} {p : ℕ} → Ends tr v p → total tr ≡ cost v
@@ -97,7 +97,7 @@ module _ {f : Format} {tr : Trace Value} {a b : ℕ} {t : List ℕ} {q : Answer}
   pub kept : Kept q t t′
   kept = rw (← answer, ← tape) (closing-kept f a b t (settle b tr))
 
-  pub within : (e : ℕ) → Rising a e tr → Within a e q
+  pub within : (e : ℕ) → Rising a e tr → StaysWithin a e q
   within e r = let h = settle-within a e b tr r in rw (← answer) (closing-within f a b e t (settle b tr) (h .0) (h .1))
 
   pub account : Account (amounts tr) b (leftOf q)

@@ -21,9 +21,9 @@ use Rattle.vob24.specs.RefusalNumbers.{Answered}
 use Rattle.calls.specs.Contract.{answerOf, SectionCall}
 use Rattle.calls.specs.declared.Answer.{Answer}
 use Rattle.position.specs.Moving.{positionOf}
-use Rattle.position.specs.Call.{LentCall}
+use Rattle.position.specs.Contract.{LentCall}
 use Rattle.position.specs.declared.Position.{Position}
-use Rattle.promises.specs.Common.{Kept, Within, Accepted}
+use Rattle.promises.specs.Common.{Kept, StaysWithin, Accepted}
 use Rattle.promises.specs.Section as alone
 use Rattle.promises.specs.Section.{charges, LaysOut}
 
@@ -76,7 +76,7 @@ module _ {m : ℕ} {x : Section} {s : List ℕ} {at : Position} {t : List ℕ} {
   memory = (alone.memory by-section, moved)
 
   -- A place in the pack is lent: the place shown, or the bytes taken, lie between it and the pack's end.
-  pub places : at .place ≤ length s → Within (at .place) (length s) (answerOf q)
+  pub places : at .place ≤ length s → StaysWithin (at .place) (length s) (answerOf q)
   places = alone.places by-section
 
   -- ---- demand 2

@@ -23,7 +23,7 @@ use Rattle.vob24.specs.RefusalNumbers.{Answered, read-numbered, whole-listed}
 use Rattle.calls.specs.Contract.{answerOf, ReadCall}
 use Rattle.calls.specs.declared.Answer.{Answer}
 use Rattle.promises.specs.Common as common
-use Rattle.promises.specs.Common.{Kept, Within, Accepted, Call}
+use Rattle.promises.specs.Common.{Kept, StaysWithin, Accepted, Call}
 
 -- The file's charge list, and how it ends.
 abbrev pub charges : Settings → List ℕ → Trace Value
@@ -50,7 +50,7 @@ module _ {set : Settings} {s : List ℕ} {b : ℕ} {t : List ℕ} {q : Answer} {
   memory = common.kept (called call)
 
   -- "Place is the offset in the pack after the last byte taken": it lies within the pack.
-  pub places : Within 0 (length s) (answerOf q)
+  pub places : StaysWithin 0 (length s) (answerOf q)
   places = common.within (called call) (length s) (spec.whole-places set s)
 
   -- ---- demand 2

@@ -25,7 +25,7 @@ use Rattle.vob24.specs.RefusalNumbers.{Answered, section-numbered, section-list
 use Rattle.calls.specs.Contract.{answerOf, SectionCall}
 use Rattle.calls.specs.declared.Answer.{Answer}
 use Rattle.promises.specs.Common as common
-use Rattle.promises.specs.Common.{Kept, Within, Accepted, Call}
+use Rattle.promises.specs.Common.{Kept, StaysWithin, Accepted, Call}
 
 -- "A section call's list is that of its own questions, from its given place to the section's end."
 abbrev pub charges : Settings → ℕ → Section → List ℕ → ℕ → Trace Value
@@ -52,7 +52,7 @@ module _ {set : Settings} {m : ℕ} {x : Section} {s : List ℕ} {a b : ℕ} {t 
   memory = common.kept (called call)
 
   -- A place in the pack is given: the place shown, or the bytes taken, lie between it and the pack's end.
-  pub places : a ≤ length s → Within a (length s) (answerOf q)
+  pub places : a ≤ length s → StaysWithin a (length s) (answerOf q)
   places h = common.within (called call) (length s) (spec.section-places set m x s a h)
 
   -- ---- demand 2
