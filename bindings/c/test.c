@@ -124,6 +124,8 @@ static void whole_packs(void)
     EXPECT(vob_read(bare.bytes, BARE - 1, all, tape, TAPE), VOB_UNEXPECTED_EOF, 0, 0, 0, 108, all);
     EXPECT(vob_read(bare.bytes, BARE, all, tape, 36), VOB_NO_ROOM, 0, 37, 36, 112, all);
     EXPECT(vob_read(bare.bytes, BARE, all, tape, 0), VOB_NO_ROOM, 0, 37, 0, 112, all);
+    EXPECT(vob_read(vob_bytes(NULL), 0, all, vob_words(NULL), 0), VOB_UNEXPECTED_EOF, 0, 0, 0, 0, all);
+    EXPECT(vob_read(vob_bytes(bare.bytes), BARE, all, vob_words(NULL), 0), VOB_NO_ROOM, 0, 37, 0, 112, all);
     EXPECT(vob_read((const uint8_t *)"VOC", 3, all, tape, TAPE), VOB_INVALID_MAGIC, 0, 0, 0, 3, all);
     EXPECT(vob_read((const uint8_t *)"VOB\x19\0\0\0", 7, all, tape, TAPE), VOB_UNSUPPORTED_VERSION, 0, 25, 0, 7, all);
     const struct pack overlong = named("\xc0\x80");

@@ -7,9 +7,10 @@
  * Every call ends, for every input, and answers as crates/vob24/specs/Calls.antt defines. None keeps a pointer, allocates
  * or touches a global, so that calls may run at the same time. What the calls ask of a caller is what C asks of any:
  *
- *   - a pointer and its length are memory that is there; the pointer is not null, also where the length is 0;
+ *   - a pointer and its length are memory that is there; the pointer is not null, also where the length is 0 (a caller whose
+ *     empty buffer is null passes vob_bytes(p) or vob_words(p));
  *   - the tape is aligned for uint32_t and shares no byte with the pack or a name;
- *   - the thread has 192 KB of stack left: no call needs more, whatever the pack.
+ *   - the thread has 192 KB of stack left: no call needs more, whatever the pack (measured, and not proved).
  *
  * A refusal changes no lent memory. Where the answer is taken, the tape's counted words change and no others.
  */
@@ -102,6 +103,19 @@ enum {
 
 /* Where the first section, the name, starts: after magic and version. */
 #define VOB_FIRST_SECTION UINT64_C(7)
+
+/* The pointer, or where it is null another that may be passed with length 0. */
+static inline const uint8_t *vob_bytes(const uint8_t *bytes)
+{
+    static const uint8_t none = 0;
+    return bytes ? bytes : &none;
+}
+
+static inline uint32_t *vob_words(uint32_t *tape)
+{
+    static uint32_t none = 0;
+    return tape ? tape : &none;
+}
 
 /*
  * Reads a whole pack under a budget in bytes, and writes its fields in file order to the tape: a number or bool is one

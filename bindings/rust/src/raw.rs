@@ -48,7 +48,7 @@ unsafe extern "C" {
     ///
     /// # Safety
     /// Each pointer, with its length, is memory that is there, not null also where the length is 0; the tape is aligned and
-    /// shares no byte with the pack.
+    /// shares no byte with the pack. The thread has 192 KB of stack left.
     pub fn vob_read(pack: *const u8, pack_length: usize, budget: u64, tape: *mut u32, tape_length: usize) -> Answer;
 
     /// Looks an artifact up by its name.

@@ -7,9 +7,8 @@ use Rattle.vob24.specs.Grammar.{Section}
 use Rattle.vob24.specs.Calls as vob
 use Rattle.calls.specs.Contract.{answerOf, ReadCall, SectionCall}
 use Rattle.calls.specs.declared.Answer.{Answer}
-use Rattle.lookup.specs.Look.{foundOf}
+use Rattle.lookup.specs.Look.{foundOf, LocateCall}
 use Rattle.lookup.specs.declared.Found.{Found}
-use Rattle.pack.specs.Find.{LocateCall}
 use Rattle.c_answers.specs.Numbers.{numbersOf, foundNumbers, Shows}
 use Rattle.c_answers.specs.declared.VobAnswer.{VobAnswer}
 

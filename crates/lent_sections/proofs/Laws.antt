@@ -7,12 +7,12 @@ use lib.ListN.{length}
 use Rattle.vob24.specs.Settings.{settings}
 use Rattle.vob24.specs.Grammar.{Section}
 use Rattle.vob24.specs.Calls as vob
-use Rattle.vob24.specs.Theorems.{section-only, section-record}
+use Rattle.vob24.specs.Theorems.{section-within}
 use Rattle.calls.specs.declared.Answer.{Answer}
 use Rattle.calls.specs.Contract.{answerOf, SectionCall}
 use Rattle.position.specs.Moving.{positionOf, Moves, Fits}
 use Rattle.position.specs.declared.Position.{Position}
-use Rattle.lent_sections.specs.Contract.{LentCall}
+use Rattle.position.specs.Contract.{LentCall}
 
 module _ {n : ℕ} {x : Section} {s : List ℕ} {at : Position} {t : List ℕ} {q : Answer} {t′ : List ℕ} (k : SectionCall settings n x s (at .place) (at .budget) t q t′) where
   -- the bytes taken lie in the pack
@@ -20,8 +20,7 @@ module _ {n : ℕ} {x : Section} {s : List ℕ} {at : Position} {t : List ℕ} {
   fits-pack h = record {
     fits = λ {w} {n = m} {c} {l} e.
         let i : vob.sectionOutcome settings n x s (at .place) (at .budget) t .answer ≡ vob.Taken w m c l = ap (λ o. o .answer) (k .is) ∙ ap answerOf e in
-        let r = section-record settings n x s (at .place) (at .budget) t (section-only settings n x s (at .place) (at .budget) t i) in
-        omega (arith, r .3);
+        omega (arith, section-within settings n x s (at .place) (at .budget) t i);
   }
 
   pub lent-call : {at′ : Position} → Moves at q at′ → LentCall n x s at t q at′ t′

@@ -1,7 +1,7 @@
 // The section call that is lent its place and budget and advances them, over the section call by value.
 // The Rust has no such call; its ByteReader advances its pos and allocation_remaining so.
 ghost use Rattle.vob24.specs.Sections.{sectionOf, functionsOf};
-ghost use Rattle.lent_sections.specs.Contract.{LentCall};
+ghost use Rattle.position.specs.Contract.{LentCall};
 use calls::Answer;
 pub use position::Position;
 use vob24::Section;

@@ -1,4 +1,4 @@
--- The contracts of the lookup's walk over the artifacts.
+-- The contracts of the lookup, and of its walk over the artifacts.
 use Prim.Native.Nat.{ℕ, _+_, _≤_}
 use mathlib.Core.Path.{_≡_}
 use mathlib.Core.List.{List}
@@ -25,6 +25,15 @@ pub record IsName (s : List ℕ) (p n : ℕ) (name : List ℕ) (q : Bool) : Type
 -- What was found stands in the pack.
 pub record Room (s : List ℕ) (q : Found) : Type 0 where
   pub fits : (p n : ℕ) → q ≡ Found.At p n → p + n ≤ length s
+
+-- THE contract of the companion: start and length, or the refusal.
+pub record LocateCall (set : Settings) (s name : List ℕ) (q : Found) : Type 0 where
+  pub is : foundOf q ≡ vob.findOutcome set s name
+  pub room : Room s q
+
+-- THE contract of the lookup: the payload as a part of the pack, or an empty part.
+pub record FindCall (set : Settings) (s name part′ : List ℕ) : Type 0 where
+  pub is : part′ ≡ vob.foundPart s (vob.findOutcome set s name)
 
 -- The first of n artifacts from p on that has the name.
 pub record Looks (set : Settings) (s : List ℕ) (p n : ℕ) (name : List ℕ) (c : Cursor) (q : Found) : Type 0 where

@@ -14,7 +14,7 @@ use Rattle.vob24.specs.Grammar.{artifacts, pack, artifact}
 use Rattle.vob24.specs.Cost.{partOf}
 use Rattle.calls.specs.Contract.{from, Opens, Ends}
 use Rattle.calls.proofs.Laws.{Passed, passed, denied, read-passed}
-use Rattle.lookup.specs.Look.{ArtifactsAt, LooksFrom}
+use Rattle.lookup.specs.Look.{ArtifactsAt, LooksFrom, LocateCall, FindCall}
 use Rattle.lookup.specs.declared.Found.{Found}
 use Rattle.reader.specs.Accepted.{Accepted}
 use Rattle.reader.proofs.Accepting.{taken-accepted}
@@ -26,7 +26,7 @@ use Rattle.reader.specs.declared.Refusal.{Refusal}
 use Rattle.reader.specs.declared.Step.{Step}
 use Rattle.reader.specs.declared.Step.the-variants.{Taken, Refused}
 use Rattle.deserialize.specs.Reach.{On, Reaches}
-use Rattle.pack.specs.Find.{Whole, Located, LocateCall, FindCall}
+use Rattle.pack.specs.Find.{Whole, Located}
 
 -- what a whole reading has taken is not refused when it is read again
 pub whole-accepted : {set : Settings} {b : Bool} {s : List ℕ} {r : Step} {c : Cursor} → Whole set s r c → Accepted b (pack set) s r

@@ -2,7 +2,8 @@
 // Port the callers' side of Module::deserialize and Module::artifact; the budget and the tape are added.
 ghost use Rattle.vob24.specs.Settings.{settings, settingsOf};
 ghost use Rattle.calls.specs.Contract.{Opens, ReadCall};
-ghost use Rattle.pack.specs.Find.{Whole, Located, LocateCall, FindCall};
+ghost use Rattle.lookup.specs.Look.{LocateCall, FindCall};
+ghost use Rattle.pack.specs.Find.{Whole, Located};
 use calls::Answer;
 use lookup::Found;
 use reader::Cursor;

@@ -43,15 +43,16 @@ pub record IsTaken (f : Format) (t : Trace Value) (a b : ℕ) (tape : List ℕ) 
   pub leaves : l ≡ b - total t
   pub writes : closing f a b tape (settle b t) .tape ≡ words f value ++ drop w tape
 
--- Refused at a charge: the first that can't be paid.
-pub record IsBroke (f : Format) (t : Trace Value) (a b : ℕ) (tape : List ℕ) : Type 0 where
+-- "Refused at a charge is 5 with that charge's context, its amount as d1, and as d2 and left the starting budget less all charges before
+-- it": the charge after the longest opening part that the budget covers, the first that can't be paid.
+pub record IsBroke (t : Trace Value) (b : ℕ) (q : Answer) : Type 0 where
   pub number : ℕ
   pub context : ℕ
   pub amount : ℕ
   pub place : ℕ
   pub there : Charge t number context amount place
   pub longest : Longest b (amounts t) number
-  pub is : closing f a b tape (settle b t) ≡ (let l = b - sum (take number (amounts t)) in record { answer = Refused (spent context amount l) place l; tape = tape })
+  pub is : q ≡ (let l = b - sum (take number (amounts t)) in Refused (spent context amount l) place l)
 
 module _ (f : Format) (a b : ℕ) (tape : List ℕ) where
   written-room : (ws : List ℕ) (p l : ℕ) → length ws ≤ length tape → written a b tape ws p l ≡ record { answer = Taken (length ws) (p - a) (b - l) l; tape = ws ++ drop (length ws) tape }
@@ -109,19 +110,22 @@ module _ (f : Format) (a b : ℕ) (tape : List ℕ) where
     stopped-at e h = ap (closing f a b tape) (settle-stopped b t e h)
 
     -- the budget does not reach
-    pub short-budget : b < total t → IsBroke f t a b tape
+    pub short-budget : b < total t → IsBroke t b (closing f a b tape (settle b t) .answer) × (closing f a b tape (settle b t) .tape ≡ tape)
     short-budget h =
         let i = covered b (amounts t) in
         let r = broke-at t i (b - sum (take i (amounts t))) (covered-lt b (amounts t) h) in
-        record {
-          number = i;
-          context = r .context;
-          amount = r .amount;
-          place = r .place;
-          there = r .there;
-          longest = covered-longest b (amounts t);
-          is = ap (closing f a b tape) (settle-broke b t h ∙ r .is);
-        }
+        let e = ap (closing f a b tape) (settle-broke b t h ∙ r .is) in (
+          record {
+            number = i;
+            context = r .context;
+            amount = r .amount;
+            place = r .place;
+            there = r .there;
+            longest = covered-longest b (amounts t);
+            is = ap (λ o. o .answer) e;
+          },
+          ap (λ o. o .tape) e,
+        )
 
     -- taken only so
     pub only-when : {w n c l : ℕ} → closing f a b tape (settle b t) .answer ≡ Taken w n c l → IsTaken f t a b tape w n c l

@@ -10,12 +10,14 @@ use Rattle.format.specs.Trace.{Wrong, wrong, pick, refused, taken, settle}
 use Rattle.format.specs.Format.{Value, none, num, text, pair, content, start, first, second, number, items, entries}
 use Rattle.format.specs.Reading.{part, same}
 use Rattle.format.specs.Record.{Held}
+use Rattle.format.specs.SettleTheorems.{settle-taken}
 use Rattle.format.specs.LayoutTheorems.{same-eq, same-refl}
 use Rattle.vob24.specs.Refusals
 use Rattle.vob24.specs.Settings.{Settings, startingBudget}
 use Rattle.vob24.specs.Grammar.{artifacts}
 use Rattle.vob24.specs.Cost.{after, partOf}
 use Rattle.vob24.specs.Calls.{Found, At, Not, wholeTrace, lookIn, looking, findOutcome, foundPart}
+use Rattle.vob24.specs.Theorems.{whole-held}
 
 -- The artifact's name is these bytes.
 abbrev pub Named : List ℕ → Value → Type 0
@@ -30,6 +32,16 @@ pub data NoneNamed (name : List ℕ) : List Value → Type 0 where
 pub data FirstNamed (name : List ℕ) (a : Value) : List Value → Type 0 where
   here : {rest : List Value} → Named name a → FirstNamed name a (a ∷ rest)
   later : {a′ : Value} {rest : List Value} → (Named name a′ → ⊥) → FirstNamed name a rest → FirstNamed name a (a′ ∷ rest)
+
+none-first : {name : List ℕ} {a : Value} {list : List Value} → NoneNamed name list → FirstNamed name a list → ⊥
+none-first (also d n) (here h) = d h
+none-first (also d n) (later d′ f) = none-first n f
+
+one-first : {name : List ℕ} {a b : Value} {list : List Value} → FirstNamed name a list → FirstNamed name b list → a ≡ b
+one-first (here h) (here k) = refl
+one-first (here h) (later d f) = absurd (d h)
+one-first (later d f) (here h) = absurd (d h)
+one-first (later d f) (later d′ g) = one-first f g
 
 abbrev pub payloadOf : Value → Value
 payloadOf a = second (second a)
@@ -106,9 +118,27 @@ module _ (set : Settings) (s name : List ℕ) where
     unfolding findOutcome
     find-looked = (look name (entries (partOf artifacts v)) p l, ap (looking name) e)
 
-    -- The part is the payload's bytes, where they stand in the pack.
-    pub find-part : Held v s → (a : Value) → FirstNamed name a (entries (partOf artifacts v)) → findOutcome set s name ≡ At (start (payloadOf a)) (length (content (payloadOf a))) → foundPart s (findOutcome set s name) ≡ content (payloadOf a)
-    unfolding partOf
-    find-part h a f i =
-        let k = held-first (after 15 v) s (held-after 15 v s h) in
-        ap (foundPart s) i ∙ held-content (payloadOf a) s (held-second (second a) s (held-second a s (held-named f (held-items (number (first (partOf artifacts v))) (second (partOf artifacts v)) s (held-second (partOf artifacts v) s k)))))
+    pub find-none : NoneNamed name (entries (partOf artifacts v)) → findOutcome set s name ≡ Not (wrong Refusals.noSuchArtifact 0) p l
+    find-none n = find-looked .1 ∙ go (find-looked .0)
+      where
+        go : Looked name (entries (partOf artifacts v)) p l → lookIn name (entries (partOf artifacts v)) p l ≡ Not (wrong Refusals.noSuchArtifact 0) p l
+        go (missing _ i) = i
+        go (first′ a f i) = absurd (none-first n f)
+
+    module _ {a : Value} (f : FirstNamed name a (entries (partOf artifacts v))) where
+      pub find-first : findOutcome set s name ≡ At (start (payloadOf a)) (length (content (payloadOf a)))
+      find-first = find-looked .1 ∙ go (find-looked .0)
+        where
+          go : Looked name (entries (partOf artifacts v)) p l → lookIn name (entries (partOf artifacts v)) p l ≡ At (start (payloadOf a)) (length (content (payloadOf a)))
+          go (missing n i) = absurd (none-first n f)
+          go (first′ b g i) = let same = one-first g f in i ∙ rw same
+
+      -- The part is the payload's bytes, where they stand in the pack.
+      pub find-part : foundPart s (findOutcome set s name) ≡ content (payloadOf a)
+      unfolding partOf
+      find-part =
+          let list = partOf artifacts v in
+          let h = whole-held set s (settle-taken startingBudget (wholeTrace set s) v p l .0 e .0) in
+          let k = held-second list s (held-first (after 15 v) s (held-after 15 v s h)) in
+          let i = held-named f (held-items (number (first list)) (second list) s k) in
+          ap (foundPart s) find-first ∙ held-content (payloadOf a) s (held-second (second a) s (held-second a s i))

@@ -20,12 +20,18 @@ use Rattle.vob24.specs.Grammar.{Section, name, structs, interfaces, name
 use Rattle.vob24.specs.Calls as vob
 use Rattle.vob24.specs.Cost.{partOf}
 
+-- The numbers of the questions that are put to a file, the charges' 5 among them: 1 to 25. 26 and 27 are the calls' own.
 abbrev lastNumber : ℕ
-lastNumber = Refusals.noSuchArtifact
+lastNumber = 25
 
 pub record Listed (w : Wrong) : Type 0 where
   pub least : 1 ≤ w .number
   pub most : w .number ≤ lastNumber
+
+-- The numbers of document 01.
+pub record Given (w : Wrong) : Type 0 where
+  pub least : 1 ≤ w .number
+  pub most : w .number ≤ 27
 
 listed : {w : Wrong} → leb 1 (w .number) ≡ true → leb (w .number) lastNumber ≡ true → Listed w
 listed a b = record { least = leb→le _ _ (rw a tt); most = leb→le _ _ (rw b tt) }
@@ -301,27 +307,38 @@ settles (pays {c = c} {n = n} {p = p} {t = t} h) b = go (leb n b) (settles h (b 
     go false k = refuses (listed refl refl)
 settles (passes h) b = settles h b
 
--- An answer is taken, or refused with a listed number.
+refusal-listed : {r : Settled Value} → Settles r → {w : Wrong} {p l : ℕ} → r ≡ of.refused w p l → Listed w
+refusal-listed (refuses {w = x} h) {w} e = let same : x ≡ w = cc in rw same at h
+refusal-listed takes e = let no : _≡_ {A = ℕ} 0 1 = cc in absurd (omega arith)
+
+-- An answer is taken, or refused with a number of document 01.
 pub data Answered : vob.Answer → Type 0 where
   taken : {w n c l : ℕ} → Answered (vob.Taken w n c l)
-  refused : {w : Wrong} {p l : ℕ} → Listed w → Answered (vob.Refused w p l)
+  refused : {w : Wrong} {p l : ℕ} → Given w → Answered (vob.Refused w p l)
 
 pub data Looked : vob.Found → Type 0 where
   found : {p n : ℕ} → Looked (vob.At p n)
-  missed : {w : Wrong} {p l : ℕ} → Listed w → Looked (vob.Not w p l)
+  missed : {w : Wrong} {p l : ℕ} → Given w → Looked (vob.Not w p l)
+
+given : {w : Wrong} → Listed w → Given w
+given h = record { least = h .least; most = omega (arith, h .most) }
+
+-- 26 and 27
+own : {w : Wrong} → leb 1 (w .number) ≡ true → leb (w .number) 27 ≡ true → Given w
+own a b = record { least = leb→le _ _ (rw a tt); most = leb→le _ _ (rw b tt) }
 
 closes : (f : Format) (a b : ℕ) (t : List ℕ) {r : Settled Value} → Settles r → Answered (vob.closing f a b t r .answer)
 unfolding pick
-closes f a b t (refuses h) = refused h
+closes f a b t (refuses h) = refused (given h)
 closes f a b t (takes {v = v} {p = p} {l = l}) = go (leb (length (words f v)) (length t))
   where
     go : (d : Bool) → Answered (pick {A = vob.Outcome} d (record { answer = vob.Taken (length (words f v)) (p - a) (b - l) l; tape = words f v ++ drop (length (words f v)) t }) (record { answer = vob.Refused (vob.noRoomFor (length (words f v)) (length t)) p l; tape = t }) .answer)
     go true = taken
-    go false = refused (listed refl refl)
+    go false = refused (own refl refl)
 
 looks : (x : List ℕ) (vs : List Value) (p l : ℕ) → Looked (vob.lookIn x vs p l)
 unfolding vob.lookIn pick
-looks x [] p l = missed (listed refl refl)
+looks x [] p l = missed (own refl refl)
 looks x (v ∷ vs) p l = go (same (content (first v)) x) (looks x vs p l)
   where
     go : (d : Bool) → Looked (vob.lookIn x vs p l) → Looked (pick d (vob.At (start (second (second v))) (length (content (second (second v))))) (vob.lookIn x vs p l))
@@ -337,6 +354,13 @@ module _ (set : Settings) where
   unfolding vob.sectionTrace
   part n x s p = numbered-guard _ _ _ _ (λ _. listed refl refl) (numbered-guard _ _ _ _ (λ _. listed refl refl) (numbered-trace (sound-section set n x) s p))
 
+  -- Neither 26 nor 27 is the answer to a question that is put to the file.
+  pub whole-listed : (s : List ℕ) (b : ℕ) {w : Wrong} {p l : ℕ} → settle b (vob.wholeTrace set s) ≡ of.refused w p l → Listed w
+  whole-listed s b = refusal-listed (settles (whole s) b)
+
+  pub section-listed : (n : ℕ) (x : Section) (s : List ℕ) (p b : ℕ) {w : Wrong} {q l : ℕ} → settle b (vob.sectionTrace set n x s p) ≡ of.refused w q l → Listed w
+  section-listed n x s p b = refusal-listed (settles (part n x s p) b)
+
   pub read-numbered : (s : List ℕ) (b : ℕ) (t : List ℕ) → Answered (vob.readOutcome set s b t .answer)
   unfolding vob.readOutcome
   read-numbered s b t = closes (g.pack set) 0 b t (settles (whole s) b)
@@ -350,5 +374,5 @@ module _ (set : Settings) where
   find-numbered s x = go (settles (whole s) startingBudget)
     where
       go : {r : Settled Value} → Settles r → Looked (vob.looking x r)
-      go (refuses h) = missed h
+      go (refuses h) = missed (given h)
       go (takes {v = v} {p = p} {l = l}) = looks x (entries (partOf artifacts v)) p l

@@ -1,33 +1,33 @@
--- The promises: demands 1, 2 and 3 of the calls' outcomes, for every pack, starting budget and tape, under all settings.
+-- The charge lists of the two calls, under all settings: what they read, where they end, what they sum up to, and their places. The promises of
+-- the calls (crate promises) rest on these.
 use Prim.Native.Nat.{ℕ, _+_, _-_, _^_, _≤_, _<_}
 use mathlib.Core.Path.{_≡_, ap, sym, _∙_}
-use mathlib.Core.List.{List, [], _++_}
+use mathlib.Core.List.{List}
 use mathlib.Core.Bool.{Bool}
 use mathlib.Core.Logic.{_↔_}
 use native.Mathlib.Omega.{arith}
-use lib.ListN.{length, take, drop, replicate, length-replicate}
+use lib.ListN.{length}
 use lib.Seq.{take-all, take-length}
 use lib.Dec.{leb, eqb, leb→le, le→leb, eqb→eq, eqb-refl}
-use Rattle.format.specs.Trace.{Wrong, wrong, Trace, end, bind, guard, amounts, sum, total, stopped, ended, out, Ends, settle}
+use Rattle.format.specs.Trace.{Wrong, wrong, Trace, end, bind, guard, amounts, sum, total, ended, out, Ends, settle}
 use Rattle.format.specs.Format.{Value}
 use Rattle.format.specs.Reading.{part, trace}
-use Rattle.format.specs.Record.{words, decode, Held}
+use Rattle.format.specs.Record.{Held}
 use Rattle.format.specs.Layout.{Bytes, Valid, bytes}
 use Rattle.format.specs.SettleTheorems.{thenS, settle-bind}
 use Rattle.format.specs.TraceTheorems.{Ends-bind, bind-out, Ends-guard, guard-true, trace-within}
 use Rattle.format.specs.LayoutTheorems.{At}
 use Rattle.format.specs.CountsCovered.{layout-iff}
+use Rattle.format.specs.RecordTheorems.{trace-held}
 use Rattle.format.specs.ChargeBound.{guard-under, end-free}
-use Rattle.format.specs.PlacesRise.{Rising, rising-bind, rising-guard, rising-end, trace-rising, placeOf, settle-within}
+use Rattle.format.specs.PlacesRise.{Rising, rising-bind, rising-guard, rising-end, trace-rising}
 use Rattle.vob24.specs.Refusals
 use Rattle.vob24.specs.Settings.{Settings, Licensed, maxPackBytes}
 use Rattle.vob24.specs.Grammar.{Section, section, pack}
-use Rattle.vob24.specs.Cost.{recordCost, sectionRecordCost}
-use Rattle.vob24.specs.PackCost.{section-costs, pack-costs}
 use Rattle.vob24.specs.PackLayout.{closed-section, closed-pack}
 use Rattle.vob24.specs.PackBound.{section-bound, pack-bound}
-use Rattle.vob24.specs.Calls.{Taken, Refused, tooLarge, noRoomFor, wholeTrace, sectionTrace, readOutcome, sectionOutcome}
-use Rattle.vob24.specs.CallTheorems.{leftOf, Account, IsTaken, IsBroke, account, taken-when, short-tape, stopped-at, short-budget, only-when, Reads, call-record, call-cost, call-texts}
+use Rattle.vob24.specs.Calls.{Taken, tooLarge, wholeTrace, sectionTrace, sectionOutcome}
+use Rattle.vob24.specs.CallTheorems.{only-when, Reads}
 
 -- a last question charges nothing
 judged : (t : Trace Value) (d : Value → ℕ → Bool) (w : Value → ℕ → Wrong) → total (bind t (λ v q. guard (d v q) (w v q) q (end v q))) ≤ total t
@@ -50,6 +50,9 @@ module _ (set : Settings) where
       let x : v ≡ b .0 = cc in
       let y : q ≡ b .1 = cc in
       (leb→le (length s) maxPackBytes (a .0), b .2 ∙ cc, omega arith, a .2 ∙ bind-out _ _ (b .2) .1 ∙ omega (arith, c .2))
+
+  pub whole-end : (s : List ℕ) {v : Value} {q : ℕ} → Ends (wholeTrace set s) v q → q ≡ length s
+  whole-end s h = whole-ends s h .2
 
   -- before the questions of 24 and 26
   pub whole-settled : (s : List ℕ) (b : ℕ) → length s ≤ maxPackBytes → settle b (wholeTrace set s) ≡ thenS (settle b (trace (pack set) s 0)) (λ v q l. settle l (guard (eqb q (length s)) (wrong Refusals.trailingBytes (length s - q)) q (end v q)))
@@ -74,66 +77,15 @@ module _ (set : Settings) where
   ends-section : (n : ℕ) (x : Section) (s : List ℕ) (p : ℕ) {v : Value} {q : ℕ} → length s ≤ maxPackBytes → p ≤ length s → Ends (trace (section set n x) s p) v q → Ends (sectionTrace set n x s p) v q
   ends-section n x s p h i e = ap out (section-alone n x s p h i) ∙ e
 
-  whole-reads : (s : List ℕ) → Reads (pack set) (wholeTrace set s) s 0
+  pub whole-reads : (s : List ℕ) → Reads (pack set) (wholeTrace set s) s 0
   whole-reads s = record { inner = λ {v} {q} h. let e = whole-ends s h in (e .1 ∙ ap (ended v) (sym (e .2)), e .3) }
 
-  section-reads : (n : ℕ) (x : Section) (s : List ℕ) (p : ℕ) → Reads (section set n x) (sectionTrace set n x s p) s p
+  pub section-reads : (n : ℕ) (x : Section) (s : List ℕ) (p : ℕ) → Reads (section set n x) (sectionTrace set n x s p) s p
   section-reads n x s p = record { inner = λ h. let e = section-ends n x s p h in (e .2, e .3) }
 
-  -- ---- the whole pack
-
-  module _ (s : List ℕ) (b : ℕ) (tape : List ℕ) where
-    -- Charged and left make the starting budget, for packs taken and refused; the sum is that of the longest opening part that it covers.
-    pub read-account : Account (amounts (wholeTrace set s)) b (leftOf (readOutcome set s b tape .answer))
-    unfolding readOutcome
-    read-account = account (pack set) 0 b tape (wholeTrace set s)
-
-    -- Taken where the charge list ends with the pack and budget and tape reach: the same record, bytes and sum under every such budget.
-    pub read-taken : {v : Value} {q : ℕ} → Ends (wholeTrace set s) v q → total (wholeTrace set s) ≤ b → length (words (pack set) v) ≤ length tape
-        → readOutcome set s b tape ≡ record { answer = Taken (length (words (pack set) v)) (length s) (total (wholeTrace set s)) (b - total (wholeTrace set s)); tape = words (pack set) v ++ drop (length (words (pack set) v)) tape }
-    unfolding readOutcome
-    read-taken {v} {q} e h k = let x : q - 0 ≡ length s = omega (arith, whole-ends s e .2) in taken-when (pack set) 0 b tape (wholeTrace set s) e h k ∙ rw x
-
-    -- And only there.
-    pub read-only : {w n c l : ℕ} → readOutcome set s b tape .answer ≡ Taken w n c l → IsTaken (pack set) (wholeTrace set s) 0 b tape w n c l
-    unfolding readOutcome
-    read-only = only-when (pack set) 0 b tape (wholeTrace set s)
-
-    -- A budget below the total: 5 at the first charge that can't be paid, with its context, amount, and the budget before it.
-    pub read-broke : b < total (wholeTrace set s) → IsBroke (pack set) (wholeTrace set s) 0 b tape
-    read-broke = short-budget (pack set) 0 b tape (wholeTrace set s)
-
-    -- A question answered no: its refusal, the tape as it was.
-    pub read-stopped : {w : Wrong} {q : ℕ} → out (wholeTrace set s) ≡ stopped w q → total (wholeTrace set s) ≤ b → readOutcome set s b tape ≡ record { answer = Refused w q (b - total (wholeTrace set s)); tape = tape }
-    unfolding readOutcome
-    read-stopped = stopped-at (pack set) 0 b tape (wholeTrace set s)
-
-    -- 26 names exactly the words needed.
-    pub read-noRoom : {v : Value} {q : ℕ} → Ends (wholeTrace set s) v q → total (wholeTrace set s) ≤ b → length tape < length (words (pack set) v)
-        → readOutcome set s b tape ≡ record { answer = Refused (noRoomFor (length (words (pack set) v)) (length tape)) q (b - total (wholeTrace set s)); tape = tape }
-    unfolding readOutcome
-    read-noRoom = short-tape (pack set) 0 b tape (wholeTrace set s)
-
-    -- Of a pack that is taken, the record is the tape's counted words.
-    abbrev pub recordOf : ℕ → List ℕ
-    recordOf w = take w (readOutcome set s b tape .tape)
-
-    module _ {w n c l : ℕ} (k : IsTaken (pack set) (wholeTrace set s) 0 b tape w n c l) where
-      -- The record holds the file's fields: it decodes to what was read, with no word left over, and is as long as the answer says. The words
-      -- are at most the bytes taken, which are the whole pack.
-      pub read-record : (decode (pack set) (recordOf w) s ≡ (k .value, [])) × (length (recordOf w) ≡ w) × (w ≤ n) × (n ≡ length s)
-      unfolding readOutcome
-      read-record = let r = call-record (whole-reads s) k in (r .0, r .1, r .2, omega (arith, k .bytes, whole-ends s (k .ends) .2))
-
-      -- "the sum equals the cost that document 01 works out from the finished record and its texts alone": the texts may stand in any other
-      -- file s′, as long as they stand there where the record says.
-      pub read-cost : (s′ : List ℕ) → Held (k .value) s′ → c ≡ recordCost set (recordOf w) s′
-      unfolding readOutcome
-      read-cost = call-cost (whole-reads s) k (pack-costs set)
-
-      -- In the pack itself they do.
-      pub read-texts : Held (k .value) s
-      read-texts = call-texts (whole-reads s) k
+  -- The texts of what was read stand in the file.
+  pub whole-held : (s : List ℕ) {v : Value} {q : ℕ} → Ends (wholeTrace set s) v q → Held v s
+  whole-held s h = trace-held (pack set) s 0 (whole-reads s .inner h .0)
 
   -- Layout, both directions: the charge list ends with the pack exactly where the file is the layout of a valid value.
   pub whole-layout : (s : List ℕ) (v : Value) (q : ℕ) → Bytes s → Ends (wholeTrace set s) v q ↔ (length s ≤ maxPackBytes) × Valid (pack set) v 0 × (s ≡ bytes (pack set) v) × (q ≡ length s)
@@ -163,69 +115,14 @@ module _ (set : Settings) where
       le-lt : {n : ℕ} → n ≤ 2 ^ 64 - 1 → n < 2 ^ 64
       le-lt h = omega arith
 
-  -- "Exactly the files whose charge list ends with the pack, not at a question, are taken under some starting budget with tape enough":
-  -- one of 64 bits.
-  pub some-budget : Licensed set → (s : List ℕ) → Bytes s → ((b : ℕ) × (tape : List ℕ) × (w n c l : ℕ) × (b < 2 ^ 64) × (readOutcome set s b tape .answer ≡ Taken w n c l)) ↔ ((v : Value) × (q : ℕ) × Ends (wholeTrace set s) v q)
-  some-budget licensed s bs = (to, from)
-    where
-      to : (b : ℕ) × (tape : List ℕ) × (w n c l : ℕ) × (b < 2 ^ 64) × (readOutcome set s b tape .answer ≡ Taken w n c l) → (v : Value) × (q : ℕ) × Ends (wholeTrace set s) v q
-      to h = let k = read-only s (h .0) (h .1) (h .7) in (k .value, k .place, k .ends)
-
-      from : (v : Value) × (q : ℕ) × Ends (wholeTrace set s) v q → (b : ℕ) × (tape : List ℕ) × (w n c l : ℕ) × (b < 2 ^ 64) × (readOutcome set s b tape .answer ≡ Taken w n c l)
-      from h =
-          let v = h .0 in
-          let e = whole-ends s (h .2) in
-          let b = total (wholeTrace set s) in
-          let ws = words (pack set) v in
-          let r = read-taken s b (replicate (length ws) 0) (h .2) (omega arith) (omega (arith, length-replicate {A = ℕ} (length ws) 0)) in
-          (b, replicate (length ws) 0, length ws, length s, b, b - b, omega (arith, e .3, pack-bound set licensed s bs (e .0)), ap (λ o. o .answer) r)
-
-  -- ---- a section, from a place
-
-  module _ (count : ℕ) (x : Section) (s : List ℕ) (p b : ℕ) (tape : List ℕ) where
-    pub section-account : Account (amounts (sectionTrace set count x s p)) b (leftOf (sectionOutcome set count x s p b tape .answer))
-    unfolding sectionOutcome
-    section-account = account (section set count x) p b tape (sectionTrace set count x s p)
-
-    pub section-taken : {v : Value} {q : ℕ} → Ends (sectionTrace set count x s p) v q → total (sectionTrace set count x s p) ≤ b → length (words (section set count x) v) ≤ length tape
-        → sectionOutcome set count x s p b tape ≡ record { answer = Taken (length (words (section set count x) v)) (q - p) (total (sectionTrace set count x s p)) (b - total (sectionTrace set count x s p)); tape = words (section set count x) v ++ drop (length (words (section set count x) v)) tape }
-    unfolding sectionOutcome
-    section-taken = taken-when (section set count x) p b tape (sectionTrace set count x s p)
-
-    pub section-only : {w n c l : ℕ} → sectionOutcome set count x s p b tape .answer ≡ Taken w n c l → IsTaken (section set count x) (sectionTrace set count x s p) p b tape w n c l
-    unfolding sectionOutcome
-    section-only = only-when (section set count x) p b tape (sectionTrace set count x s p)
-
-    pub section-broke : b < total (sectionTrace set count x s p) → IsBroke (section set count x) (sectionTrace set count x s p) p b tape
-    section-broke = short-budget (section set count x) p b tape (sectionTrace set count x s p)
-
-    pub section-stopped : {w : Wrong} {q : ℕ} → out (sectionTrace set count x s p) ≡ stopped w q → total (sectionTrace set count x s p) ≤ b → sectionOutcome set count x s p b tape ≡ record { answer = Refused w q (b - total (sectionTrace set count x s p)); tape = tape }
-    unfolding sectionOutcome
-    section-stopped = stopped-at (section set count x) p b tape (sectionTrace set count x s p)
-
-    pub section-noRoom : {v : Value} {q : ℕ} → Ends (sectionTrace set count x s p) v q → total (sectionTrace set count x s p) ≤ b → length tape < length (words (section set count x) v)
-        → sectionOutcome set count x s p b tape ≡ record { answer = Refused (noRoomFor (length (words (section set count x) v)) (length tape)) q (b - total (sectionTrace set count x s p)); tape = tape }
-    unfolding sectionOutcome
-    section-noRoom = short-tape (section set count x) p b tape (sectionTrace set count x s p)
-
-    abbrev pub sectionRecordOf : ℕ → List ℕ
-    sectionRecordOf w = take w (sectionOutcome set count x s p b tape .tape)
-
-    module _ {w n c l : ℕ} (k : IsTaken (section set count x) (sectionTrace set count x s p) p b tape w n c l) where
-      pub section-record : (decode (section set count x) (sectionRecordOf w) s ≡ (k .value, [])) × (length (sectionRecordOf w) ≡ w) × (w ≤ n) × (p + n ≤ length s)
-      unfolding sectionOutcome
-      section-record =
-          let r = call-record (section-reads count x s p) k in
-          let e = section-ends count x s p (k .ends) in
-          let i = trace-within (section set count x) s p (e .2) in
-          (r .0, r .1, r .2, omega (arith, k .bytes, i .0, i .1 (e .1)))
-
-      pub section-cost : (s′ : List ℕ) → Held (k .value) s′ → c ≡ sectionRecordCost set count x (sectionRecordOf w) s′
-      unfolding sectionOutcome
-      section-cost = call-cost (section-reads count x s p) k (section-costs set count x)
-
-      pub section-texts : Held (k .value) s
-      section-texts = call-texts (section-reads count x s p) k
+  -- The bytes that a section call takes lie in the pack.
+  pub section-within : (count : ℕ) (x : Section) (s : List ℕ) (p b : ℕ) (tape : List ℕ) {w n c l : ℕ} → sectionOutcome set count x s p b tape .answer ≡ Taken w n c l → p + n ≤ length s
+  unfolding sectionOutcome
+  section-within count x s p b tape h =
+      let k = only-when (section set count x) p b tape (sectionTrace set count x s p) h in
+      let e = section-ends count x s p (k .ends) in
+      let i = trace-within (section set count x) s p (e .2) in
+      omega (arith, k .bytes, i .0, i .1 (e .1))
 
   -- The section is read from p to q exactly where the layout of a valid value stands there.
   pub section-layout : (count : ℕ) (x : Section) (s : List ℕ) (p : ℕ) (v : Value) (q : ℕ) → Bytes s
@@ -253,7 +150,3 @@ module _ (set : Settings) where
   section-places count x s p h =
       rising-guard p (length s) (leb (length s) maxPackBytes) (tooLarge (length s)) p _ (omega arith) h (λ _.
       rising-guard p (length s) (leb p (length s)) _ p _ (omega arith) h (λ _. trace-rising (section set count x) s p h))
-
-  -- The place that an answer of either call shows.
-  pub answer-place : (p e b : ℕ) (t : Trace Value) → Rising p e t → (p ≤ placeOf (settle b t)) × (placeOf (settle b t) ≤ e)
-  answer-place = settle-within

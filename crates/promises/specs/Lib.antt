@@ -1,0 +1,5 @@
+pub mod Common
+pub mod Pack
+pub mod Section
+pub mod Lent
+pub mod Lookup
