@@ -42,7 +42,7 @@ module _ {b : Bool} {f : Format} {s : List ℕ} {r : Step} where
       go e (Taken c) k = record { cursor = c; is = refl; never = λ x h. denied a e (k x (record { reads = refuses h; ready = tt }) .reads) }
       go e (Refused x) k = absurd (denied a e (k x (record { reads = skips; ready = tt }) .reads))
 
--- what is granted comes to an end
+-- what is accepted comes to an end
 pub accepted-ends : {b : Bool} {f : Format} {s : List ℕ} {c : Cursor} → b ≡ true → Accepted b f s (Taken c) → (v : Value) × (q : ℕ) × Ends (trace f s (c .place)) v q
 accepted-ends {b} {f} {s} {c} i g = let k = g .is i in let e : k .cursor ≡ c = cc (k .is) in go (rw e at (k .never)) (settle (c .left) (trace f s (c .place))) refl
   where

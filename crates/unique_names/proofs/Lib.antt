@@ -4,4 +4,4 @@ pub mod Paying
 pub mod Orders
 pub mod Lists
 pub mod Methods
-pub mod Granting
+pub mod Accepting

@@ -14,12 +14,13 @@ use Rattle.format.specs.LayoutTheorems.{same-eq, same-refl}
 use Rattle.vob24.specs.Refusals
 use Rattle.vob24.specs.Settings.{Settings, startingBudget}
 use Rattle.vob24.specs.Grammar.{artifacts}
-use Rattle.vob24.specs.Cost.{after, partOf}
+use Rattle.vob24.specs.Fields.{after, artifactOf}
+use Rattle.vob24.specs.Cost.{partOf}
 use Rattle.vob24.specs.Calls.{Found, At, Not, wholeTrace, lookIn, looking, findOutcome, foundPart}
 
 -- The artifact's name is these bytes.
 abbrev pub Named : List ℕ → Value → Type 0
-Named name a = content (first a) ≡ name
+Named name a = content (artifactOf a .name) ≡ name
 
 -- No artifact of the list has the name.
 pub data NoneNamed (name : List ℕ) : List Value → Type 0 where
@@ -32,15 +33,15 @@ pub data FirstNamed (name : List ℕ) (a : Value) : List Value → Type 0 where
   later : {a′ : Value} {rest : List Value} → (Named name a′ → ⊥) → FirstNamed name a rest → FirstNamed name a (a′ ∷ rest)
 
 abbrev pub payloadOf : Value → Value
-payloadOf a = second (second a)
+payloadOf a = artifactOf a .payload
 
 -- Either way, and what the lookup then answers.
 pub data Looked (name : List ℕ) (list : List Value) (p l : ℕ) : Type 0 where
   missing : NoneNamed name list → lookIn name list p l ≡ Not (wrong Refusals.noSuchArtifact 0) p l → Looked name list p l
   first′ : (a : Value) → FirstNamed name a list → lookIn name list p l ≡ At (start (payloadOf a)) (length (content (payloadOf a))) → Looked name list p l
 
-differs : (name : List ℕ) (a : Value) → same (content (first a)) name ≡ false → Named name a → ⊥
-differs name a e h = go (same (content (first a)) name) e (rw h (same-refl name))
+differs : (name : List ℕ) (a : Value) → same (content (artifactOf a .name)) name ≡ false → Named name a → ⊥
+differs name a e h = go (same (content (artifactOf a .name)) name) e (rw h (same-refl name))
   where
     go : (d : Bool) → d ≡ false → T d → ⊥
     go true x y = let no : _≡_ {A = ℕ} 0 1 = cc in omega arith
@@ -48,13 +49,13 @@ differs name a e h = go (same (content (first a)) name) e (rw h (same-refl name)
 look : (name : List ℕ) (list : List Value) (p l : ℕ) → Looked name list p l
 unfolding lookIn pick
 look name [] p l = missing done refl
-look name (a ∷ rest) p l = go (same (content (first a)) name) refl (look name rest p l)
+look name (a ∷ rest) p l = go (same (content (artifactOf a .name)) name) refl (look name rest p l)
   where
     found : Found
     found = At (start (payloadOf a)) (length (content (payloadOf a)))
 
-    go : (d : Bool) → same (content (first a)) name ≡ d → Looked name rest p l → Looked name (a ∷ rest) p l
-    go true e r = first′ a (here (same-eq (content (first a)) name (rw e tt))) (ap (λ d. pick d found (lookIn name rest p l)) e)
+    go : (d : Bool) → same (content (artifactOf a .name)) name ≡ d → Looked name rest p l → Looked name (a ∷ rest) p l
+    go true e r = first′ a (here (same-eq (content (artifactOf a .name)) name (rw e tt))) (ap (λ d. pick d found (lookIn name rest p l)) e)
     go false e (missing n i) = missing (also (differs name a e) n) (ap (λ d. pick d found (lookIn name rest p l)) e ∙ i)
     go false e (first′ b n i) = first′ b (later (differs name a e) n) (ap (λ d. pick d found (lookIn name rest p l)) e ∙ i)
 
@@ -111,4 +112,4 @@ module _ (set : Settings) (s name : List ℕ) where
     unfolding partOf
     find-part h a f i =
         let k = held-first (after 15 v) s (held-after 15 v s h) in
-        ap (foundPart s) i ∙ held-content (payloadOf a) s (held-second (second a) s (held-second a s (held-named f (held-items (number (first (partOf artifacts v))) (second (partOf artifacts v)) s (held-second (partOf artifacts v) s k)))))
+        ap (foundPart s) i ∙ held-content (payloadOf a) s (held-after 2 a s (held-named f (held-items (number (first (partOf artifacts v))) (second (partOf artifacts v)) s (held-second (partOf artifacts v) s k))))

@@ -7,7 +7,7 @@ use Rattle.in_place.specs.declared.Item.the-variants.{InterfaceMethod}
 use Rattle.reader.proofs.Laws.{fieldThen}
 use Rattle.in_place.proofs.Following.{first-behind, second-behind, listsAsk}
 use Rattle.in_place.proofs.Asking.{list-refused}
-use Rattle.unique_names.proofs.Granting.{accepted-list}
+use Rattle.unique_names.proofs.Accepting.{accepted-list}
 use mathlib.Core.Path.{refl}
 use Rattle.interfaces.proofs.interface.Statement.{statement}
 use Rattle.interfaces.proofs.interface.Tie as tie

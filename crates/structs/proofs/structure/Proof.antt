@@ -2,7 +2,7 @@ use borrow.Author.Needs.{needs}
 use Rattle.vob24.specs.Grammar.{struct}
 use Rattle.reader.proofs.Laws.{fieldThen}
 use Rattle.in_place.proofs.Following.{list-here, listAsks}
-use Rattle.unique_names.proofs.Granting.{accepted-list}
+use Rattle.unique_names.proofs.Accepting.{accepted-list}
 use Rattle.structs.proofs.structure.Statement.{statement}
 use Rattle.structs.proofs.structure.Tie as tie
 

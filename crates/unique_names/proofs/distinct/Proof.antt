@@ -1,5 +1,5 @@
 use borrow.Author.Needs.{needs}
-use Rattle.unique_names.proofs.Granting.{none-repeats}
+use Rattle.unique_names.proofs.Accepting.{none-repeats}
 use Rattle.unique_names.proofs.distinct.Statement.{statement}
 use Rattle.unique_names.proofs.distinct.Tie as tie
 

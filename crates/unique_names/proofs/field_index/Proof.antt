@@ -2,7 +2,7 @@ use Rattle.reader.proofs.Leaves.{product-fits}
 use native.Mathlib.Omega.{arith}
 use Rattle.in_place.proofs.Asking.{list-refused, list-skipped, list-asked, list-room, list-small, list-items}
 use Rattle.unique_names.proofs.Lists.{index-poor, index-then}
-use Rattle.unique_names.proofs.Granting.{accepted-asks}
+use Rattle.unique_names.proofs.Accepting.{accepted-asks}
 use borrow.Author.Needs.{needs}
 use Rattle.unique_names.proofs.field_index.Statement.{statement}
 use Rattle.unique_names.proofs.field_index.Tie as tie
