@@ -4,11 +4,12 @@ use mathlib.Core.List.{List, [], _∷_, _++_}
 use lib.ListN.{length, drop}
 use lib.Dec.{leb, eqb}
 use Rattle.format.specs.Trace.{Wrong, wrong, Trace, end, bind, guard, pick, Settled, refused, taken, settle}
-use Rattle.format.specs.Format.{Value, start, content, first, second, Format, entries}
+use Rattle.format.specs.Format.{Value, start, content, Format, entries}
 use Rattle.format.specs.Reading.{part, same, trace}
 use Rattle.format.specs.Record.{words}
 use Rattle.vob24.specs.Refusals
 use Rattle.vob24.specs.Settings.{Settings, maxPackBytes, startingBudget}
+use Rattle.vob24.specs.Fields.{artifactOf}
 use Rattle.vob24.specs.Grammar.{Section, artifacts, section, pack}
 use Rattle.vob24.specs.Cost.{partOf}
 
@@ -94,7 +95,9 @@ pub data Found : Type 0 where
 -- "the payload of the first artifact with exactly these name bytes"; 27 shows the pack's end and the budget left after reading
 unfoldable pub lookIn : List ℕ → List Value → ℕ → ℕ → Found
 lookIn name [] p l = Not (wrong Refusals.noSuchArtifact 0) p l
-lookIn name (a ∷ rest) p l = let payload = second (second a) in pick (same (content (first a)) name) (At (start payload) (length (content payload))) (lookIn name rest p l)
+lookIn name (a ∷ rest) p l =
+    let payload = artifactOf a .payload in
+    pick (same (content (artifactOf a .name)) name) (At (start payload) (length (content payload))) (lookIn name rest p l)
 
 abbrev pub looking : List ℕ → Settled Value → Found
 looking name (refused w p l) = Not w p l

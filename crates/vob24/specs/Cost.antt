@@ -1,13 +1,14 @@
 -- Document 01's cost, "What is charged", worked out from a record and its texts alone: a clause for each record, and no use of the
 -- grammar's charges. `PackCost` proves it equal to what a reading charges.
-use Prim.Native.Nat.{ℕ, suc, zero, _+_, _*_}
+use Prim.Native.Nat.{ℕ, _+_, _*_}
 use mathlib.Core.List.{List, [], _∷_, map}
 use lib.ListN.{length, getD}
 use Rattle.format.specs.Trace.{sum}
-use Rattle.format.specs.Format.{Value, number, content, first, second, entries, counted}
+use Rattle.format.specs.Format.{Value, number, content, first, entries, counted}
 use Rattle.format.specs.Record.{decode}
 use Rattle.vob24.specs.Settings as of
 use Rattle.vob24.specs.Settings.{Settings, sizeOf}
+use Rattle.vob24.specs.Fields.{after, variantOf, structFieldOf, structOf, interfaceMethodOf, interfaceOf, methodOf, newMethodOf, namedTypeOf, itabOf, runtimeFieldOf, runtimeMethodOf, funcOf, runtimeStructOf, runtimeInterfaceOf, globalOf, elemLayoutOf, mapGetOf, mapLayoutsOf, slotLayoutOf, callLayoutOf, ifaceAssertLayoutOf, callIfaceLayoutOf, functionOf, artifactOf, inlineFunctionOf, inlineSourcesOf}
 use Rattle.vob24.specs.Questions.{named}
 use Rattle.vob24.specs.Grammar.{Section, name, structs, interfaces, namedTypes, itabs, runtimeTypes, wellKnown, constants, globals, functions, externs, entry, islandInit, artifacts, files, functionLocations, inlineSources, section, pack}
 
@@ -25,7 +26,7 @@ listCost size item v = counted v * size + sum (map item (entries v))
 
 -- A variant costs what the part of its tag costs.
 abbrev pub variantCost : List (Value → ℕ) → Value → ℕ
-variantCost parts v = getD parts (number (first v)) nothing (second v)
+variantCost parts v = getD parts (number (variantOf v .tag)) nothing (variantOf v .part)
 
 abbrev pub optionalCost : (Value → ℕ) → Value → ℕ
 optionalCost part = variantCost (nothing ∷ part ∷ [])
@@ -34,22 +35,20 @@ module _ (set : Settings) where
   abbrev pub slotTypesCost : Value → ℕ
   slotTypesCost = listCost (sizeOf set of.SlotType) nothing
 
-  -- name, offset, slot_count, type_info, embedded, tag
   unfoldable pub structFieldCost : Value → ℕ
-  structFieldCost v = textCost (first v) + optionalCost textCost (second (second (second (second (second v)))))
+  structFieldCost v = textCost (structFieldOf v .name) + optionalCost textCost (structFieldOf v .tag)
 
   -- "per struct, for fields not "_", (String, usize) each and then, name by name, its length"
   unfoldable pub structCost : Value → ℕ
   structCost v =
-      let fields = first (second v) in
-      let names = named (map first (entries fields)) in
-      slotTypesCost (first v)
+      let fields = structOf v .fields in
+      let names = named (map (λ field. structFieldOf field .name) (entries fields)) in
+      slotTypesCost (structOf v .slotTypes)
       + listCost (sizeOf set of.FieldMeta) structFieldCost fields
       + (length names * sizeOf set of.StringUsize + sum (map textCost names))
 
-  -- name, signature_rttid
   unfoldable pub interfaceMethodCost : Value → ℕ
-  interfaceMethodCost v = textCost (first v)
+  interfaceMethodCost v = textCost (interfaceMethodOf v .name)
 
   -- "per interface list and runtime interface, names × 2 × &str"
   abbrev pub methodSetCost : Value → ℕ
@@ -57,40 +56,41 @@ module _ (set : Settings) where
 
   unfoldable pub interfaceCost : Value → ℕ
   interfaceCost v =
-      let names = first (second v) in
-      let methods = first (second (second v)) in
-      textCost (first v)
+      let names = interfaceOf v .methodNames in
+      let methods = interfaceOf v .methods in
+      textCost (interfaceOf v .name)
       + listCost (sizeOf set of.String) textCost names
       + listCost (sizeOf set of.InterfaceMethodMeta) interfaceMethodCost methods
       + (methodSetCost names + methodSetCost methods)
 
-  -- a method with the question on its name after it
   unfoldable pub methodCost : Value → ℕ
-  methodCost v = textCost (first (first v))
+  methodCost v = textCost (methodOf (newMethodOf v .method) .name)
 
   -- "per named type, methods × ((String, MethodInfo) + 3 × usize)", in place of a list's
   unfoldable pub namedTypeCost : Value → ℕ
-  namedTypeCost v = textCost (first v) + listCost (sizeOf set of.StringMethodInfo + 3 * sizeOf set of.Usize) methodCost (second (second (second v)))
+  namedTypeCost v = textCost (namedTypeOf v .name) + listCost (sizeOf set of.StringMethodInfo + 3 * sizeOf set of.Usize) methodCost (namedTypeOf v .methods)
 
   unfoldable pub itabCost : Value → ℕ
-  itabCost v = listCost (sizeOf set of.U32) nothing (second v)
+  itabCost v = listCost (sizeOf set of.U32) nothing (itabOf v .methods)
 
-  -- name, typ, tag, embedded, pkg
   unfoldable pub runtimeFieldCost : Value → ℕ
-  runtimeFieldCost v = textCost (first v) + textCost (first (second (second v))) + textCost (second (second (second (second v))))
+  runtimeFieldCost v = textCost (runtimeFieldOf v .name) + textCost (runtimeFieldOf v .tag) + textCost (runtimeFieldOf v .pkg)
 
   -- "per runtime struct, all fields × 2 × (&str, &str)"
   unfoldable pub runtimeStructCost : Value → ℕ
-  runtimeStructCost v = let fields = first (second v) in listCost (sizeOf set of.StructField) runtimeFieldCost fields + counted fields * 2 * sizeOf set of.StrStr
+  runtimeStructCost v = let fields = runtimeStructOf v .fields in listCost (sizeOf set of.StructField) runtimeFieldCost fields + counted fields * 2 * sizeOf set of.StrStr
+
+  unfoldable pub runtimeMethodCost : Value → ℕ
+  runtimeMethodCost v = textCost (runtimeMethodOf v .name)
 
   unfoldable pub runtimeInterfaceCost : Value → ℕ
-  runtimeInterfaceCost v = let methods = first (second v) in listCost (sizeOf set of.InterfaceMethod) interfaceMethodCost methods + methodSetCost methods
+  runtimeInterfaceCost v = let methods = runtimeInterfaceOf v .methods in listCost (sizeOf set of.InterfaceMethod) runtimeMethodCost methods + methodSetCost methods
 
   abbrev pub rttidsCost : Value → ℕ
   rttidsCost = listCost (sizeOf set of.ValueRttid) nothing
 
   unfoldable pub funcCost : Value → ℕ
-  funcCost v = rttidsCost (first (second v)) + rttidsCost (second (second v))
+  funcCost v = rttidsCost (funcOf v .params) + rttidsCost (funcOf v .results)
 
   -- Basic, Named, Pointer, Array, Slice, Map, Chan, Func, Struct, Interface, Tuple, Port, Island
   unfoldable pub runtimeTypeCost : Value → ℕ
@@ -103,54 +103,55 @@ module _ (set : Settings) where
   constantCost = variantCost (nothing ∷ nothing ∷ nothing ∷ nothing ∷ textCost ∷ [])
 
   unfoldable pub globalCost : Value → ℕ
-  globalCost v = textCost (first v) + slotTypesCost (second (second (second (second v))))
+  globalCost v = textCost (globalOf v .name) + slotTypesCost (globalOf v .slotTypes)
 
-  -- two layouts, one after the other
-  abbrev pub layoutsCost : Value → ℕ
-  layoutsCost v = slotTypesCost (first v) + slotTypesCost (second v)
+  abbrev pub mapLayoutsCost : Value → ℕ
+  mapLayoutsCost v = slotTypesCost (mapLayoutsOf v .keyLayout) + slotTypesCost (mapLayoutsOf v .valLayout)
 
-  -- tags 0..5, three that are not in use, 9..18
+  abbrev pub callLayoutCost : Value → ℕ
+  callLayoutCost v = slotTypesCost (callLayoutOf v .argLayout) + slotTypesCost (callLayoutOf v .retLayout)
+
+  -- None, ElemLayout, MapGet, MapSet, MapDelete, LoopEnd, three tags that are not in use, PtrLayout, SlotLayout, CallLayout,
+  -- CallExternLayout, QueueLayout, MapIterNext, IfaceAssertLayout, MapNew, CallIfaceLayout, SelectExecLayout
   unfoldable pub metadataCost : Value → ℕ
   metadataCost =
       variantCost
-      (nothing ∷ (λ v. slotTypesCost (second (second v))) ∷ (λ v. slotTypesCost (first v) + slotTypesCost (first (second v))) ∷ layoutsCost ∷ slotTypesCost
-      ∷ nothing ∷ nothing ∷ nothing ∷ nothing
-      ∷ slotTypesCost ∷ (λ v. slotTypesCost (second v)) ∷ layoutsCost ∷ layoutsCost ∷ slotTypesCost ∷ layoutsCost ∷ (λ v. slotTypesCost (second (second v)))
-      ∷ layoutsCost ∷ (λ v. layoutsCost (second (second v))) ∷ listCost (sizeOf set of.SelectCaseLayout) nothing ∷ [])
-
-  -- code, instruction_metadata
-  unfoldable pub codeCost : Value → ℕ
-  codeCost v = listCost (sizeOf set of.Instruction) nothing (first v) + listCost (sizeOf set of.InstructionMetadata) metadataCost (first (second v))
+      (nothing
+      ∷ (λ v. slotTypesCost (elemLayoutOf v .slotLayout))
+      ∷ (λ v. slotTypesCost (mapGetOf v .keyLayout) + slotTypesCost (mapGetOf v .valLayout))
+      ∷ mapLayoutsCost ∷ slotTypesCost ∷ nothing ∷ nothing ∷ nothing ∷ nothing ∷ slotTypesCost
+      ∷ (λ v. slotTypesCost (slotLayoutOf v .elemLayout))
+      ∷ callLayoutCost ∷ callLayoutCost ∷ slotTypesCost ∷ mapLayoutsCost
+      ∷ (λ v. slotTypesCost (ifaceAssertLayoutOf v .resultLayout))
+      ∷ mapLayoutsCost
+      ∷ (λ v. slotTypesCost (callIfaceLayoutOf v .argLayout) + slotTypesCost (callIfaceLayoutOf v .retLayout))
+      ∷ listCost (sizeOf set of.SelectCaseLayout) nothing ∷ [])
 
   abbrev pub transfersCost : Value → ℕ
   transfersCost = listCost (sizeOf set of.TransferType) nothing
 
-  -- name, param_count, param_slots; local_slots; ret_slots, ret_slot_types, recv_slots, heap_ret_gcref_count, heap_ret_gcref_start,
-  -- heap_ret_slots; is_closure, error_ret_slot, has_defer; slot_types; code, capture_types, capture_slot_types, param_types
   unfoldable pub functionCost : Value → ℕ
   functionCost v =
-      let returns = first (second (second v)) in
-      let types = second (second (second (second v))) in
-      let body = second types in
-      textCost (first (first v))
-      + slotTypesCost (first (second returns))
-      + listCost (sizeOf set of.U16) nothing (second (second (second (second (second returns)))))
-      + slotTypesCost (first types)
-      + codeCost (first body)
-      + transfersCost (first (first (second body)))
-      + slotTypesCost (first (second (second body)))
-      + transfersCost (first (first (second (second (second body)))))
+      textCost (functionOf v .name)
+      + slotTypesCost (functionOf v .retSlotTypes)
+      + listCost (sizeOf set of.U16) nothing (functionOf v .heapRetSlots)
+      + slotTypesCost (functionOf v .slotTypes)
+      + listCost (sizeOf set of.Instruction) nothing (functionOf v .code)
+      + listCost (sizeOf set of.InstructionMetadata) metadataCost (functionOf v .instructionMetadata)
+      + transfersCost (functionOf v .captureTypes)
+      + slotTypesCost (functionOf v .captureSlotTypes)
+      + transfersCost (functionOf v .paramTypes)
 
-  -- name, version, payload
   unfoldable pub artifactCost : Value → ℕ
-  artifactCost v = textCost (first v) + textCost (second (second v))
+  artifactCost v = textCost (artifactOf v .name) + textCost (artifactOf v .payload)
 
-  -- function_id, entries
   unfoldable pub inlineFunctionCost : Value → ℕ
-  inlineFunctionCost v = listCost (sizeOf set of.InlineSourceEntry) nothing (second v)
+  inlineFunctionCost v = listCost (sizeOf set of.InlineSourceEntry) nothing (inlineFunctionOf v .entries)
 
   unfoldable pub inlineSourcesCost : Value → ℕ
-  inlineSourcesCost v = listCost (sizeOf set of.InlineSourceFrame) nothing (first v) + listCost (sizeOf set of.InlineFunctionSources) inlineFunctionCost (second v)
+  inlineSourcesCost v =
+      listCost (sizeOf set of.InlineSourceFrame) nothing (inlineSourcesOf v .frames)
+      + listCost (sizeOf set of.InlineFunctionSources) inlineFunctionCost (inlineSourcesOf v .functions)
 
 -- The cost of a section.
 unfoldable pub sectionCost : Settings → Section → Value → ℕ
@@ -172,11 +173,6 @@ sectionCost set artifacts = listCost (sizeOf set of.ModuleArtifact) (artifactCos
 sectionCost set files = listCost (sizeOf set of.String) textCost
 sectionCost set functionLocations = listCost (sizeOf set of.FuncDebugInfo) (listCost (sizeOf set of.DebugLoc) nothing)
 sectionCost set inlineSources = inlineSourcesCost set
-
--- What stands after the first n parts of a sequence.
-abbrev pub after : ℕ → Value → Value
-after zero v = v
-after (suc n) v = after n (second v)
 
 -- The part of a pack's value that is a section's; magic and version stand before the first.
 unfoldable pub partOf : Section → Value → Value

@@ -1,16 +1,18 @@
--- The VOB 24 rule pack: every record and variant that `serialize.rs` reads, in file order, and its seventeen sections.
+-- The VOB 24 rule pack: every record and variant that `serialize.rs` reads, in file order, and its seventeen sections. The
+-- fields by name are `Fields.antt`.
 use Prim.Native.Nat.{ℕ, _+_, _-_, _*_, min}
 use mathlib.Core.List.{List, [], _∷_, map}
 use mathlib.Core.Bool.{true, false}
 use lib.ListN.{length}
 use lib.Dec.{leb, eqb}
 use Rattle.format.specs.Trace.{wrong, pick}
-use Rattle.format.specs.Format.{Value, number, content, first, second, Rule, byte, Ask, pay, fixed, string, payload, count, ask, Format, empty, leaf, seq, _▸_, chain, times, entries, counted}
+use Rattle.format.specs.Format.{Value, number, content, Rule, byte, Ask, pay, fixed, string, payload, count, ask, Format, empty, leaf, seq, _▸_, chain, times, entries, counted}
 use Rattle.vob24.specs.Refusals
 use Rattle.vob24.specs.Settings as of
 use Rattle.vob24.specs.Settings.{Settings, sizeOf}
 use Rattle.vob24.specs.Utf8.{wellFormed}
 use Rattle.vob24.specs.Leaves.{free, atMost, atMostBare, limit, magicMark, versionMark, u8, u16, u32, u64, optionalId, bool, slotType, valueKind, direction, valueMeta, valueRttid, sourceU32, str, memberName, listOf, choose, optional}
+use Rattle.vob24.specs.Fields.{structFieldOf, interfaceMethodOf, newMethodOf, runtimeFieldOf, transferOf, inlineFunctionOf}
 use Rattle.vob24.specs.Questions.{refuseIf, among, repeat, named, fieldKeys, newNames, Identity, newIdentities, transferWords, sameSlots, sameCode}
 
 -- The questions on what was read.
@@ -24,14 +26,15 @@ unfoldable pub structField : Format
 structField = memberName ▸ u16 ▸ u16 ▸ valueRttid ▸ bool ▸ optional str
 
 abbrev pub fieldName : Value → Value
-fieldName v = first v
+fieldName v = structFieldOf v .name
 
 -- Interfaces. name, signature_rttid
 unfoldable pub interfaceMethod : Format
 interfaceMethod = memberName ▸ u32
 
+-- of a named type's method and a runtime interface's too
 abbrev pub methodName : Value → Value
-methodName v = first v
+methodName v = interfaceMethodOf v .name
 
 -- Named types. name, func_id, is_pointer_receiver, receiver_is_iface_boxed, signature_rttid
 unfoldable pub method : Format
@@ -43,15 +46,15 @@ newMethod seen = seq method (λ v. asking (refuseIf (among (content (methodName 
 
 -- the names so far, after one method more
 abbrev pub alsoSeen : List (List ℕ) → Value → List (List ℕ)
-alsoSeen seen v = content (methodName (first v)) ∷ seen
+alsoSeen seen v = content (methodName (newMethodOf v .method)) ∷ seen
 
 -- Runtime types. name, typ, tag, embedded, pkg
 unfoldable pub runtimeField : Format
 runtimeField = memberName ▸ valueRttid ▸ str ▸ bool ▸ str
 
--- package and name
+-- "by package and name"
 abbrev pub identity : Value → Identity
-identity v = (second (second (second (second v))), first v)
+identity v = (runtimeFieldOf v .pkg, runtimeFieldOf v .name)
 
 -- name, sig
 unfoldable pub runtimeMethod : Format
@@ -97,7 +100,7 @@ transfer = u32 ▸ u32 ▸ u16
 
 -- meta_raw and rttid_raw
 abbrev pub transferred : Value → ℕ × ℕ
-transferred v = (number (first v), number (first (second v)))
+transferred v = (number (transferOf v .metaRaw), number (transferOf v .rttidRaw))
 
 -- name, param_count, param_slots
 unfoldable pub functionHead : Format
@@ -129,7 +132,7 @@ inlineEntry = u32 ▸ u32
 
 -- what is left after one function more
 abbrev pub stillLeft : ℕ → Value → ℕ
-stillLeft left v = left - counted (second v)
+stillLeft left v = left - counted (inlineFunctionOf v .entries)
 
 module _ (set : Settings) where
   -- "A list costs count × its entry's size": a list of entries of the type numbered i.

@@ -3,6 +3,7 @@ pub mod Refusals
 pub mod Settings
 pub mod Utf8
 pub mod Leaves
+pub mod Fields
 pub mod Questions
 pub mod Grammar
 pub mod Sections

@@ -15,13 +15,14 @@ use Rattle.format.specs.LayoutTheorems.{same-eq, same-refl}
 use Rattle.vob24.specs.Refusals
 use Rattle.vob24.specs.Settings.{Settings, startingBudget}
 use Rattle.vob24.specs.Grammar.{artifacts}
-use Rattle.vob24.specs.Cost.{after, partOf}
+use Rattle.vob24.specs.Fields.{after, artifactOf}
+use Rattle.vob24.specs.Cost.{partOf}
 use Rattle.vob24.specs.Calls.{Found, At, Not, wholeTrace, lookIn, looking, findOutcome, foundPart}
 use Rattle.vob24.specs.Theorems.{whole-held}
 
 -- The artifact's name is these bytes.
 abbrev pub Named : List ℕ → Value → Type 0
-Named name a = content (first a) ≡ name
+Named name a = content (artifactOf a .name) ≡ name
 
 -- No artifact of the list has the name.
 pub data NoneNamed (name : List ℕ) : List Value → Type 0 where
@@ -44,15 +45,15 @@ one-first (later d f) (here h) = absurd (d h)
 one-first (later d f) (later d′ g) = one-first f g
 
 abbrev pub payloadOf : Value → Value
-payloadOf a = second (second a)
+payloadOf a = artifactOf a .payload
 
 -- Either way, and what the lookup then answers.
 pub data Looked (name : List ℕ) (list : List Value) (p l : ℕ) : Type 0 where
   missing : NoneNamed name list → lookIn name list p l ≡ Not (wrong Refusals.noSuchArtifact 0) p l → Looked name list p l
   first′ : (a : Value) → FirstNamed name a list → lookIn name list p l ≡ At (start (payloadOf a)) (length (content (payloadOf a))) → Looked name list p l
 
-differs : (name : List ℕ) (a : Value) → same (content (first a)) name ≡ false → Named name a → ⊥
-differs name a e h = go (same (content (first a)) name) e (rw h (same-refl name))
+differs : (name : List ℕ) (a : Value) → same (content (artifactOf a .name)) name ≡ false → Named name a → ⊥
+differs name a e h = go (same (content (artifactOf a .name)) name) e (rw h (same-refl name))
   where
     go : (d : Bool) → d ≡ false → T d → ⊥
     go true x y = let no : _≡_ {A = ℕ} 0 1 = cc in omega arith
@@ -60,13 +61,13 @@ differs name a e h = go (same (content (first a)) name) e (rw h (same-refl name)
 look : (name : List ℕ) (list : List Value) (p l : ℕ) → Looked name list p l
 unfolding lookIn pick
 look name [] p l = missing done refl
-look name (a ∷ rest) p l = go (same (content (first a)) name) refl (look name rest p l)
+look name (a ∷ rest) p l = go (same (content (artifactOf a .name)) name) refl (look name rest p l)
   where
     found : Found
     found = At (start (payloadOf a)) (length (content (payloadOf a)))
 
-    go : (d : Bool) → same (content (first a)) name ≡ d → Looked name rest p l → Looked name (a ∷ rest) p l
-    go true e r = first′ a (here (same-eq (content (first a)) name (rw e tt))) (ap (λ d. pick d found (lookIn name rest p l)) e)
+    go : (d : Bool) → same (content (artifactOf a .name)) name ≡ d → Looked name rest p l → Looked name (a ∷ rest) p l
+    go true e r = first′ a (here (same-eq (content (artifactOf a .name)) name (rw e tt))) (ap (λ d. pick d found (lookIn name rest p l)) e)
     go false e (missing n i) = missing (also (differs name a e) n) (ap (λ d. pick d found (lookIn name rest p l)) e ∙ i)
     go false e (first′ b n i) = first′ b (later (differs name a e) n) (ap (λ d. pick d found (lookIn name rest p l)) e ∙ i)
 
@@ -141,4 +142,4 @@ module _ (set : Settings) (s name : List ℕ) where
           let h = whole-held set s (settle-taken startingBudget (wholeTrace set s) v p l .0 e .0) in
           let k = held-second list s (held-first (after 15 v) s (held-after 15 v s h)) in
           let i = held-named f (held-items (number (first list)) (second list) s k) in
-          ap (foundPart s) find-first ∙ held-content (payloadOf a) s (held-second (second a) s (held-second a s i))
+          ap (foundPart s) find-first ∙ held-content (payloadOf a) s (held-after 2 a s i)

@@ -14,6 +14,7 @@ use Rattle.vob24.specs.Refusals
 use Rattle.vob24.specs.Settings as of
 use Rattle.vob24.specs.Settings.{Settings, sizeOf}
 use Rattle.vob24.specs.Leaves.{packedOk, free, limit, bool, u16, u32, listOf, choose, optional, str}
+use Rattle.vob24.specs.Fields.{variantOf, structFieldOf, structOf, interfaceOf, newMethodOf, namedTypeOf, itabOf, funcOf, runtimeStructOf, runtimeInterfaceOf, globalOf, elemLayoutOf, mapGetOf, mapLayoutsOf, slotLayoutOf, callLayoutOf, ifaceAssertLayoutOf, callIfaceLayoutOf, functionOf, inlineFunctionOf, inlineSourcesOf}
 use Rattle.vob24.specs.Questions
 use Rattle.vob24.specs.Grammar as g
 use Rattle.vob24.specs.Grammar.{Section, name, structs, interfaces, namedTypes, itabs, runtimeTypes, wellKnown, constants, globals, functions, externs, entry, islandInit, artifacts, files, functionLocations, inlineSources}
@@ -49,7 +50,7 @@ part-costs (also h k) (suc n) v = part-costs k n v
 
 variant-costs : {r : Rule} {fs : List Format} {cs : List (Value → ℕ)} → Parts fs cs → Costs (choose r fs) (variantCost cs)
 unfolding charges chargesLeaf
-variant-costs h = record { is = λ v. omega (arith, part-costs h (number (first v)) (second v)) }
+variant-costs h = record { is = λ v. omega (arith, part-costs h (number (variantOf v .tag)) (variantOf v .part)) }
 
 fixed-costs : {w : Width} {r : Rule} → Costs (leaf (fixed w r)) nothing
 unfolding charges chargesLeaf
@@ -152,13 +153,13 @@ module _ (set : Settings) where
   unfolding charges chargesLeaf g.structField cost.structFieldCost
   structField-costs =
       let tag : Costs (optional str) (optionalCost textCost) = variant-costs (also empty-costs (also text-costs done)) in
-      record { is = λ v. omega (arith, tag .is (second (second (second (second (second v)))))) }
+      record { is = λ v. omega (arith, tag .is (structFieldOf v .tag)) }
 
   struct-costs : Costs (g.struct set) (cost.structCost set)
   unfolding charges chargesLeaf chargesAsk g.struct cost.structCost
   struct-costs =
       let fields : Costs (g.list set of.FieldMeta g.structField) (listCost (sizeOf set of.FieldMeta) (cost.structFieldCost set)) = list-costs structField-costs in
-      record { is = λ v. omega (arith, slotTypes-costs .is (first v), fields .is (first (second v)), keys-cost [] (Questions.named (map first (entries (first (second v)))))) }
+      record { is = λ v. omega (arith, slotTypes-costs .is (structOf v .slotTypes), fields .is (structOf v .fields), keys-cost [] (Questions.named (map g.fieldName (entries (structOf v .fields))))) }
 
   interfaceMethod-costs : Costs g.interfaceMethod (cost.interfaceMethodCost set)
   unfolding charges chargesLeaf g.interfaceMethod cost.interfaceMethodCost
@@ -171,26 +172,31 @@ module _ (set : Settings) where
       let methods : Costs (g.list set of.InterfaceMethodMeta g.interfaceMethod) (listCost (sizeOf set of.InterfaceMethodMeta) (cost.interfaceMethodCost set)) = list-costs interfaceMethod-costs in
       record {
         is = λ v.
-            let a = first (second v) in
-            let b = first (second (second v)) in
-            omega (arith, names .is a, methods .is b, names-free [] (entries a), names-free [] (map first (entries b)), names-cost (counted a) (second a) (sizeOf set of.Str), set-cost (counted b) (second b) first (sizeOf set of.Str));
+            let a = interfaceOf v .methodNames in
+            let b = interfaceOf v .methods in
+            omega (arith, names .is a, methods .is b, names-free [] (entries a), names-free [] (map g.methodName (entries b)), names-cost (counted a) (second a) (sizeOf set of.Str), set-cost (counted b) (second b) g.methodName (sizeOf set of.Str));
       }
 
   newMethod-costs : (seen : List (List ℕ)) → Costs (g.newMethod seen) (cost.methodCost set)
   unfolding charges chargesLeaf chargesAsk g.newMethod g.method cost.methodCost
-  newMethod-costs seen = record { is = λ v. omega (arith, if-free (Questions.among (content (first (first v))) seen) (Questions.repeat Refusals.duplicateNamedMethod 0 (first (first v)))) }
+  newMethod-costs seen =
+      record {
+        is = λ v.
+            let name′ = g.methodName (newMethodOf v .method) in
+            omega (arith, if-free (Questions.among (content name′) seen) (Questions.repeat Refusals.duplicateNamedMethod 0 name′));
+      }
 
   namedType-costs : Costs (g.namedType set) (cost.namedTypeCost set)
   unfolding charges chargesLeaf g.namedType g.methods cost.namedTypeCost
   namedType-costs =
       let methods : Costs (seq (leaf (count free 14 Refusals.namedMethodMap (g.methodSize set))) (λ n. chain g.newMethod g.alsoSeen [] (number n))) (listCost (g.methodSize set) (cost.methodCost set)) = chained-costs g.alsoSeen [] newMethod-costs in
-      record { is = λ v. omega (arith, methods .is (second (second (second v)))) }
+      record { is = λ v. omega (arith, methods .is (namedTypeOf v .methods)) }
 
   itab-costs : Costs (g.itab set) (cost.itabCost set)
   unfolding charges chargesLeaf g.itab cost.itabCost
   itab-costs =
       let methods : Costs (g.list set of.U32 u32) (listCost (sizeOf set of.U32) nothing) = list-costs fixed-costs in
-      record { is = λ v. omega (arith, methods .is (second v)) }
+      record { is = λ v. omega (arith, methods .is (itabOf v .methods)) }
 
   runtimeField-costs : Costs g.runtimeField (cost.runtimeFieldCost set)
   unfolding charges chargesLeaf g.runtimeField cost.runtimeFieldCost
@@ -202,22 +208,22 @@ module _ (set : Settings) where
       let fields : Costs (g.list set of.StructField g.runtimeField) (listCost (sizeOf set of.StructField) (cost.runtimeFieldCost set)) = list-costs runtimeField-costs in
       record {
         is = λ v.
-            let a = first (second v) in
+            let a = runtimeStructOf v .fields in
             omega (arith, fields .is a, identities-free [] (map g.identity (entries a)), set-cost (counted a) (second a) g.identity (sizeOf set of.StrStr));
       }
 
-  runtimeMethod-costs : Costs g.runtimeMethod (cost.interfaceMethodCost set)
-  unfolding charges chargesLeaf g.runtimeMethod cost.interfaceMethodCost
+  runtimeMethod-costs : Costs g.runtimeMethod (cost.runtimeMethodCost set)
+  unfolding charges chargesLeaf g.runtimeMethod cost.runtimeMethodCost
   runtimeMethod-costs = record { is = λ v. omega arith }
 
   runtimeInterface-costs : Costs (g.runtimeInterface set) (cost.runtimeInterfaceCost set)
   unfolding charges chargesLeaf chargesAsk g.runtimeInterface cost.runtimeInterfaceCost
   runtimeInterface-costs =
-      let methods : Costs (g.list set of.InterfaceMethod g.runtimeMethod) (listCost (sizeOf set of.InterfaceMethod) (cost.interfaceMethodCost set)) = list-costs runtimeMethod-costs in
+      let methods : Costs (g.list set of.InterfaceMethod g.runtimeMethod) (listCost (sizeOf set of.InterfaceMethod) (cost.runtimeMethodCost set)) = list-costs runtimeMethod-costs in
       record {
         is = λ v.
-            let a = first (second v) in
-            omega (arith, methods .is a, names-free [] (map first (entries a)), set-cost (counted a) (second a) first (sizeOf set of.Str));
+            let a = runtimeInterfaceOf v .methods in
+            omega (arith, methods .is a, names-free [] (map g.methodName (entries a)), set-cost (counted a) (second a) g.methodName (sizeOf set of.Str));
       }
 
   rttids-costs : Costs (g.rttids set) (cost.rttidsCost set)
@@ -225,7 +231,7 @@ module _ (set : Settings) where
 
   func-costs : Costs (bool ▸ g.rttids set ▸ g.rttids set) (cost.funcCost set)
   unfolding charges chargesLeaf cost.funcCost
-  func-costs = record { is = λ v. omega (arith, rttids-costs .is (first (second v)), rttids-costs .is (second (second v))) }
+  func-costs = record { is = λ v. omega (arith, rttids-costs .is (funcOf v .params), rttids-costs .is (funcOf v .results)) }
 
   runtimeType-costs : Costs (g.runtimeType set) (cost.runtimeTypeCost set)
   unfolding g.runtimeType cost.runtimeTypeCost
@@ -240,32 +246,36 @@ module _ (set : Settings) where
 
   global-costs : Costs (g.global set) (cost.globalCost set)
   unfolding charges chargesLeaf g.global cost.globalCost
-  global-costs = record { is = λ v. omega (arith, slotTypes-costs .is (second (second (second (second v))))) }
+  global-costs = record { is = λ v. omega (arith, slotTypes-costs .is (globalOf v .slotTypes)) }
 
-  layouts-costs : Costs (g.slotTypes set ▸ g.slotTypes set) (cost.layoutsCost set)
+  mapLayouts-costs : Costs (g.slotTypes set ▸ g.slotTypes set) (cost.mapLayoutsCost set)
   unfolding charges
-  layouts-costs = record { is = λ v. omega (arith, slotTypes-costs .is (first v), slotTypes-costs .is (second v)) }
+  mapLayouts-costs = record { is = λ v. omega (arith, slotTypes-costs .is (mapLayoutsOf v .keyLayout), slotTypes-costs .is (mapLayoutsOf v .valLayout)) }
+
+  callLayout-costs : Costs (g.slotTypes set ▸ g.slotTypes set) (cost.callLayoutCost set)
+  unfolding charges
+  callLayout-costs = record { is = λ v. omega (arith, slotTypes-costs .is (callLayoutOf v .argLayout), slotTypes-costs .is (callLayoutOf v .retLayout)) }
 
   -- the parts of the metadata that are not lists alone
-  elemLayout-costs : Costs (u32 ▸ bool ▸ g.slotTypes set) (λ v. cost.slotTypesCost set (second (second v)))
+  elemLayout-costs : Costs (u32 ▸ bool ▸ g.slotTypes set) (λ v. cost.slotTypesCost set (elemLayoutOf v .slotLayout))
   unfolding charges chargesLeaf
-  elemLayout-costs = record { is = λ v. omega (arith, slotTypes-costs .is (second (second v))) }
+  elemLayout-costs = record { is = λ v. omega (arith, slotTypes-costs .is (elemLayoutOf v .slotLayout)) }
 
-  mapGet-costs : Costs (g.slotTypes set ▸ g.slotTypes set ▸ bool) (λ v. cost.slotTypesCost set (first v) + cost.slotTypesCost set (first (second v)))
+  mapGet-costs : Costs (g.slotTypes set ▸ g.slotTypes set ▸ bool) (λ v. cost.slotTypesCost set (mapGetOf v .keyLayout) + cost.slotTypesCost set (mapGetOf v .valLayout))
   unfolding charges chargesLeaf
-  mapGet-costs = record { is = λ v. omega (arith, slotTypes-costs .is (first v), slotTypes-costs .is (first (second v))) }
+  mapGet-costs = record { is = λ v. omega (arith, slotTypes-costs .is (mapGetOf v .keyLayout), slotTypes-costs .is (mapGetOf v .valLayout)) }
 
-  slotLayout-costs : Costs (u16 ▸ g.slotTypes set) (λ v. cost.slotTypesCost set (second v))
+  slotLayout-costs : Costs (u16 ▸ g.slotTypes set) (λ v. cost.slotTypesCost set (slotLayoutOf v .elemLayout))
   unfolding charges chargesLeaf
-  slotLayout-costs = record { is = λ v. omega (arith, slotTypes-costs .is (second v)) }
+  slotLayout-costs = record { is = λ v. omega (arith, slotTypes-costs .is (slotLayoutOf v .elemLayout)) }
 
-  ifaceAssert-costs : Costs (g.assertKind ▸ u32 ▸ g.slotTypes set) (λ v. cost.slotTypesCost set (second (second v)))
+  ifaceAssert-costs : Costs (g.assertKind ▸ u32 ▸ g.slotTypes set) (λ v. cost.slotTypesCost set (ifaceAssertLayoutOf v .resultLayout))
   unfolding charges chargesLeaf
-  ifaceAssert-costs = record { is = λ v. omega (arith, slotTypes-costs .is (second (second v))) }
+  ifaceAssert-costs = record { is = λ v. omega (arith, slotTypes-costs .is (ifaceAssertLayoutOf v .resultLayout)) }
 
-  callIface-costs : Costs (u32 ▸ u32 ▸ g.slotTypes set ▸ g.slotTypes set) (λ v. cost.layoutsCost set (second (second v)))
+  callIface-costs : Costs (u32 ▸ u32 ▸ g.slotTypes set ▸ g.slotTypes set) (λ v. cost.slotTypesCost set (callIfaceLayoutOf v .argLayout) + cost.slotTypesCost set (callIfaceLayoutOf v .retLayout))
   unfolding charges chargesLeaf
-  callIface-costs = record { is = λ v. omega (arith, layouts-costs .is (second (second v))) }
+  callIface-costs = record { is = λ v. omega (arith, slotTypes-costs .is (callIfaceLayoutOf v .argLayout), slotTypes-costs .is (callIfaceLayoutOf v .retLayout)) }
 
   selectCase-costs : Costs g.selectCase nothing
   unfolding g.selectCase
@@ -279,61 +289,50 @@ module _ (set : Settings) where
   metadata-costs =
       let cases : Costs (g.list set of.SelectCaseLayout g.selectCase) (listCost (sizeOf set of.SelectCaseLayout) nothing) = list-costs selectCase-costs in
       variant-costs
-      (also empty-costs (also elemLayout-costs (also mapGet-costs (also layouts-costs (also slotTypes-costs (also fixed-costs (also empty-costs (also empty-costs (also empty-costs
-      (also slotTypes-costs (also slotLayout-costs (also layouts-costs (also layouts-costs (also slotTypes-costs (also layouts-costs (also ifaceAssert-costs
-      (also layouts-costs (also callIface-costs (also cases done)))))))))))))))))))
+      (also empty-costs (also elemLayout-costs (also mapGet-costs (also mapLayouts-costs (also slotTypes-costs (also fixed-costs (also empty-costs (also empty-costs (also empty-costs
+      (also slotTypes-costs (also slotLayout-costs (also callLayout-costs (also callLayout-costs (also slotTypes-costs (also mapLayouts-costs (also ifaceAssert-costs
+      (also mapLayouts-costs (also callIface-costs (also cases done)))))))))))))))))))
 
   instruction-costs : Costs g.instruction nothing
   unfolding g.instruction
   instruction-costs = free-seq fixed-costs (λ _. free-seq fixed-costs (λ _. free-seq fixed-costs (λ _. two-fixed)))
 
-  code-costs : Costs (g.code set) (cost.codeCost set)
-  unfolding charges chargesLeaf g.code cost.codeCost
-  code-costs =
-      let instructions : Costs (g.list set of.Instruction g.instruction) (listCost (sizeOf set of.Instruction) nothing) = list-costs instruction-costs in
-      let metadata : Costs (g.list set of.InstructionMetadata (g.metadata set)) (listCost (sizeOf set of.InstructionMetadata) (cost.metadataCost set)) = list-costs metadata-costs in
-      record { is = λ v. omega (arith, instructions .is (first v), metadata .is (first (second v)), agree-free (eqb (counted (first (second v))) (counted (first v))) (wrong Refusals.invalidInstructionMetadata 0)) }
+  instructions-costs : Costs (g.list set of.Instruction g.instruction) (listCost (sizeOf set of.Instruction) nothing)
+  instructions-costs = list-costs instruction-costs
+
+  metadatas-costs : Costs (g.list set of.InstructionMetadata (g.metadata set)) (listCost (sizeOf set of.InstructionMetadata) (cost.metadataCost set))
+  metadatas-costs = list-costs metadata-costs
 
   transfer-costs : Costs g.transfer nothing
   unfolding g.transfer
   transfer-costs = free-seq fixed-costs (λ _. two-fixed)
 
-  transfers-costs : (c : ℕ) → Costs (g.transfers set c) (λ v. cost.transfersCost set (first v))
-  unfolding charges chargesLeaf g.transfers
-  transfers-costs c =
-      let entries′ : Costs (g.list set of.TransferType g.transfer) (cost.transfersCost set) = list-costs transfer-costs in
-      record { is = λ v. omega (arith, entries′ .is (first v), transfers-free c 0 (map g.transferred (entries (first v)))) }
+  transferTypes-costs : Costs (g.list set of.TransferType g.transfer) (cost.transfersCost set)
+  transferTypes-costs = list-costs transfer-costs
 
-  functionBody-costs : (types locals : ℕ) (v : Value) → charges (g.functionBody set types locals) v ≡
-      cost.codeCost set (first v) + cost.transfersCost set (first (first (second v))) + cost.slotTypesCost set (first (second (second v))) + cost.transfersCost set (first (first (second (second (second v)))))
-  unfolding charges chargesLeaf g.functionBody
-  functionBody-costs types locals v =
-      omega (
-        arith,
-        code-costs .is (first v),
-        transfers-costs Refusals.captureMeta .is (first (second v)),
-        slotTypes-costs .is (first (second (second v))),
-        transfers-costs Refusals.parameterMeta .is (first (second (second (second v)))),
-        agree-free (eqb types locals) (Questions.functionWrong Refusals.slotCount types locals),
-      )
-
-  functionReturns-costs : (v : Value) → charges (g.functionReturns set) v ≡ cost.slotTypesCost set (first (second v)) + listCost (sizeOf set of.U16) nothing (second (second (second (second (second v)))))
-  unfolding charges chargesLeaf g.functionReturns
-  functionReturns-costs v =
-      let slots : Costs (g.list set of.U16 u16) (listCost (sizeOf set of.U16) nothing) = list-costs fixed-costs in
-      omega (arith, slotTypes-costs .is (first (second v)), slots .is (second (second (second (second (second v))))))
+  heapRetSlots-costs : Costs (g.list set of.U16 u16) (listCost (sizeOf set of.U16) nothing)
+  heapRetSlots-costs = list-costs fixed-costs
 
   function-costs : Costs (g.function set) (cost.functionCost set)
-  unfolding charges chargesLeaf g.function g.functionHead g.functionTraits cost.functionCost
+  unfolding charges chargesLeaf g.function g.functionHead g.functionReturns g.functionTraits g.functionBody g.code g.transfers cost.functionCost
   function-costs =
       record {
         is = λ v.
-            let types = second (second (second (second v))) in
+            let f = functionOf v in
             omega (
               arith,
-              functionReturns-costs (first (second (second v))),
-              slotTypes-costs .is (first types),
-              functionBody-costs (counted (first types)) (number (first (second v))) (second types),
+              slotTypes-costs .is (f .retSlotTypes),
+              heapRetSlots-costs .is (f .heapRetSlots),
+              slotTypes-costs .is (f .slotTypes),
+              instructions-costs .is (f .code),
+              metadatas-costs .is (f .instructionMetadata),
+              agree-free (eqb (counted (f .instructionMetadata)) (counted (f .code))) (wrong Refusals.invalidInstructionMetadata 0),
+              transferTypes-costs .is (f .captureTypes),
+              transfers-free Refusals.captureMeta 0 (map g.transferred (entries (f .captureTypes))),
+              slotTypes-costs .is (f .captureSlotTypes),
+              transferTypes-costs .is (f .paramTypes),
+              transfers-free Refusals.parameterMeta 0 (map g.transferred (entries (f .paramTypes))),
+              agree-free (eqb (counted (f .slotTypes)) (number (f .localSlots))) (Questions.functionWrong Refusals.slotCount (counted (f .slotTypes)) (number (f .localSlots))),
             );
       }
 
@@ -357,14 +356,14 @@ module _ (set : Settings) where
   unfolding charges chargesLeaf g.inlineFunction cost.inlineFunctionCost
   inlineFunction-costs left =
       let inlined : Costs (listOf (limit Refusals.debugMetadataLimitExceeded Refusals.inlineEntries left) (sizeOf set of.InlineSourceEntry) g.inlineEntry) (listCost (sizeOf set of.InlineSourceEntry) nothing) = list-costs inlineEntry-costs in
-      record { is = λ v. omega (arith, inlined .is (second v)) }
+      record { is = λ v. omega (arith, inlined .is (inlineFunctionOf v .entries)) }
 
   inlineSources-costs : (n : ℕ) → Costs (g.inlineFrames set ▸ g.inlineFunctions set n) (cost.inlineSourcesCost set)
   unfolding charges g.inlineFrames g.inlineFunctions cost.inlineSourcesCost
   inlineSources-costs n =
       let frames : Costs (listOf (limit Refusals.debugMetadataLimitExceeded Refusals.inlineFrames (set .inlineRecords)) (sizeOf set of.InlineSourceFrame) g.frame) (listCost (sizeOf set of.InlineSourceFrame) nothing) = list-costs frame-costs in
       let functions′ : Costs (seq (leaf (count (limit Refusals.debugMetadataLimitExceeded Refusals.inlineFunctions (min n (set .inlineRecords))) 1 Refusals.vector (sizeOf set of.InlineFunctionSources))) (λ n. chain (g.inlineFunction set) g.stillLeft (set .inlineRecords) (number n))) (listCost (sizeOf set of.InlineFunctionSources) (cost.inlineFunctionCost set)) = chained-costs g.stillLeft (set .inlineRecords) inlineFunction-costs in
-      record { is = λ v. omega (arith, frames .is (first v), functions′ .is (second v)) }
+      record { is = λ v. omega (arith, frames .is (inlineSourcesOf v .frames), functions′ .is (inlineSourcesOf v .functions)) }
 
   externs-costs : Costs (leaf (count g.noHostCalls 1 Refusals.vector 0)) nothing
   unfolding charges chargesLeaf

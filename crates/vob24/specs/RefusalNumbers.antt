@@ -8,12 +8,13 @@ use lib.ListN.{length, drop, getD}
 use lib.Dec.{leb, leb→le}
 use Rattle.format.specs.Trace.{Wrong, wrong, Trace, stop, end, charge, needs, bind, guard, pick, Settled, spent, settle}
 use Rattle.format.specs.Trace as of
-use Rattle.format.specs.Format.{Value, number, start, content, first, second, Rule, Width, Ask, pay, deny, fixed, mark, packed, string, payload, count, ask, Format, empty, leaf, seq, _▸_, chain, entries}
+use Rattle.format.specs.Format.{Value, number, start, content, Rule, Width, Ask, pay, deny, fixed, mark, packed, string, payload, count, ask, Format, empty, leaf, seq, _▸_, chain, entries}
 use Rattle.format.specs.Reading.{little, same, room, field, packedStep, tracePacked, traceAsk, traceLeaf, trace}
 use Rattle.format.specs.Record.{words}
 use Rattle.vob24.specs.Refusals
 use Rattle.vob24.specs.Settings.{Settings, startingBudget}
 use Rattle.vob24.specs.Leaves.{free, kindOk, packedWord, choose}
+use Rattle.vob24.specs.Fields.{artifactOf}
 use Rattle.vob24.specs.Questions
 use Rattle.vob24.specs.Grammar as g
 use Rattle.vob24.specs.Grammar.{Section, name, structs, interfaces, namedTypes, itabs, runtimeTypes, wellKnown, constants, globals, functions, externs, entry, islandInit, artifacts, files, functionLocations, inlineSources}
@@ -339,9 +340,9 @@ closes f a b t (takes {v = v} {p = p} {l = l}) = go (leb (length (words f v)) (l
 looks : (x : List ℕ) (vs : List Value) (p l : ℕ) → Looked (vob.lookIn x vs p l)
 unfolding vob.lookIn pick
 looks x [] p l = missed (own refl refl)
-looks x (v ∷ vs) p l = go (same (content (first v)) x) (looks x vs p l)
+looks x (v ∷ vs) p l = go (same (content (artifactOf v .name)) x) (looks x vs p l)
   where
-    go : (d : Bool) → Looked (vob.lookIn x vs p l) → Looked (pick d (vob.At (start (second (second v))) (length (content (second (second v))))) (vob.lookIn x vs p l))
+    go : (d : Bool) → Looked (vob.lookIn x vs p l) → Looked (pick d (vob.At (start (artifactOf v .payload)) (length (content (artifactOf v .payload)))) (vob.lookIn x vs p l))
     go true h = found
     go false h = h
 
