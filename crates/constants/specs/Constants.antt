@@ -5,9 +5,10 @@ use lib.Ieee.{binary64, ofBits}
 use lib.ListN.{length}
 use mir.Syntax.{w64}
 use mir.Val.{toZ}
-use Rattle.format.specs.Format.{Value, number, start, content, first, second, Format}
+use Rattle.format.specs.Format.{Value, number, start, content, Format}
 use Rattle.vob24.specs.Settings as of
 use Rattle.vob24.specs.Settings.{Settings}
+use Rattle.vob24.specs.Fields.{variantOf}
 use Rattle.vob24.specs.Grammar as vob
 use Rattle.reader.specs.declared.Step.{Step}
 use Rattle.reader.specs.declared.Step.the-variants.{Taken, Refused}
@@ -50,4 +51,4 @@ constantBy (suc (suc (suc zero))) v = floatOf v
 constantBy (suc (suc (suc (suc n)))) v = textOf v
 
 abbrev pub constantOf : ℕ → Value → Constant
-constantOf p v = constantBy (number (first v)) (second v)
+constantOf p v = let x = variantOf v in constantBy (number (x .tag)) (x .part)

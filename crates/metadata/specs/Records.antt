@@ -3,10 +3,12 @@ use Prim.Native.Nat.{ℕ, _+_}
 use mathlib.Core.List.{List, [], _∷_}
 use lib.Dec.{eqb}
 use lib.ListN.{getD}
-use Rattle.format.specs.Format.{Value, number, first, second, counted, Format, _▸_}
+use Rattle.format.specs.Format.{Value, number, counted, Format, _▸_}
 use Rattle.vob24.specs.Settings as of
 use Rattle.vob24.specs.Settings.{Settings}
 use Rattle.vob24.specs.Leaves.{u16, u32, bool}
+use Rattle.vob24.specs.Fields as of-value
+use Rattle.vob24.specs.Fields.{variantOf, after}
 use Rattle.vob24.specs.Grammar as vob
 use Rattle.reader.specs.Recorded.{noList, listAt}
 use Rattle.metadata.specs.declared.Metadata.{Metadata}
@@ -57,30 +59,39 @@ pastSlots p v = p + 4 + counted v
 
 -- two lists of slot types, one after the other
 abbrev pub twoOf : Metadata → ℕ → Value → MetadataRecord
-twoOf k p v = record { kind = k; first = listAt p (first v); second = listAt (pastSlots p (first v)) (second v) }
+twoOf k p v =
+    let x = of-value.callLayoutOf v in
+    record { kind = k; first = listAt p (x .argLayout); second = listAt (pastSlots p (x .argLayout)) (x .retLayout) }
 
 abbrev pub elemOf : ℕ → Value → MetadataRecord
-elemOf p v = oneOf (kind.ElemLayout (number (first v)) (eqb (number (first (second v))) 1)) (p + 5) (second (second v))
+elemOf p v =
+    let x = of-value.elemLayoutOf v in
+    oneOf (kind.ElemLayout (number (x .elemBytes)) (eqb (number (x .needsSignExtend)) 1)) (p + 5) (x .slotLayout)
 
 abbrev pub mapGetOf : ℕ → Value → MetadataRecord
 mapGetOf p v =
+    let x = of-value.mapGetOf v in
     record {
-      kind = kind.MapGet (eqb (number (second (second v))) 1);
-      first = listAt p (first v);
-      second = listAt (pastSlots p (first v)) (first (second v));
+      kind = kind.MapGet (eqb (number (x .hasOk)) 1);
+      first = listAt p (x .keyLayout);
+      second = listAt (pastSlots p (x .keyLayout)) (x .valLayout);
     }
 
 abbrev pub loopEndOf : ℕ → Value → MetadataRecord
 loopEndOf p v = bareOf (kind.LoopEnd (number v))
 
 abbrev pub slotOf : ℕ → Value → MetadataRecord
-slotOf p v = oneOf (kind.SlotLayout (number (first v))) (p + 2) (second v)
+slotOf p v = let x = of-value.slotLayoutOf v in oneOf (kind.SlotLayout (number (x .arrayLen))) (p + 2) (x .elemLayout)
 
 abbrev pub assertOf : ℕ → Value → MetadataRecord
-assertOf p v = oneOf (kind.IfaceAssertLayout (number (first v)) (number (first (second v)))) (p + 5) (second (second v))
+assertOf p v =
+    let x = of-value.ifaceAssertLayoutOf v in
+    oneOf (kind.IfaceAssertLayout (number (x .assertKind)) (number (x .targetId))) (p + 5) (x .resultLayout)
 
 abbrev pub callIfaceOf : ℕ → Value → MetadataRecord
-callIfaceOf p v = twoOf (kind.CallIfaceLayout (number (first v)) (number (first (second v)))) (p + 8) (second (second v))
+callIfaceOf p v =
+    let x = of-value.callIfaceLayoutOf v in
+    twoOf (kind.CallIfaceLayout (number (x .ifaceMetaId)) (number (x .methodIdx))) (p + 8) (after 2 v)
 
 -- by the tag; three tags are not in use
 abbrev pub metadataRecords : ℕ → Value → List MetadataRecord
@@ -90,4 +101,4 @@ metadataRecords p v =
     ∷ assertOf p v ∷ twoOf kind.MapNew p v ∷ callIfaceOf p v ∷ oneOf kind.SelectExecLayout p v ∷ []
 
 unfoldable pub metadataOf : ℕ → Value → MetadataRecord
-metadataOf p v = getD (metadataRecords (p + 1) (second v)) (number (first v)) (bareOf kind.None)
+metadataOf p v = let x = variantOf v in getD (metadataRecords (p + 1) (x .part)) (number (x .tag)) (bareOf kind.None)

@@ -3,10 +3,12 @@ use Prim.Native.Nat.{ℕ, zero, suc, _+_, _*_}
 use mathlib.Core.List.{List, [], _∷_}
 use lib.Dec.{eqb}
 use lib.ListN.{getD}
-use Rattle.format.specs.Format.{Value, number, first, second, counted, Format, _▸_}
+use Rattle.format.specs.Format.{Value, number, counted, Format, _▸_}
 use Rattle.vob24.specs.Settings as of
 use Rattle.vob24.specs.Settings.{Settings}
 use Rattle.vob24.specs.Leaves.{u32, u64, optionalId, bool, direction, valueRttid}
+use Rattle.vob24.specs.Fields as of-value
+use Rattle.vob24.specs.Fields.{variantOf}
 use Rattle.vob24.specs.Grammar as vob
 use Rattle.reader.specs.Recorded.{noList}
 use Rattle.runtime_type.specs.declared.OptionalId.{OptionalId}
@@ -80,37 +82,37 @@ abbrev pub basicOf : ℕ → Value → RuntimeTypeRecord
 basicOf p v = bareOf (kind.Basic (number v))
 
 abbrev pub namedOf : ℕ → Value → RuntimeTypeRecord
-namedOf p v = bareOf (kind.Named (number (first v)) (optionalOf (number (second v))))
+namedOf p v = let x = of-value.namedOf v in bareOf (kind.Named (number (x .id)) (optionalOf (number (x .structMetaId))))
 
 abbrev pub pointerOf : ℕ → Value → RuntimeTypeRecord
 pointerOf p v = bareOf (kind.Pointer (number v))
 
 abbrev pub arrayOf : ℕ → Value → RuntimeTypeRecord
-arrayOf p v = bareOf (kind.Array (number (first v)) (number (second v)))
+arrayOf p v = let x = of-value.arrayOf v in bareOf (kind.Array (number (x .len)) (number (x .elem)))
 
 abbrev pub sliceOf : ℕ → Value → RuntimeTypeRecord
 sliceOf p v = bareOf (kind.Slice (number v))
 
 abbrev pub mapOf : ℕ → Value → RuntimeTypeRecord
-mapOf p v = bareOf (kind.Map (number (first v)) (number (second v)))
+mapOf p v = let x = of-value.mapOf v in bareOf (kind.Map (number (x .key)) (number (x .val)))
 
 abbrev pub chanOf : ℕ → Value → RuntimeTypeRecord
-chanOf p v = bareOf (kind.Chan (number (first v)) (number (second v)))
+chanOf p v = let x = of-value.chanOf v in bareOf (kind.Chan (number (x .dir)) (number (x .elem)))
 
 abbrev pub funcOf : ℕ → Value → RuntimeTypeRecord
-funcOf p v = twoOf (kind.Func (eqb (number (first v)) 1)) (p + 1) (counted (first (second v))) (counted (second (second v)))
+funcOf p v = let x = of-value.funcOf v in twoOf (kind.Func (eqb (number (x .variadic)) 1)) (p + 1) (counted (x .params)) (counted (x .results))
 
 abbrev pub structOf : ℕ → Value → RuntimeTypeRecord
-structOf p v = oneOf (kind.Struct (number (first v))) (p + 4) (first (second v))
+structOf p v = let x = of-value.runtimeStructOf v in oneOf (kind.Struct (number (x .metaId))) (p + 4) (x .fields)
 
 abbrev pub interfaceOf : ℕ → Value → RuntimeTypeRecord
-interfaceOf p v = oneOf (kind.Interface (number (first v))) (p + 4) (first (second v))
+interfaceOf p v = let x = of-value.runtimeInterfaceOf v in oneOf (kind.Interface (number (x .metaId))) (p + 4) (x .methods)
 
 abbrev pub tupleOf : ℕ → Value → RuntimeTypeRecord
 tupleOf p v = oneOf kind.Tuple p v
 
 abbrev pub portOf : ℕ → Value → RuntimeTypeRecord
-portOf p v = bareOf (kind.Port (number (first v)) (number (second v)))
+portOf p v = let x = of-value.chanOf v in bareOf (kind.Port (number (x .dir)) (number (x .elem)))
 
 -- by the tag
 abbrev pub typeRecords : ℕ → Value → List RuntimeTypeRecord
@@ -119,4 +121,4 @@ typeRecords p v =
     ∷ tupleOf p v ∷ portOf p v ∷ bareOf kind.Island ∷ []
 
 unfoldable pub runtimeTypeOf : ℕ → Value → RuntimeTypeRecord
-runtimeTypeOf p v = getD (typeRecords (p + 1) (second v)) (number (first v)) (bareOf kind.Island)
+runtimeTypeOf p v = let x = variantOf v in getD (typeRecords (p + 1) (x .part)) (number (x .tag)) (bareOf kind.Island)
