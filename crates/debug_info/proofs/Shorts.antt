@@ -26,7 +26,8 @@ use Rattle.reader.proofs.Settles.{guard-yes, field-yes}
 use Rattle.lists.specs.Runs.{advanced, Runs, Copied}
 use Rattle.lists.specs.declared.Rest.{Rest}
 use Rattle.lists.proofs.Copying.{byte-at}
-use Rattle.lists.proofs.Items.{Item, runs-of, runs-one, runs-join}
+use Rattle.reader.proofs.Laws.{comes-on}
+use Rattle.lists.proofs.Items.{Item, runs-of, runs-one}
 use Rattle.debug_info.specs.Packs.{Packs, last, more}
 
 -- ---- one number
@@ -144,7 +145,7 @@ module _ {s : List ℕ} {c d : Cursor} {x : ℕ} {q : Number} (g : q ≡ Got x d
       let e₁ : n - 2 ≡ n - 1 - 1 = omega arith in
       let e₂ : c .place + (1 + i) ≡ c .place + 1 + i = omega arith in
       let e₃ : c .at + 2 ≡ c .at + 1 + 1 = omega arith in
-      rw (e, y, w, e₁, e₂, e₃) (runs-join l (runs-begun {n = n - 1} (begins-past m) (l .ready) (omega arith) (omega arith) b))
+      rw (e, y, w, e₁, e₂, e₃) (comes-on l (runs-begun {n = n - 1} (begins-past m) (l .ready) (omega arith) (omega arith) b))
 
 -- what a run leaves
 pub fewer-items : {n : ℕ} (k : ℕ) {d : Cursor} {z : Rest} → z ≡ record { items = n - k; at = d } → z .items ≤ n

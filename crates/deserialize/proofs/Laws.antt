@@ -1,77 +1,35 @@
--- Reading on to a part of what a whole reading has taken.
-use Prim.Native.Nat.{ℕ, _+_, _≤_}
-use mathlib.Core.Path.{_≡_, refl, sym, _∙_}
-use mathlib.Core.List.{List}
-use native.Mathlib.Omega.{arith}
+-- Reading on to a section of what a whole reading has taken.
+use Prim.Native.Nat.{ℕ, suc, zero, _+_, _<_}
+use mathlib.Core.Path.{_≡_, refl}
+use mathlib.Core.List.{List, [], _∷_}
 use mathlib.Core.Bool.{Bool, true}
-use lib.ListN.{length}
+use native.Mathlib.Omega.{arith}
+use native.Mathlib.Numerals.{add-one}
+use lib.ListN.{length, getD, drop}
 use lib.Dec.{leb}
 use borrow.Author.Tests.{le-leb}
-use Rattle.format.specs.Trace.{Settled, refused, taken, settle}
-use Rattle.format.specs.Format.{Value, pair, first, second, Format, seq, entries}
-use Rattle.format.specs.Reading.{little, part, trace}
-use Rattle.format.specs.SettleTheorems.{thenS, settle-taken}
-use Rattle.format.specs.TraceTheorems.{settle-seq, seq-ends}
+use Rattle.format.specs.Format.{Value, first, second, number, Rule, count, Format, leaf, seq, times, entries}
+use Rattle.format.specs.Reading.{trace}
+use Rattle.format.specs.SettleTheorems.{settle-taken}
+use Rattle.format.specs.TraceTheorems.{seq-ends}
 use Rattle.vob24.specs.Settings.{Settings}
-use Rattle.vob24.specs.Grammar.{name, structs, interfaces, namedTypes, itabs, runtimeTypes, wellKnown, constants, globals, functions, externs, entry, islandInit, artifacts, section, afterFunctions, sections, magic, version, pack, artifact}
-use Rattle.vob24.specs.Cost.{partOf}
-use Rattle.in_place.specs.Contract.{Items}
-use Rattle.in_place.specs.Walk.{itemsAt, list-off}
-use Rattle.reader.specs.Contract.{Ready, ReadyAt, Reads, takes, refuses, skips, Reader}
-use Rattle.reader.proofs.Laws.{fieldReads}
-use Rattle.reader.specs.declared.Cursor.{Cursor}
-use Rattle.reader.specs.declared.Step.{Step}
-use Rattle.reader.specs.declared.Refusal.{Refusal}
-use Rattle.reader.specs.declared.Step.the-variants.{Taken, Refused}
+use Rattle.vob24.specs.Grammar as vob
+use Rattle.vob24.specs.Grammar.{inlineSources, section, afterFunctions, sections, magic, version, pack}
+use Rattle.vob24.specs.Sections.{sectionOf, functionsOf}
+use Rattle.vob24.specs.Fields.{after}
+use Rattle.vob24.specs.Cost.{allSections}
 use Rattle.vob24.specs.declared.Section.{Section}
+use Rattle.in_place.specs.Walk.{list-off}
+use Rattle.reader.specs.Contract.{Ready, ReadyAt, Reader, On}
 use Rattle.reader.specs.Accepted.{Accepted}
-use Rattle.deserialize.specs.Parts.{formatOf, ComesTo}
-use Rattle.deserialize.specs.Reach.{On, Reaches}
-
-rest : {v₁ : Value} (t : Settled Value) {v : Value} {q l : ℕ} → thenS t (λ w r m. taken (pair v₁ w) r m) ≡ taken v q l → (v₁ ≡ first v) × (t ≡ taken (second v) q l)
-unfolding thenS
-rest (refused w p b) h = let no : _≡_ {A = ℕ} 0 1 = cc in absurd (omega arith)
-rest {v₁} (taken w p b) {v} {q} {l} h = let e : v ≡ pair v₁ w = cc in let i : p ≡ q = cc in let j : b ≡ l = cc in (rw e, rw (e, i, j))
-
--- A part read: the rest is still to come.
-pub on-next : {f : Format} {g : Value → Format} {s : List ℕ} {v : Value} {q l : ℕ} {r r′ : Step} {t t′ : List ℕ} → On (seq f g) s v q l r → Reader f s r t r′ t′ → On (g (first v)) s (second v) q l r′
-unfolding thenS
-on-next {f} {g} {s} {v} {q} {l} {r} {r′} {t} {t′} o k = go (rw (o .is) at (k .reads))
-  where
-    e : thenS (settle (o .cursor .left) (trace f s (o .cursor .place))) (λ v q l. thenS (settle l (trace (g v) s q)) (λ w r m. taken (pair v w) r m)) ≡ taken v q l
-    e = sym (settle-seq (o .cursor .left) f g s (o .cursor .place)) ∙ o .settles
-
-    go : {r′ : Step} → Reads f s (Taken (o .cursor)) t r′ t′ → On (g (first v)) s (second v) q l r′
-    go (takes {v = v₁} {c′ = d} h) =
-        let x = rest (settle (d .left) (trace (g v₁) s (d .place))) (rw (h .settles) at e) in
-        record { cursor = d; is = refl; settles = rw (← (x .0)) (x .1) }
-    go (refuses h) = let y = rw (h .settles) at e in let no : _≡_ {A = ℕ} 0 1 = cc in absurd (omega arith)
-
--- ---- a reader of some of the sections
-
-comes-refused : {f g : Format} {s t : List ℕ} {x : Refusal} {q : Step} {t″ : List ℕ} → Reads g s (Refused x) t q t″ → Reads f s (Refused x) t q t″
-comes-refused skips = skips
-
-module _ {f g : Format} {s t : List ℕ} {r : Step} where
-  pub comes-not : {x : Refusal} → r ≡ Refused x → ComesTo f g s r t r t
-  comes-not e = rw e (record { rest = comes-refused; ready = tt })
-
-  pub comes-at : {c : Cursor} {q : Step} {t′ : List ℕ} → r ≡ Taken c → ComesTo f g s (Taken c) t q t′ → ComesTo f g s r t q t′
-  comes-at e k = rw e k
-
-  pub comesThen : {r′ q : Step} {t′ t″ : List ℕ} → ComesTo f g s r t r′ t′ → Reader g s r′ t′ q t″ → Reader f s r t q t″
-  comesThen c k = record { reads = c .rest (k .reads); ready = k .ready }
+use Rattle.reader.proofs.Accepting.{accepted-next, accepted-on, on-accepted, on-next}
+use Rattle.reader.specs.declared.Step.{Step}
+use Rattle.deserialize.specs.Parts.{formatOf, functionsBy, inOrder, fromNumber, functionsBefore}
+use Rattle.deserialize.specs.Reach.{Reaches, ListStands}
 
 -- an empty list is within any limit
 pub within-any : (n : ℕ) → leb 0 n ≡ true
 within-any n = le-leb 0 n (omega arith)
-
--- one list after another
-pub comes-last : {f g : Format} {s t t′ : List ℕ} {r r′ : Step} → Reader f s r t r′ t′ → ComesTo (seq f (λ _. g)) g s r t r′ t′
-comes-last h = record { rest = λ k. fieldReads (h .reads) (λ _. k); ready = h .ready }
-
-pub comes-next : {f g e : Format} {s t t₁ t′ : List ℕ} {r r₁ r′ : Step} → Reader f s r t r₁ t₁ → ComesTo e g s r₁ t₁ r′ t′ → ComesTo (seq f (λ _. e)) g s r t r′ t′
-comes-next h c = record { rest = λ k. fieldReads (h .reads) (λ _. c .rest k); ready = c .ready }
 
 -- ---- one section, by its name
 module _ (set : Settings) {x : Section} (y : Section) (e : x ≡ y) {s : List ℕ} {r : Step} where
@@ -81,31 +39,56 @@ module _ (set : Settings) {x : Section} (y : Section) (e : x ≡ y) {s : List �
   pub accepted-section : {b : Bool} → Accepted b (formatOf set x) s r → Accepted b (formatOf set y) s r
   accepted-section g = rw e at g
 
--- ---- the lookup
+-- ---- the road
 
--- at the artifacts: their entries are what stands there
-there : (set : Settings) (n : ℕ) {s : List ℕ} {g : Value → Format} {v : Value} {q l : ℕ} {r : Step} → On (seq (section set n artifacts) g) s v q l r → Ready s r
-    → (c : Cursor) × (r ≡ Taken c) × Items (artifact set) (little (part s (c .place) 4)) s (c .place + 4) × (entries (first v) ≡ itemsAt (artifact set) (little (part s (c .place) 4)) s (c .place + 4)) × (c .place + 4 ≤ length s)
-unfolding section
-there set n {s} {g} {v} {q} {l} {r} o y =
+-- a section that is not the last, and the rest
+section-first : (set : Settings) (n : ℕ) (xs : List vob.Section) (i : ℕ) → suc i < length xs
+    → inOrder set n (drop i xs) ≡ seq (section set 0 (getD xs i inlineSources)) (λ v. inOrder set (functionsBy n (getD xs i inlineSources) v) (drop (suc i) xs))
+section-first set n [] i h = absurd (omega arith)
+section-first set n (x ∷ []) i h = absurd (omega arith)
+section-first set n (x ∷ y ∷ xs) zero h = refl
+section-first set n (x ∷ y ∷ xs) (suc i) h = section-first set n (y ∷ xs) i (omega arith)
+
+after-second : (i : ℕ) (v : Value) → second (after i v) ≡ after (suc i) v
+after-second zero v = refl
+after-second (suc i) v = after-second i (second v)
+
+-- THE invariant of the road: from r, where the sections begin, i of them have been read
+pub record Along (set : Settings) (i : ℕ) (s : List ℕ) (r r′ : Step) : Type 0 where
+  pub on : (v : Value) (q l : ℕ) → On (sections set) s v q l r → On (fromNumber set (functionsBefore i v) i) s (after i v) q l r′
+  pub accepted : Accepted true (sections set) s r
+  pub ready : Ready s r′
+
+module _ {set : Settings} {s : List ℕ} {r : Step} where
+  pub along-start : Accepted true (sections set) s r → Ready s r → Along set 0 s r r
+  unfolding sections afterFunctions section
+  along-start g h = record { on = λ v q l o. o; accepted = g; ready = h }
+
+  module _ {i : ℕ} {r₁ : Step} (x : Section) (h : i < 16) (a : Along set i s r r₁) (e : (sectionOf x ≡ getD allSections i inlineSources) × (functionsOf x ≡ 0)) where
+    here : (v : Value) (q l : ℕ) → On (sections set) s v q l r → On (seq (formatOf set x) (λ w. fromNumber set (functionsBy (functionsBefore i v) (getD allSections i inlineSources) w) (suc i))) s (after i v) q l r₁
+    here v q l o = rw (e .1, e .0, ← (section-first set (functionsBefore i v) allSections i (omega arith))) (a .on v q l o)
+
+    pub along-accepted : Accepted true (formatOf set x) s r₁
+    along-accepted = let o = accepted-on (a .accepted) in on-accepted (here (o .0) (o .1) (o .2) (o .3))
+
+    pub along-more : {r₂ : Step} {t t′ : List ℕ} → Reader (formatOf set x) s r₁ t r₂ t′ → Along set (i + 1) s r r₂
+    along-more k = rw (add-one i) (record { on = λ v q l o. rw (← (after-second i v)) (on-next (here v q l o) k); accepted = a .accepted; ready = k .ready })
+
+module _ (set : Settings) {s : List ℕ} {r r₁ r₂ : Step} {t t₁ t₂ : List ℕ} (a : Reader magic s r t r₁ t₁) (b : Reader version s r₁ t₁ r₂ t₂) where
+  pub opened-accepted : Accepted true (pack set) s r → Accepted true (sections set) s r₂
+  unfolding pack
+  opened-accepted g = accepted-next b (accepted-next a g)
+
+  pub along-reaches : {i k : ℕ} {r₃ : Step} → i ≡ k → Along set i s r₂ r₃ → Reaches set k s r r₃
+  unfolding pack
+  along-reaches e k = rw (← e) (record { on = λ v q l o. k .on (after 2 v) q l (on-next (on-next o a) b); ready = k .ready })
+
+-- a list that stands first: its entries are what stands there
+pub on-list : {ρ : Rule} {m k z : ℕ} {f : Format} {g : Value → Format} {s : List ℕ} {v : Value} {q l : ℕ} {r : Step} → On (seq (seq (leaf (count ρ m k z)) (λ v. times f (number v))) g) s v q l r → Ready s r → ListStands f (entries (first v)) s r
+on-list {ρ} {m} {k} {z} {f} {g} {s} {v} {q} {l} {r} o y =
     let c = o .cursor in
-    let e = settle-taken (c .left) (trace (seq (section set n artifacts) g) s (c .place)) v q l .0 (o .settles) .0 in
-    let b = seq-ends (section set n artifacts) g s (c .place) e in
-    let k = list-off _ _ _ _ (artifact set) s (c .place) (b .fore) in
-    let z : ReadyAt s c = rw (o .is) at y in
-    (c, o .is, record { small = z .small; all = k .2 }, k .1, k .0)
-
--- The sections between the opening and the artifacts, each read from where the last one ended.
-module _ {set : Settings} {s : List ℕ} {t₀ t₁ t₂ t₃ t₄ t₅ t₆ t₇ t₈ t₉ t₁₀ t₁₁ t₁₂ t₁₃ t₁₄ t₁₅ : List ℕ} {r₀ r₁ r₂ r₃ r₄ r₅ r₆ r₇ r₈ r₉ r₁₀ r₁₁ r₁₂ r₁₃ r₁₄ r₁₅ : Step} where
-  pub reaches :
-      Reader magic s r₀ t₀ r₁ t₁ → Reader version s r₁ t₁ r₂ t₂ → Reader (section set 0 name) s r₂ t₂ r₃ t₃ → Reader (section set 0 structs) s r₃ t₃ r₄ t₄
-      → Reader (section set 0 interfaces) s r₄ t₄ r₅ t₅ → Reader (section set 0 namedTypes) s r₅ t₅ r₆ t₆ → Reader (section set 0 itabs) s r₆ t₆ r₇ t₇ → Reader (section set 0 runtimeTypes) s r₇ t₇ r₈ t₈
-      → Reader (section set 0 wellKnown) s r₈ t₈ r₉ t₉ → Reader (section set 0 constants) s r₉ t₉ r₁₀ t₁₀ → Reader (section set 0 globals) s r₁₀ t₁₀ r₁₁ t₁₁ → Reader (section set 0 functions) s r₁₁ t₁₁ r₁₂ t₁₂
-      → ((n : ℕ) → Reader (section set n externs) s r₁₂ t₁₂ r₁₃ t₁₃) → ((n : ℕ) → Reader (section set n entry) s r₁₃ t₁₃ r₁₄ t₁₄) → ((n : ℕ) → Reader (section set n islandInit) s r₁₄ t₁₄ r₁₅ t₁₅) → Reaches set s r₀ r₁₅
-  unfolding pack sections afterFunctions partOf
-  reaches a b c d e f g h i j k l m n o =
-      record {
-        reach = λ v q w on.
-            let x = on-next (on-next (on-next (on-next (on-next (on-next (on-next (on-next (on-next (on-next (on-next (on-next on a) b) c) d) e) f) g) h) i) j) k) l in
-            there set _ (on-next (on-next (on-next x (m _)) (n _)) (o _)) (o 0 .ready);
-      }
+    let e = settle-taken (c .left) (trace (seq (seq (leaf (count ρ m k z)) (λ v. times f (number v))) g) s (c .place)) v q l .0 (o .settles) .0 in
+    let b = seq-ends (seq (leaf (count ρ m k z)) (λ v. times f (number v))) g s (c .place) e in
+    let k = list-off ρ m k z f s (c .place) (b .fore) in
+    let w : ReadyAt s c = rw (o .is) at y in
+    record { cursor = c; is = o .is; count = k .0; items = record { small = w .small; all = k .2 }; entries = k .1 }

@@ -1,28 +1,39 @@
--- The sections from one of them on, as parts of the pack's format; and what a reader of some of these sections comes to.
-use Prim.Native.Nat.{ℕ}
-use mathlib.Core.List.{List}
-use Rattle.format.specs.Format.{Format, seq, _▸_, counted}
+-- The sections from one of them on, as parts of the pack's format.
+use Prim.Native.Nat.{ℕ, suc, zero}
+use mathlib.Core.List.{List, [], _∷_}
+use lib.ListN.{getD, drop}
+use Rattle.format.specs.Format.{Value, first, Format, empty, seq, counted}
 use Rattle.vob24.specs.Settings.{Settings}
-use Rattle.vob24.specs.Grammar.{structs, interfaces, namedTypes, itabs, runtimeTypes, wellKnown, constants, globals, functions, artifacts, files, functionLocations, inlineSources, section, afterFunctions}
-use Rattle.vob24.specs.Sections.{sectionOf, functionsOf}
+use Rattle.vob24.specs.Grammar as vob
+use Rattle.vob24.specs.Grammar.{inlineSources, section}
+use Rattle.vob24.specs.Sections.{sectionOf, functionsOf, numberOf}
+use Rattle.vob24.specs.Fields.{after}
+use Rattle.vob24.specs.Cost.{allSections}
+use Rattle.vob24.specs.InTurn.{functionsAfter}
 use Rattle.vob24.specs.declared.Section.{Section}
-use Rattle.reader.specs.Contract.{Ready, Reads}
-use Rattle.reader.specs.declared.Step.{Step}
 
 -- one section
 abbrev pub formatOf : Settings → Section → Format
 formatOf set x = section set (functionsOf x) (sectionOf x)
 
-abbrev pub fromArtifacts : Settings → ℕ → Format
-fromArtifacts set n = section set n artifacts ▸ section set n files ▸ section set n functionLocations ▸ section set n inlineSources
+-- The number of functions after a section of this value; a list's words open with its count.
+abbrev pub functionsBy : ℕ → vob.Section → Value → ℕ
+functionsBy n x v = functionsAfter n x (counted v ∷ [])
 
-abbrev pub fromWellKnown : Settings → Format
-fromWellKnown set = section set 0 wellKnown ▸ section set 0 constants ▸ section set 0 globals ▸ seq (section set 0 functions) (λ v. afterFunctions set (counted v))
+-- Sections one after the other. The last of a pack goes by the number of functions.
+abbrev pub inOrder : Settings → ℕ → List vob.Section → Format
+inOrder set n [] = empty
+inOrder set n (x ∷ []) = section set n x
+inOrder set n (x ∷ y ∷ xs) = seq (section set 0 x) (λ v. inOrder set (functionsBy n x v) (y ∷ xs))
 
-abbrev pub fromStructs : Settings → Format
-fromStructs set = section set 0 structs ▸ section set 0 interfaces ▸ section set 0 namedTypes ▸ section set 0 itabs ▸ section set 0 runtimeTypes ▸ fromWellKnown set
+-- The pack's sections from the one numbered i on.
+abbrev pub fromNumber : Settings → ℕ → ℕ → Format
+fromNumber set n i = inOrder set n (drop i allSections)
 
--- The reading of f at r comes down to that of g at r′.
-pub record ComesTo (f g : Format) (s : List ℕ) (r : Step) (t : List ℕ) (r′ : Step) (t′ : List ℕ) : Type 0 where
-  pub rest : {q : Step} {t″ : List ℕ} → Reads g s r′ t′ q t″ → Reads f s r t q t″
-  pub ready : Ready s r′
+abbrev pub fromSection : Settings → ℕ → vob.Section → Format
+fromSection set n x = fromNumber set n (numberOf x)
+
+-- The number of functions that was read before it, of the sections' value.
+abbrev pub functionsBefore : ℕ → Value → ℕ
+functionsBefore zero v = 0
+functionsBefore (suc i) v = functionsBy (functionsBefore i v) (getD allSections i inlineSources) (first (after i v))

@@ -1,12 +1,12 @@
 // The whole pack: magic, version and the seventeen sections, in file order.
 // Ports Module::deserialize of serialize.rs.
 ghost use mathlib.Core.Bool.{true};
-ghost use Rattle.format.specs.Format.{Format, counted};
 ghost use Rattle.vob24.specs.Settings.{settingsOf};
-ghost use Rattle.vob24.specs.Grammar.{afterFunctions, section, functions as functionsSection, pack as packFormat};
-ghost use Rattle.reader.specs.Contract.{Ready, Reader};
+ghost use Rattle.vob24.specs.Grammar as vob;
+ghost use Rattle.vob24.specs.Sections.{sectionOf, numberOf};
+ghost use Rattle.reader.specs.Contract.{Ready, Reader, ComesTo};
 ghost use Rattle.reader.specs.Accepted.{Accepted};
-ghost use Rattle.deserialize.specs.Parts.{formatOf, fromArtifacts, fromWellKnown, fromStructs, ComesTo};
+ghost use Rattle.deserialize.specs.Parts.{formatOf, fromSection};
 ghost use Rattle.deserialize.specs.Reach.{Reaches};
 use reader::Number;
 use reader::Step;
@@ -16,7 +16,7 @@ use vob24::Settings;
 // The artifacts and the debug information: five lists, which are empty in a small pack.
 fn artifacts_on(s: &[u8], set: &Settings, r: Step, functions: u64, tape: &mut [u32]) -> Step
     requires { ⌜ Ready (now s) r ⌝ }
-    ensures { λ q. ⌜ Reader (fromArtifacts (settingsOf (now (set .entry))) functions) (now (s .entry)) r (now (tape .entry)) q (now (tape .exit)) ⌝ }
+    ensures { λ q. ⌜ Reader (fromSection (settingsOf (now (set .entry))) functions vob.artifacts) (now (s .entry)) r (now (tape .entry)) q (now (tape .exit)) ⌝ }
 {
     let Step::Taken(c) = r else {
         return r;
@@ -33,7 +33,7 @@ fn artifacts_on(s: &[u8], set: &Settings, r: Step, functions: u64, tape: &mut [u
 // The sections after the functions, by the number of functions.
 fn after_functions(s: &[u8], set: &Settings, r: Step, functions: u64, tape: &mut [u32]) -> Step
     requires { ⌜ Ready (now s) r ⌝ }
-    ensures { λ q. ⌜ Reader (afterFunctions (settingsOf (now (set .entry))) functions) (now (s .entry)) r (now (tape .entry)) q (now (tape .exit)) ⌝ }
+    ensures { λ q. ⌜ Reader (fromSection (settingsOf (now (set .entry))) functions vob.externs) (now (s .entry)) r (now (tape .entry)) q (now (tape .exit)) ⌝ }
 {
     let r1 = small_sections::externs(s, r, tape);
     let r2 = small_sections::entry(s, r1, tape);
@@ -44,7 +44,7 @@ fn after_functions(s: &[u8], set: &Settings, r: Step, functions: u64, tape: &mut
 // The functions, and the sections after them.
 fn functions_on(s: &[u8], set: &Settings, r: Step, tape: &mut [u32]) -> Step
     requires { ⌜ Ready (now s) r ⌝ }
-    ensures { λ q. ⌜ Reader (Format.seq (section (settingsOf (now (set .entry))) 0 functionsSection) (λ v. afterFunctions (settingsOf (now (set .entry))) (counted v))) (now (s .entry)) r (now (tape .entry)) q (now (tape .exit)) ⌝ }
+    ensures { λ q. ⌜ Reader (fromSection (settingsOf (now (set .entry))) 0 vob.functions) (now (s .entry)) r (now (tape .entry)) q (now (tape .exit)) ⌝ }
 {
     let Step::Taken(c) = r else {
         return r;
@@ -58,8 +58,8 @@ fn functions_on(s: &[u8], set: &Settings, r: Step, tape: &mut [u32]) -> Step
 
 // The types: five lists, which are empty in a small pack.
 fn types(s: &[u8], set: &Settings, r: Step, again: bool, tape: &mut [u32]) -> Step
-    requires { ⌜ (Ready (now s) r) × (Accepted again (fromStructs (settingsOf (now set))) (now s) r) ⌝ }
-    ensures { λ q. ⌜ ComesTo (fromStructs (settingsOf (now (set .entry)))) (fromWellKnown (settingsOf (now (set .entry)))) (now (s .entry)) r (now (tape .entry)) q (now (tape .exit)) ⌝ }
+    requires { ⌜ (Ready (now s) r) × (Accepted again (fromSection (settingsOf (now set)) 0 vob.structs) (now s) r) ⌝ }
+    ensures { λ q. ⌜ ComesTo (fromSection (settingsOf (now (set .entry))) 0 vob.structs) (fromSection (settingsOf (now (set .entry))) 0 vob.wellKnown) (now (s .entry)) r (now (tape .entry)) q (now (tape .exit)) ⌝ }
 {
     let Step::Taken(c) = r else {
         return r;
@@ -76,8 +76,8 @@ fn types(s: &[u8], set: &Settings, r: Step, again: bool, tape: &mut [u32]) -> St
 
 // The whole pack, up to the question of what comes after it. A second pass leaves out the search for repeated names.
 pub fn deserialize(s: &[u8], set: &Settings, r: Step, again: bool, tape: &mut [u32]) -> Step
-    requires { ⌜ (Ready (now s) r) × (Accepted again (packFormat (settingsOf (now set))) (now s) r) ⌝ }
-    ensures { λ q. ⌜ Reader (packFormat (settingsOf (now (set .entry)))) (now (s .entry)) r (now (tape .entry)) q (now (tape .exit)) ⌝ }
+    requires { ⌜ (Ready (now s) r) × (Accepted again (vob.pack (settingsOf (now set))) (now s) r) ⌝ }
+    ensures { λ q. ⌜ Reader (vob.pack (settingsOf (now (set .entry)))) (now (s .entry)) r (now (tape .entry)) q (now (tape .exit)) ⌝ }
 {
     let r1 = fields::field_magic(s, r, tape);
     let r2 = fields::field_version(s, r1, tape);
@@ -122,24 +122,19 @@ pub fn section(
     }
 }
 
-// On to the artifacts of a pack that is taken.
-pub fn to_artifacts(s: &[u8], set: &Settings, r: Step, tape: &mut [u32]) -> Step
-    requires { ⌜ (Ready (now s) r) × (Accepted true (packFormat (settingsOf (now set))) (now s) r) ⌝ }
-    ensures { λ q. ⌜ Reaches (settingsOf (now (set .entry))) (now (s .entry)) r q ⌝ }
+// On to a section of a pack that is taken. The count that comes with the inline sources says nothing here.
+pub fn to_section(s: &[u8], set: &Settings, to: Section, r: Step, tape: &mut [u32]) -> Step
+    requires { ⌜ (Ready (now s) r) × (Accepted true (vob.pack (settingsOf (now set))) (now s) r) ⌝ }
+    ensures { λ q. ⌜ Reaches (settingsOf (now (set .entry))) (numberOf (sectionOf to)) (now (s .entry)) r q ⌝ }
 {
     let r1 = fields::field_magic(s, r, tape);
-    let r2 = fields::field_version(s, r1, tape);
-    let r3 = fields::field_str(s, r2, tape);
-    let r4 = structs::structs(s, set, r3, true, tape);
-    let r5 = interfaces::interfaces(s, set, r4, true, tape);
-    let r6 = named_types::named_types(s, set, r5, true, tape);
-    let r7 = small_sections::itabs(s, set, r6, tape);
-    let r8 = runtime_type::runtime_types(s, set, r7, true, tape);
-    let r9 = small_sections::well_known(s, r8, tape);
-    let r10 = constants::constants(s, set, r9, tape);
-    let r11 = small_sections::globals(s, set, r10, tape);
-    let r12 = functions::functions(s, set, r11, tape);
-    let r13 = small_sections::externs(s, r12, tape);
-    let r14 = small_sections::entry(s, r13, tape);
-    small_sections::island_init(s, r14, tape)
+    let mut here = fields::field_version(s, r1, tape);
+    let last = vob24::section_number(to);
+    let mut i = 0;
+    while i < last {
+        let x = vob24::section_at(i);
+        here = section(s, set, x, here, true, tape);
+        i += 1;
+    }
+    here
 }

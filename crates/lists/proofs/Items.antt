@@ -16,14 +16,13 @@ use Rattle.format.specs.Record.{words, wordsLeaf}
 use Rattle.format.specs.SettleTheorems.{thenS}
 use Rattle.format.specs.TraceTheorems.{settle-seq}
 use Rattle.vob24.specs.Leaves.{free, atMost}
-use Rattle.reader.specs.Contract.{ReadyAt, Takes, Reads, Reader}
+use Rattle.reader.specs.Contract.{ReadyAt, Takes, Reads}
 use Rattle.reader.specs.declared.Cursor.{Cursor}
 use Rattle.reader.specs.declared.Step.{Step}
-use Rattle.reader.specs.declared.Step.the-variants.{Taken, Refused}
-use Rattle.reader.specs.declared.Refusal.{Refusal}
+use Rattle.reader.specs.declared.Step.the-variants.{Taken}
 use Rattle.reader.proofs.Settles.{guard-yes, field-yes}
 use Rattle.reader.proofs.Leaves.{Narrow, narrow-byte, narrow-half, narrow-word}
-use Rattle.reader.proofs.Laws.{sets-append, takes-ready, thenReads, Turns, turns-done, turns-refused}
+use Rattle.reader.proofs.Laws.{sets-append, takes-ready, thenReads, comes-on, Turns}
 use Rattle.lists.specs.Runs.{advanced, Runs, width, numbersAt, wordsAt, Copied, Low}
 use Rattle.lists.specs.declared.Rest.{Rest}
 use Rattle.lists.proofs.Copying.{byte-at, numbers-length}
@@ -109,7 +108,7 @@ module _ {ws : List ℕ} {m n b x : ℕ} {s : List ℕ} {c : Cursor} {t t′ : L
   runs-of r l h k i a y u e =
       rw (e, y, u, a .is)
       (record {
-        leads = λ d. items-lead ws m n c t l i d;
+        rest = λ d. items-lead ws m n c t l i d;
         ready = record { small = r .small; within = h; behind = omega (arith, r .behind, mul-le-mul-right m k) };
       })
 
@@ -117,26 +116,14 @@ module _ {ws : List ℕ} {m n b x : ℕ} {s : List ℕ} {c : Cursor} {t t′ : L
   runs-flat f r l h a y u e = runs-of r l h (flat-some f) (λ p x z. item-flat s p f (omega (arith, h))) a y u e
 
 -- small bytes
-pub runs-low : {m n most y : ℕ} {s : List ℕ} {c : Cursor} {t t′ : List ℕ} {q : Rest} → ReadyAt s c → m ≤ n → c .place + m ≤ length s → Low s (c .place) (c .place + m) most → Copied (1 ∷ []) m s (c .place) t (c .at) t′ → q ≡ record { items = n - m; at = advanced c m m } → Runs (leaf (fixed byte (atMost most y))) s c t n q t′
-runs-low {m} {most = most} {y = y} {s = s} {c = c} r l h k a e = runs-of r l (omega arith) (omega arith) item a (omega arith) (omega arith) e
+pub runs-low : (y : ℕ) {m n most : ℕ} {s : List ℕ} {c : Cursor} {t t′ : List ℕ} {q : Rest} → ReadyAt s c → m ≤ n → c .place + m ≤ length s → Low s (c .place) (c .place + m) most → Copied (1 ∷ []) m s (c .place) t (c .at) t′ → q ≡ record { items = n - m; at = advanced c m m } → Runs (leaf (fixed byte (atMost most y))) s c t n q t′
+runs-low y {m} {most = most} {s = s} {c = c} r l h k a e = runs-of r l (omega arith) (omega arith) item a (omega arith) (omega arith) e
   where
     passes : (p : ℕ) → p + 1 ≤ length s → getD s p 0 ≤ most → leb (little (part s p 1)) most ≡ true
     passes p x z = le-leb (little (part s p 1)) most (omega (arith, byte-at s p x))
 
     item : (p : ℕ) → c .place ≤ p → p + 1 ≤ c .place + 1 * m → Item (leaf (fixed byte (atMost most y))) (1 ∷ []) s p
     item p x z = item-one byte (atMost most y) s p narrow-byte (omega (arith, h)) (passes p (omega (arith, h)) (k .low p x (omega arith)))
-
--- ---- the items after a run
-
-module _ {f : Format} {s : List ℕ} {c : Cursor} {n : ℕ} {q : Rest} {t t₁ : List ℕ} (h : Runs f s c t n q t₁) where
-  run-then : {r : Step} {t₂ : List ℕ} → Reader (times f (q .items)) s (Taken (q .at)) t₁ r t₂ → Reader (times f n) s (Taken c) t r t₂
-  run-then a = record { reads = h .leads (a .reads); ready = a .ready }
-
-  pub run-done : {k : ℕ} {r : Step} {t₂ : List ℕ} → k ≤ 0 → Turns f s t₁ (Taken (q .at)) (q .items) t₂ r k → Reader (times f n) s (Taken c) t r t₂
-  run-done i l = run-then (turns-done i l)
-
-  pub run-refused : {k : ℕ} {r r₁ : Step} {t₂ t₃ : List ℕ} {x : Refusal} → 0 < k → Turns f s t₁ (Taken (q .at)) (q .items) t₂ r k → Reader f s r t₂ r₁ t₃ → r₁ ≡ Refused x → Reader (times f n) s (Taken c) t r₁ t₃
-  run-refused i l b e = run-then (turns-refused i l b e)
 
 -- ---- runs in a loop
 
@@ -147,14 +134,9 @@ one-leads zero h a k = absurd (omega arith)
 one-leads (suc n) h a k = let e : suc n - 1 ≡ n = omega arith in thenReads a (rw e at k)
 
 pub runs-one : {f : Format} {s : List ℕ} {c d : Cursor} {t t′ : List ℕ} {v : Value} {n : ℕ} {q : Rest} → 0 < n → ReadyAt s c → Takes f s c t v d t′ → q ≡ record { items = n - 1; at = d } → Runs f s c t n q t′
-runs-one {n = n} h r a e = rw e (record { leads = λ k. one-leads n h a k; ready = takes-ready r a })
-
--- a run after a run
-pub runs-join : {f : Format} {s : List ℕ} {c d : Cursor} {n k : ℕ} {q : Rest} {t t₁ t₂ : List ℕ} → Runs f s c t n (record { items = k; at = d }) t₁ → Runs f s d t₁ k q t₂ → Runs f s c t n q t₂
-runs-join a b = record { leads = λ h. a .leads (b .leads h); ready = b .ready }
+runs-one {n = n} h r a e = rw e (record { rest = λ k. one-leads n h a k; ready = takes-ready r a })
 
 -- the loop over the items goes on past a run
 pub turns-run : {f : Format} {s : List ℕ} {t₀ : List ℕ} {r₀ r : Step} {n k : ℕ} {t t′ : List ℕ} {c : Cursor} {q : Rest} → r ≡ Taken c → Turns f s t₀ r₀ n t r k → Runs f s c t k q t′ → length t′ ≡ length t → Turns f s t₀ r₀ n t′ (Taken (q .at)) (q .items)
 turns-run e l h i =
-    let long = i ∙ l .long in
-    record { chained = record { leads = record { rest = λ k. l .chained .leads .rest (rw e (h .leads k)) }; ready = h .ready; long = long }; ready = h .ready; long = long }
+    let long = i ∙ l .long in record { chained = record { comes = comes-on (rw e at (l .chained .comes)) h; long = long }; ready = h .ready; long = long }

@@ -6,7 +6,7 @@ use lib.ListN.{getD}
 use lib.Seq.{sets}
 use Rattle.format.specs.Format.{Format, times}
 use Rattle.format.specs.Reading.{little, part}
-use Rattle.reader.specs.Contract.{ReadyAt, Reads, Reader}
+use Rattle.reader.specs.Contract.{Reader, ComesTo}
 use Rattle.reader.specs.declared.Cursor.{Cursor}
 use Rattle.reader.specs.declared.Step.{Step}
 use Rattle.reader.specs.declared.Step.the-variants.{Taken}
@@ -21,9 +21,8 @@ abbrev pub advanced : Cursor → ℕ → ℕ → Cursor
 advanced c bytes words = record { place = c .place + bytes; left = c .left; at = c .at + words }
 
 -- The contract of a run: the reading of n items at c comes down to that of the rest.
-pub record Runs (f : Format) (s : List ℕ) (c : Cursor) (t : List ℕ) (n : ℕ) (q : Rest) (t′ : List ℕ) : Type 0 where
-  pub leads : {r : Step} {t″ : List ℕ} → Reads (times f (q .items)) s (Taken (q .at)) t′ r t″ → Reads (times f n) s (Taken c) t r t″
-  pub ready : ReadyAt s (q .at)
+abbrev pub Runs : Format → List ℕ → Cursor → List ℕ → ℕ → Rest → List ℕ → Type 0
+Runs f s c t n q t′ = ComesTo (times f n) (times f (q .items)) s (Taken c) t (Taken (q .at)) t′
 
 -- An item of fixed width, by the widths of its numbers in bytes: its own width, and its words at a place.
 abbrev pub width : List ℕ → ℕ

@@ -1,5 +1,5 @@
 -- The lookup in a pack that a whole reading has taken.
-use Prim.Native.Nat.{ℕ, _+_, _-_, _≤_}
+use Prim.Native.Nat.{ℕ, _+_, _-_}
 use mathlib.Core.Path.{_≡_, _∙_}
 use mathlib.Core.List.{List, []}
 use mathlib.Core.Bool.{Bool}
@@ -7,10 +7,11 @@ use native.Mathlib.Omega.{arith}
 use lib.ListN.{length}
 use Rattle.format.specs.Trace.{refused, taken, settle}
 use Rattle.format.specs.Format.{Value, entries}
-use Rattle.format.specs.Reading.{little, part, trace}
+use Rattle.format.specs.Reading.{part, trace}
 use Rattle.vob24.specs.Settings.{Settings, startingBudget}
 use Rattle.vob24.specs.Calls.{wholeTrace, findOutcome}
-use Rattle.vob24.specs.Grammar.{artifacts, pack, artifact}
+use Rattle.vob24.specs.Grammar.{artifacts, section, pack, artifact}
+use Rattle.vob24.specs.Sections.{numberOf}
 use Rattle.vob24.specs.Cost.{partOf}
 use Rattle.calls.specs.Contract.{from, Opens, Ends}
 use Rattle.calls.proofs.Laws.{Passed, passed, denied, read-passed}
@@ -18,34 +19,34 @@ use Rattle.lookup.specs.Look.{ArtifactsAt, LooksFrom, LocateCall, FindCall}
 use Rattle.lookup.specs.declared.Found.{Found}
 use Rattle.reader.specs.Accepted.{Accepted}
 use Rattle.reader.proofs.Accepting.{taken-accepted}
-use Rattle.in_place.specs.Contract.{Items}
-use Rattle.in_place.specs.Walk.{itemsAt}
-use Rattle.reader.specs.Contract.{wrongOf, Ready, Reader}
+use Rattle.reader.specs.Contract.{wrongOf, Ready, Reader, On}
 use Rattle.reader.specs.declared.Cursor.{Cursor}
 use Rattle.reader.specs.declared.Refusal.{Refusal}
 use Rattle.reader.specs.declared.Step.{Step}
 use Rattle.reader.specs.declared.Step.the-variants.{Taken, Refused}
-use Rattle.deserialize.specs.Reach.{On, Reaches}
+use Rattle.deserialize.specs.Reach.{Reaches, ListStands}
+use Rattle.deserialize.proofs.Laws.{on-list}
 use Rattle.pack.specs.Find.{Whole, Located}
 
 -- what a whole reading has taken is not refused when it is read again
 pub whole-accepted : {set : Settings} {b : Bool} {s : List ℕ} {r : Step} {c : Cursor} → Whole set s r c → Accepted b (pack set) s r
 whole-accepted w = taken-accepted (w .on .is) (w .on .settles)
 
-module _ {set : Settings} {s : List ℕ} {r r′ : Step} {c : Cursor} (w : Whole set s r c) (h : Reaches set s r r′) where
+module _ {set : Settings} {s : List ℕ} {r r′ : Step} {c : Cursor} (w : Whole set s r c) (h : Reaches set (numberOf artifacts) s r r′) where
+  at-artifacts : (v : Value) → On (pack set) s v (c .place) (c .left) r → ListStands (artifact set) (entries (partOf artifacts v)) s r′
+  unfolding section partOf
+  at-artifacts v o = on-list (h .on v (c .place) (c .left) o) (h .ready)
+
   -- a pack that was taken is not refused on the way
   pub located-refused : {name : List ℕ} {x : Refusal} {q : Found} → r′ ≡ Refused x → Located set s r name c q
-  located-refused e = let k = h .reach (w .value) (c .place) (c .left) (w .on) in let no : _≡_ {A = ℕ} 0 1 = cc (k .1) in absurd (omega arith)
+  located-refused e = let k = at-artifacts (w .value) (w .on) in let no : _≡_ {A = ℕ} 0 1 = cc (k .is) in absurd (omega arith)
 
   module _ {a : Cursor} (e : r′ ≡ Taken a) where
-    at-artifacts : (v : Value) → On (pack set) s v (c .place) (c .left) r → Items (artifact set) (little (part s (a .place) 4)) s (a .place + 4) × (entries (partOf artifacts v) ≡ itemsAt (artifact set) (little (part s (a .place) 4)) s (a .place + 4)) × (a .place + 4 ≤ length s)
-    at-artifacts v o = let k = h .reach v (c .place) (c .left) o in let i : k .0 ≡ a = cc (k .1) in (rw i at (k .2), rw i at (k .3), rw i at (k .4))
-
     pub located-counted : ArtifactsAt set s (a .place)
-    located-counted = let k = at-artifacts (w .value) (w .on) in record { count = k .2; items = k .0 }
+    located-counted = let k = at-artifacts (w .value) (w .on) in let i : k .cursor ≡ a = cc (k .is) in rw (← i) (record { count = k .count; items = k .items })
 
     pub located-look : {name : List ℕ} {q : Found} → LooksFrom set s (a .place) name c q → Located set s r name c q
-    located-look l = record { is = λ v o. l .looks .is ∙ rw (at-artifacts v o .1); room = l .looks .room }
+    located-look l = record { is = λ v o. let k = at-artifacts v o in let i : k .cursor ≡ a = cc (k .is) in l .looks .is ∙ rw (k .entries, i); room = l .looks .room }
 
 module _ (set : Settings) {s : List ℕ} {r : Step} where
   whole-of : {b : ℕ} {c : Cursor} {r′ : Step} → Passed (pack set) (wholeTrace set s) s 0 b r r′ → r′ ≡ Taken c → Ready s r → (w : Whole set s r c) × (settle b (wholeTrace set s) ≡ taken (w .value) (c .place) (c .left))

@@ -8,10 +8,9 @@ use Rattle.vob24.specs.Grammar.{pack}
 use Rattle.vob24.specs.Cost.{partOf}
 use Rattle.vob24.specs.Grammar as vob
 use Rattle.vob24.specs.Calls.{lookIn}
-use Rattle.reader.specs.Contract.{Ready}
+use Rattle.reader.specs.Contract.{Ready, On}
 use Rattle.reader.specs.declared.Cursor.{Cursor}
 use Rattle.reader.specs.declared.Step.{Step}
-use Rattle.deserialize.specs.Reach.{On}
 use Rattle.lookup.specs.Look.{foundOf, Room}
 use Rattle.lookup.specs.declared.Found.{Found}
 

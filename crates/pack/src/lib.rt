@@ -8,6 +8,7 @@ use calls::Answer;
 use lookup::Found;
 use reader::Cursor;
 use reader::Step;
+use vob24::Section;
 use vob24::Settings;
 
 // The Rust's own, under which the lookup reads.
@@ -61,7 +62,7 @@ fn located(s: &[u8], set: &Settings, r: Step, name: &[u8], end: Cursor) -> Found
     ensures { λ q. ⌜ Located (settingsOf (now (set .entry))) (now (s .entry)) r (now (name .entry)) end q ⌝ }
 {
     let mut none = [0u32; 1];
-    let at = deserialize::to_artifacts(s, set, r, &mut none[..0]);
+    let at = deserialize::to_section(s, set, Section::Artifacts, r, &mut none[..0]);
     match at {
         Step::Refused(x) => Found::Not(x),
         Step::Taken(a) => lookup::look_from(s, set, a.place, name, end),

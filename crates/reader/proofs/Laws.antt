@@ -12,7 +12,7 @@ use Rattle.format.specs.Reading.{trace}
 use Rattle.format.specs.Record.{words}
 use Rattle.format.specs.SettleTheorems.{thenS, settle-taken}
 use Rattle.format.specs.TraceTheorems.{settle-seq, trace-within, slim}
-use Rattle.reader.specs.Contract.{stepOf, Ready, ReadyAt, Takes, Refuses, Reads, takes, refuses, skips, Reader, ReadsOf, got, lost, NumberOf}
+use Rattle.reader.specs.Contract.{stepOf, Ready, ReadyAt, Takes, Refuses, Reads, takes, refuses, skips, Reader, ComesTo, ReadsOf, got, lost, NumberOf}
 use Rattle.reader.specs.declared.Cursor.{Cursor}
 use Rattle.reader.specs.declared.Refusal.{Refusal}
 use Rattle.reader.specs.declared.Step.{Step}
@@ -136,11 +136,32 @@ module _ {f : Format} {of : Value → ℕ} {s : List ℕ} {c : Cursor} {t t₁ :
       go : ReadsOf f of s c t (Not x) t₁ → Reader (seq f g) s (Taken c) t (Refused x) t₂
       go (lost h) = record { reads = refuses (seq-refuses h); ready = tt }
 
--- ---- lists: what a loop has read, and what it leads to
+-- ---- some parts of a sequence
 
--- the reading of f at r comes down to that of g at r′
-pub record Leads (f : Format) (s : List ℕ) (r : Step) (t : List ℕ) (g : Format) (r′ : Step) (t′ : List ℕ) : Type 0 where
-  pub rest : {q : Step} {t″ : List ℕ} → Reads g s r′ t′ q t″ → Reads f s r t q t″
+refused-alike : {f g : Format} {s t : List ℕ} {x : Refusal} {q : Step} {t″ : List ℕ} → Reads g s (Refused x) t q t″ → Reads f s (Refused x) t q t″
+refused-alike skips = skips
+
+module _ {f g : Format} {s t : List ℕ} {r : Step} where
+  pub comes-not : {x : Refusal} → r ≡ Refused x → ComesTo f g s r t r t
+  comes-not e = rw e (record { rest = refused-alike; ready = tt })
+
+  pub comes-at : {c : Cursor} {q : Step} {t′ : List ℕ} → r ≡ Taken c → ComesTo f g s (Taken c) t q t′ → ComesTo f g s r t q t′
+  comes-at e k = rw e k
+
+  module _ {r′ : Step} {t′ : List ℕ} (c : ComesTo f g s r t r′ t′) where
+    pub comesThen : {q : Step} {t″ : List ℕ} → Reader g s r′ t′ q t″ → Reader f s r t q t″
+    comesThen k = record { reads = c .rest (k .reads); ready = k .ready }
+
+    pub comes-on : {e : Format} {q : Step} {t″ : List ℕ} → ComesTo g e s r′ t′ q t″ → ComesTo f e s r t q t″
+    comes-on k = record { rest = λ h. c .rest (k .rest h); ready = k .ready }
+
+pub comes-last : {f g : Format} {s t t′ : List ℕ} {r r′ : Step} → Reader f s r t r′ t′ → ComesTo (seq f (λ _. g)) g s r t r′ t′
+comes-last h = record { rest = λ k. fieldReads (h .reads) (λ _. k); ready = h .ready }
+
+pub comes-next : {f g e : Format} {s t t₁ t′ : List ℕ} {r r₁ r′ : Step} → Reader f s r t r₁ t₁ → ComesTo e g s r₁ t₁ r′ t′ → ComesTo (seq f (λ _. e)) g s r t r′ t′
+comes-next h c = comes-on (comes-last h) c
+
+-- ---- lists: what a loop has read, and what it comes to
 
 module _ {S : Type 0} (f : S → Format) (u : S → Value → S) where
   chain-more : (x : S) (n : ℕ) → 0 < n → chain f u x n ≡ seq (f x) (λ v. chain f u (u x v) (n - 1))
@@ -155,43 +176,41 @@ module _ {S : Type 0} (f : S → Format) (u : S → Value → S) where
 
 -- THE invariant of a loop over n items from the state x₀, with k items to read from the state x
 pub record Chained {S : Type 0} (f : S → Format) (u : S → Value → S) (s : List ℕ) (t₀ : List ℕ) (r₀ : Step) (x₀ : S) (n : ℕ) (t : List ℕ) (r : Step) (x : S) (k : ℕ) : Type 0 where
-  pub leads : Leads (chain f u x₀ n) s r₀ t₀ (chain f u x k) r t
-  pub ready : Ready s r
+  pub comes : ComesTo (chain f u x₀ n) (chain f u x k) s r₀ t₀ r t
   pub long : length t ≡ length t₀
 
 module _ {S : Type 0} {f : S → Format} {u : S → Value → S} {s : List ℕ} {t₀ : List ℕ} {r₀ : Step} {x₀ : S} {n : ℕ} where
   pub chained-start : Ready s r₀ → Chained f u s t₀ r₀ x₀ n t₀ r₀ x₀ n
-  chained-start h = record { leads = record { rest = λ k. k }; ready = h; long = refl }
+  chained-start h = record { comes = record { rest = λ k. k; ready = h }; long = refl }
 
   module _ {t : List ℕ} {x : S} {k : ℕ} (h : 0 < k) where
-    lead-more : {r : Step} → Chained f u s t₀ r₀ x₀ n t r x k → Leads (chain f u x₀ n) s r₀ t₀ (seq (f x) (λ v. chain f u (u x v) (k - 1))) r t
-    lead-more l = rw (chain-more f u x k h) at (l .leads)
+    one-more : {r : Step} → Chained f u s t₀ r₀ x₀ n t r x k → ComesTo (chain f u x₀ n) (seq (f x) (λ v. chain f u (u x v) (k - 1))) s r₀ t₀ r t
+    one-more l = rw (chain-more f u x k h) at (l .comes)
 
     -- an item whose value the state does not take in
     pub chained-plain : {t₁ : List ℕ} {r r₁ : Step} → ((v : Value) → u x v ≡ x) → Chained f u s t₀ r₀ x₀ n t r x k → Reader (f x) s r t r₁ t₁ → length t₁ ≡ length t → Chained f u s t₀ r₀ x₀ n t₁ r₁ x (k - 1)
     chained-plain {t₁} {r} {r₁} i l m e =
-        let l′ = lead-more l in
-        record { leads = record { rest = λ p. l′ .rest (fieldReads (m .reads) (λ v. rw (i v) p)) }; ready = m .ready; long = e ∙ l .long }
+        let l′ = one-more l in
+        record { comes = record { rest = λ p. l′ .rest (fieldReads (m .reads) (λ v. rw (i v) p)); ready = m .ready }; long = e ∙ l .long }
 
     -- an item of which the state takes in a number
     pub chained-more : {t₁ : List ℕ} (of : Value → ℕ) (w : S → ℕ → S) {c c′ : Cursor} {q : Number} {m : ℕ} → ((v : Value) → u x v ≡ w x (of v)) → q ≡ Got m c′ → Chained f u s t₀ r₀ x₀ n t (Taken c) x k → NumberOf (f x) of s c t q t₁ → length t₁ ≡ length t
         → Chained f u s t₀ r₀ x₀ n t₁ (Taken c′) (w x m) (k - 1)
     chained-more {t₁} of w {c} {c′} {q} {m} i e l p j =
-        let l′ = lead-more l in
+        let l′ = one-more l in
         let g = got-of e p in
         let y : u x (g .value) ≡ w x m = i (g .value) ∙ ap (w x) (sym (g .is)) in
-        record { leads = record { rest = λ z. l′ .rest (thenReads (g .takes) (rw y z)) }; ready = g .ready; long = j ∙ l .long }
+        record { comes = record { rest = λ z. l′ .rest (thenReads (g .takes) (rw y z)); ready = g .ready }; long = j ∙ l .long }
 
     pub chained-not : {t₁ : List ℕ} {c : Cursor} (of : Value → ℕ) {q : Number} {y : Refusal} {r : Step} → q ≡ Not y → r ≡ stepOf q → Chained f u s t₀ r₀ x₀ n t (Taken c) x k → NumberOf (f x) of s c t q t₁ → Reader (chain f u x₀ n) s r₀ t₀ r t₁
-    chained-not of e i l p = let l′ = lead-more l in let m = numberNot _ e i p in record { reads = l′ .rest (m .reads); ready = m .ready }
+    chained-not of e i l p = comesThen (one-more l) (numberNot _ e i p)
 
     pub chained-refused : {t₁ : List ℕ} {r r₁ : Step} {y : Refusal} → Chained f u s t₀ r₀ x₀ n t r x k → Reader (f x) s r t r₁ t₁ → r₁ ≡ Refused y → Reader (chain f u x₀ n) s r₀ t₀ r₁ t₁
-    chained-refused l m e = let l′ = lead-more l in record { reads = l′ .rest (fieldReads (m .reads) (λ v. rw e skips)); ready = m .ready }
+    chained-refused l m e = comesThen (one-more l) (fieldThen m (λ v. at-refused e))
 
   pub chained-done : {t : List ℕ} {r : Step} {x : S} {k : ℕ} → k ≤ 0 → Chained f u s t₀ r₀ x₀ n t r x k → Reader (chain f u x₀ n) s r₀ t₀ r t
   chained-done {t} {r} {x} {k} h l =
-      let l′ : Leads (chain f u x₀ n) s r₀ t₀ empty r t = rw (chain-none f u x k h) at (l .leads) in
-      record { reads = l′ .rest (emptyReads s r t); ready = l .ready }
+      let l′ : ComesTo (chain f u x₀ n) empty s r₀ t₀ r t = rw (chain-none f u x k h) at (l .comes) in comesThen l′ (emptyThen (l′ .ready))
 
 -- a list of like items
 pub record Turns (f : Format) (s : List ℕ) (t₀ : List ℕ) (r₀ : Step) (n : ℕ) (t : List ℕ) (r : Step) (k : ℕ) : Type 0 where
@@ -201,7 +220,7 @@ pub record Turns (f : Format) (s : List ℕ) (t₀ : List ℕ) (r₀ : Step) (n 
 
 module _ {f : Format} {s : List ℕ} {t₀ : List ℕ} {r₀ : Step} {n : ℕ} where
   turns-of : {t : List ℕ} {r : Step} {k : ℕ} → Chained {S = Unit {0}} (λ _. f) (λ _ _. tt) s t₀ r₀ tt n t r tt k → Turns f s t₀ r₀ n t r k
-  turns-of l = record { chained = l; ready = l .ready; long = l .long }
+  turns-of l = record { chained = l; ready = l .comes .ready; long = l .long }
 
   pub turns-start : Ready s r₀ → Turns f s t₀ r₀ n t₀ r₀ n
   turns-start h = turns-of (chained-start h)

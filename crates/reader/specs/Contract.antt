@@ -91,6 +91,17 @@ pub record Reader (f : Format) (s : List ℕ) (r : Step) (t : List ℕ) (r′ : 
   pub reads : Reads f s r t r′ t′
   pub ready : Ready s r′
 
+-- THE contract of a reader of some parts of f: the reading of f at r comes down to that of g at r′.
+pub record ComesTo (f g : Format) (s : List ℕ) (r : Step) (t : List ℕ) (r′ : Step) (t′ : List ℕ) : Type 0 where
+  pub rest : {q : Step} {t″ : List ℕ} → Reads g s r′ t′ q t″ → Reads f s r t q t″
+  pub ready : Ready s r′
+
+-- In a reading of f that takes v and ends with q and l: this is where the answer so far stands.
+pub record On (f : Format) (s : List ℕ) (v : Value) (q l : ℕ) (r : Step) : Type 0 where
+  pub cursor : Cursor
+  pub is : r ≡ Taken cursor
+  pub settles : settle (cursor .left) (trace f s (cursor .place)) ≡ taken v q l
+
 -- The contract of a reader at a cursor that also hands out a number of the value that it read.
 pub data ReadsOf (f : Format) (of : Value → ℕ) (s : List ℕ) (c : Cursor) (t : List ℕ) : Number → List ℕ → Type 0 where
   got : {v : Value} {n : ℕ} {c′ : Cursor} {t′ : List ℕ} → n ≡ of v → Takes f s c t v c′ t′ → ReadsOf f of s c t (Got n c′) t′

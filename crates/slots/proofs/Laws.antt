@@ -13,7 +13,7 @@ use Rattle.reader.specs.Contract.{cursorAt, ReadyAt, NumberOf, Kept}
 use Rattle.reader.specs.Leaves.{Fetches, there, past}
 use Rattle.reader.specs.declared.Cursor.{Cursor}
 use Rattle.reader.specs.declared.Number.the-variants.{Got}
-use Rattle.reader.proofs.Laws.{turns-start}
+use Rattle.reader.proofs.Laws.{turns-start, comesThen, turns-done}
 use Rattle.reader.proofs.Paying.{paid-yes}
 use Rattle.reader.proofs.Leaves.{fetched, fetch4, past-ready, counted-paid, count-then}
 use Rattle.reader.proofs.Keeping.{one-count, number-kept}
@@ -21,7 +21,7 @@ use Rattle.reader.proofs.Numbering.{numberedItems}
 use Rattle.lists.specs.Runs.{wordsAt, Low, Copied, CopiedLow}
 use Rattle.lists.proofs.Copying.{byte-at}
 use Rattle.lists.proofs.Lows.{copied-start, copied-more}
-use Rattle.lists.proofs.Items.{runs-low, run-done}
+use Rattle.lists.proofs.Items.{runs-low}
 use Rattle.slots.specs.Short.{Good, Keeps, kept, other}
 
 -- ---- what `short` keeps
@@ -71,5 +71,5 @@ good-list {y} {z} {s} {c} {g} {t} {t′} {n} r e l h i =
     let a = count-then {m = 1} {k = vector} {z = z} refl f refl (counted-paid {n = n} {m = 1} {k = vector} {z = z} (past-ready r refl f) (omega (arith, h .room)) (paid-yes (few-paid n z (h .few) (rw e at l))) refl) in
     let k : Kept d n t (cursorAt (c .place + 4) (c .left - n * z) (c .at + 1)) (set t (c .at) n) = record { is = refl; writes = refl } in
     let m = number-kept r refl a one-count k in
-    let u = runs-low {n = n} {y = invalidSlotType} (m .ready) (omega arith) (h .room) (h .items .low) (h .items .copied) refl in
-    rw (i, e) (numberedItems refl m slotType (run-done u (omega arith) (turns-start (u .ready))) refl)
+    let u = runs-low invalidSlotType {n = n} (m .ready) (omega arith) (h .room) (h .items .low) (h .items .copied) refl in
+    rw (i, e) (numberedItems refl m slotType (comesThen u (turns-done (omega arith) (turns-start (u .ready)))) refl)

@@ -14,12 +14,12 @@ use Rattle.format.specs.Layout.{clear}
 use Rattle.format.specs.TraceTheorems.{ask-ends, seq-ends}
 use Rattle.vob24.specs.Questions.{refuseIf, among}
 use Rattle.vob24.specs.Grammar.{method, methodName, newMethod, alsoSeen}
-use Rattle.reader.specs.Contract.{Ready, ReadyAt, Reads, takes, refuses, skips, Reader, Asks, Follows}
+use Rattle.reader.specs.Contract.{Ready, ReadyAt, Reads, takes, refuses, skips, Reader, ComesTo, Asks, Follows}
 use Rattle.reader.specs.declared.Cursor.{Cursor}
 use Rattle.reader.specs.declared.Refusal.{Refusal}
 use Rattle.reader.specs.declared.Step.{Step}
 use Rattle.reader.specs.declared.Step.the-variants.{Taken, Refused}
-use Rattle.reader.proofs.Laws.{takes-ends, thenReads, Leads, Chained, chained-start, chained-refused, chained-done}
+use Rattle.reader.proofs.Laws.{takes-ends, thenReads, Chained, chained-start, chained-refused, chained-done}
 use Rattle.reader.proofs.Asks.{followThen}
 use Rattle.in_place.specs.Walk.{Stands, valueAt, nextAt, lastAt, stand, items-nil, stand-snoc, last-snoc}
 use Rattle.in_place.specs.Contract.{Items}
@@ -104,19 +104,19 @@ module _ {s t₀ : List ℕ} {r₀ : Step} {n from : ℕ} {t : List ℕ} {r : St
       methods-refused e = chained-refused {k = n - i} (omega arith) (l .chained) methods-read e
 
       pub methods-more : {d : Cursor} → q ≡ Taken d → length t₁ ≡ length t → Methods s t₀ r₀ n from t₁ q (i + 1)
-      methods-more {d} e j = go r q (methods-read .reads) (methods-read .ready) (l .here) (l .chained .leads) e
+      methods-more {d} e j = go r q (methods-read .reads) (methods-read .ready) (l .here) (l .chained .comes) e
         where
           go : (r q : Step) → Reads (newMethod (seenAt i s from)) s r t q t₁ → Ready s q → ((c : Cursor) → r ≡ Taken c → c .place ≡ lastAt method i s from)
-              → Leads (chain newMethod alsoSeen [] n) s r₀ t₀ (chain newMethod alsoSeen (seenAt i s from) (n - i)) r t → q ≡ Taken d → Methods s t₀ r₀ n from t₁ q (i + 1)
+              → ComesTo (chain newMethod alsoSeen [] n) (chain newMethod alsoSeen (seenAt i s from) (n - i)) s r₀ t₀ r t → q ≡ Taken d → Methods s t₀ r₀ n from t₁ q (i + 1)
           go (Taken c) (Taken g) (takes {v = w} y) u v k e =
               let x = method-read (takes-ends y) in
               let p : c .place ≡ lastAt method i s from = v c refl in
               let o : n - i - 1 ≡ n - (i + 1) = omega arith in
               let z : chain newMethod alsoSeen (seenAt i s from) (n - i) ≡ seq (newMethod (seenAt i s from)) (λ v. chain newMethod alsoSeen (alsoSeen (seenAt i s from) v) (n - i - 1)) =
               chain-next newMethod alsoSeen (seenAt i s from) (n - i) (omega arith) in
-              let k′ : Leads (chain newMethod alsoSeen [] n) s r₀ t₀ (seq (newMethod (seenAt i s from)) (λ v. chain newMethod alsoSeen (alsoSeen (seenAt i s from) v) (n - i - 1))) (Taken c) t = rw z at k in
+              let k′ : ComesTo (chain newMethod alsoSeen [] n) (seq (newMethod (seenAt i s from)) (λ v. chain newMethod alsoSeen (alsoSeen (seenAt i s from) v) (n - i - 1))) s r₀ t₀ (Taken c) t = rw z at k in
               record {
-                chained = record { leads = record { rest = λ b. k′ .rest (thenReads y (rw (seen-more i s from w p (x .value), o) b)) }; ready = u; long = j ∙ l .long };
+                chained = record { comes = record { rest = λ b. k′ .rest (thenReads y (rw (seen-more i s from w p (x .value), o) b)); ready = u }; long = j ∙ l .long };
                 items = record { small = l .items .small; all = rw (add-one i) (stand-snoc method i s from (l .items .all) (rw p at (x .stands))) };
                 here = λ c′ f. let f′ : c′ ≡ g = cc in ap (λ (m : Cursor). m .place) f′ ∙ x .next ∙ ap (nextAt method s) p ∙ sym (last-snoc method i s from) ∙ ap (λ m. lastAt method m s from) (sym (add-one i));
                 ready = u;

@@ -42,3 +42,23 @@ functionsOf Artifacts = 0
 functionsOf Files = 0
 functionsOf FunctionLocations = 0
 functionsOf (InlineSources n) = n
+
+-- the number of a section, in file order
+abbrev pub numberOf : vob.Section → ℕ
+numberOf vob.name = 0
+numberOf vob.structs = 1
+numberOf vob.interfaces = 2
+numberOf vob.namedTypes = 3
+numberOf vob.itabs = 4
+numberOf vob.runtimeTypes = 5
+numberOf vob.wellKnown = 6
+numberOf vob.constants = 7
+numberOf vob.globals = 8
+numberOf vob.functions = 9
+numberOf vob.externs = 10
+numberOf vob.entry = 11
+numberOf vob.islandInit = 12
+numberOf vob.artifacts = 13
+numberOf vob.files = 14
+numberOf vob.functionLocations = 15
+numberOf vob.inlineSources = 16

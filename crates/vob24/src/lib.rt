@@ -3,7 +3,11 @@
 // the limits of serialize.rs.
 ghost use mathlib.Core.Path.{_≡_};
 ghost use Prim.Native.Nat.{_≤_, _<_};
+ghost use lib.ListN.{getD};
 ghost use Rattle.vob24.specs.Settings.{settings, settingsOf, sizeOf};
+ghost use Rattle.vob24.specs.Grammar.{inlineSources};
+ghost use Rattle.vob24.specs.Sections.{sectionOf, functionsOf, numberOf};
+ghost use Rattle.vob24.specs.Cost.{allSections};
 
 mod limits;
 
@@ -26,6 +30,56 @@ pub enum Section {
     Files,
     FunctionLocations,
     InlineSources(u64),
+}
+
+// The number of a section, in file order: so many stand before it.
+pub fn section_number(section: Section) -> usize
+    ensures { λ q. ⌜ (q ≡ numberOf (sectionOf section)) × (q ≤ 16) ⌝ }
+{
+    match section {
+        Section::Name => 0,
+        Section::Structs => 1,
+        Section::Interfaces => 2,
+        Section::NamedTypes => 3,
+        Section::Itabs => 4,
+        Section::RuntimeTypes => 5,
+        Section::WellKnown => 6,
+        Section::Constants => 7,
+        Section::Globals => 8,
+        Section::Functions => 9,
+        Section::Externs => 10,
+        Section::Entry => 11,
+        Section::IslandInit => 12,
+        Section::Artifacts => 13,
+        Section::Files => 14,
+        Section::FunctionLocations => 15,
+        Section::InlineSources(_) => 16,
+    }
+}
+
+// The section of a number. The last, which goes by the number of functions, is left out.
+pub fn section_at(i: usize) -> Section
+    requires { ⌜ i < 16 ⌝ }
+    ensures { λ q. ⌜ (sectionOf q ≡ getD allSections i inlineSources) × (functionsOf q ≡ 0) ⌝ }
+{
+    match i {
+        0 => Section::Name,
+        1 => Section::Structs,
+        2 => Section::Interfaces,
+        3 => Section::NamedTypes,
+        4 => Section::Itabs,
+        5 => Section::RuntimeTypes,
+        6 => Section::WellKnown,
+        7 => Section::Constants,
+        8 => Section::Globals,
+        9 => Section::Functions,
+        10 => Section::Externs,
+        11 => Section::Entry,
+        12 => Section::IslandInit,
+        13 => Section::Artifacts,
+        14 => Section::Files,
+        _ => Section::FunctionLocations,
+    }
 }
 
 // What a reading is set to: the 32 sizes, and behind them the limits, at the indexes that `limits` names (`settingsOf` in

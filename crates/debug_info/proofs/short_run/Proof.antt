@@ -5,7 +5,7 @@ use native.Mathlib.Omega.{arith}
 use lib.ListN.{length}
 use Rattle.vob24.specs.Leaves.{sourceU32}
 use Rattle.lists.specs.Runs.{Runs}
-use Rattle.lists.proofs.Items.{runs-join}
+use Rattle.reader.proofs.Laws.{comes-on}
 use Rattle.debug_info.proofs.short_run.Statement.{statement}
 use Rattle.debug_info.proofs.short_run.Tie as tie
 
@@ -25,13 +25,13 @@ same-length : tie.Need-same-length Inv-loop μ-loop
 same-length c = search needs
 
 returns : tie.Need-returns Inv-loop μ-loop
-returns c = (runs-join (c .before .before .before .before .before .before .loop .inv .0) (c .before .before .before .short-numbers .ensures .0), omega arith)
+returns c = (comes-on (c .before .before .before .before .before .before .loop .inv .0) (c .before .before .before .short-numbers .ensures .0), omega arith)
 
 loop-less : tie.Need-loop-less Inv-loop μ-loop
 loop-less c = search needs
 
 loop-again : tie.Need-loop-again Inv-loop μ-loop
-loop-again c = (runs-join (c .before .before .before .before .before .before .before .loop .inv .0) (c .before .before .before .before .short-numbers .ensures .0), search needs, search needs)
+loop-again c = (comes-on (c .before .before .before .before .before .before .before .loop .inv .0) (c .before .before .before .before .short-numbers .ensures .0), search needs, search needs)
 
 same-length-2 : tie.Need-same-length-2 Inv-loop μ-loop
 same-length-2 c = search needs

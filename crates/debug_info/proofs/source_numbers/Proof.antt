@@ -1,7 +1,7 @@
-use Rattle.lists.proofs.Items.{run-done, run-refused, turns-run}
+use Rattle.lists.proofs.Items.{turns-run}
 use borrow.Author.Needs.{needs}
 use Rattle.reader.proofs.Reading.{reading}
-use Rattle.reader.proofs.Laws.{at-step, Turns, turns-more}
+use Rattle.reader.proofs.Laws.{at-step, Turns, turns-more, comesThen, turns-refused, turns-done}
 use Rattle.vob24.specs.Leaves.{sourceU32}
 use Rattle.debug_info.proofs.source_numbers.Statement.{statement}
 use Rattle.debug_info.proofs.source_numbers.Tie as tie
@@ -40,7 +40,7 @@ same-length : tie.Need-same-length Inv-loop μ-loop
 same-length c = search (needs, reading)
 
 returns-2 : tie.Need-returns-2 Inv-loop μ-loop
-returns-2 c = at-step ((c .before .before .before .before .before .before .before .before .before .before .before .before .before .before .r) .given .1) (run-refused ((c .before .before .before .before .before .before .before .before .before .before .before .short-run) .ensures .0) ((c .before .before .before .before .before .before .loop-test) .taken) ((c .before .before .before .before .before .before .before .loop) .inv) ((c .before .before .before .before .field-source-u32) .ensures) ((c .enum-told2) .given .1))
+returns-2 c = at-step ((c .before .before .before .before .before .before .before .before .before .before .before .before .before .before .r) .given .1) (comesThen ((c .before .before .before .before .before .before .before .before .before .before .before .short-run) .ensures .0) (turns-refused ((c .before .before .before .before .before .before .loop-test) .taken) ((c .before .before .before .before .before .before .before .loop) .inv) ((c .before .before .before .before .field-source-u32) .ensures) ((c .enum-told2) .given .1)))
 
 sub-short-run : tie.Need-sub-short-run Inv-loop μ-loop
 sub-short-run c = search (needs, reading)
@@ -58,7 +58,7 @@ same-length-2 : tie.Need-same-length-2 Inv-loop μ-loop
 same-length-2 c = search (needs, reading)
 
 returns-3 : tie.Need-returns-3 Inv-loop μ-loop
-returns-3 c = at-step ((c .before .before .before .before .before .before .before .before .r) .given .1) (run-done ((c .before .before .before .before .before .short-run) .ensures .0) ((c .loop-test) .left) ((c .before .loop) .inv))
+returns-3 c = at-step ((c .before .before .before .before .before .before .before .before .r) .given .1) (comesThen ((c .before .before .before .before .before .short-run) .ensures .0) (turns-done ((c .loop-test) .left) ((c .before .loop) .inv)))
 
 pub source-numbers-spec : {M : Type 1} → statement M
 source-numbers-spec =

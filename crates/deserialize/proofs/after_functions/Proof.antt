@@ -1,4 +1,4 @@
-use Rattle.vob24.specs.Grammar.{section, afterFunctions}
+use Rattle.vob24.specs.Grammar.{section}
 use Rattle.reader.proofs.Laws.{fieldThen}
 use borrow.Author.Needs.{needs}
 use Rattle.deserialize.proofs.after_functions.Statement.{statement}
@@ -20,7 +20,7 @@ same-length : tie.Need-same-length
 same-length c = search needs
 
 returns : tie.Need-returns
-unfolding section afterFunctions
+unfolding section
 returns c = fieldThen ((c .before .before .before .before .before .before .before .before .before .before .before .before .before .before .externs) .ensures) (λ _. fieldThen ((c .before .before .before .before .before .before .before .before .before .before .entry) .ensures) (λ _. fieldThen ((c .before .before .before .before .before .before .island-init) .ensures) (λ _. (c .before .before .artifacts-on) .ensures)))
 
 pub after-functions-spec : {M : Type 1} → statement M

@@ -1,7 +1,6 @@
-use Rattle.vob24.specs.Grammar.{section, sections, pack}
-use Rattle.reader.proofs.Laws.{fieldThen}
+use Rattle.vob24.specs.Grammar.{section, afterFunctions, sections, pack}
+use Rattle.reader.proofs.Laws.{fieldThen, comesThen}
 use Rattle.reader.proofs.Accepting.{accepted-next}
-use Rattle.deserialize.proofs.Laws.{comesThen}
 use borrow.Author.Needs.{needs}
 use Rattle.deserialize.proofs.deserialize.Statement.{statement}
 use Rattle.deserialize.proofs.deserialize.Tie as tie
@@ -16,7 +15,7 @@ field-str-requires : tie.Need-field-str-requires
 field-str-requires c κs = search needs
 
 types-requires : tie.Need-types-requires
-unfolding section sections pack
+unfolding section afterFunctions sections pack
 types-requires c κs = (search needs, accepted-next ((c .before .before .before .field-str) .ensures) (accepted-next ((c .before .before .before .before .before .before .before .field-version) .ensures) (accepted-next ((c .before .before .before .before .before .before .before .before .before .before .before .field-magic) .ensures) ((c .before .before .before .before .before .before .before .before .before .before .before .before .before .before .before .pre) .1))))
 
 well-known-requires : tie.Need-well-known-requires
@@ -35,7 +34,7 @@ same-length : tie.Need-same-length
 same-length c = search (needs, (c .before .before .before .before .before .before .before .before .before .before .before .before .before .before .before .before .before .before .before .before .before .before .before .before .before .before .before .before .before .tape) .given, (c .before .before .before .before .before .before .before .before .before .before .before .before .before .before .before .before .before .before .before .before .before .before .before .before .before .tape2) .given, (c .before .before .before .before .before .before .before .before .before .before .before .before .before .before .before .before .before .before .before .before .before .tape3) .given, (c .before .before .before .before .before .before .before .before .before .before .before .before .before .before .before .before .before .tape4) .given, (c .before .before .before .before .before .before .before .before .before .before .before .before .before .tape5) .given, (c .before .before .before .before .before .before .before .before .before .tape6) .given, (c .before .before .before .before .before .tape7) .given, (c .before .tape8) .given)
 
 returns : tie.Need-returns
-unfolding section sections pack
+unfolding section afterFunctions sections pack
 returns c = fieldThen ((c .before .before .before .before .before .before .before .before .before .before .before .before .before .before .before .before .before .before .before .before .before .before .before .before .before .before .before .before .before .before .field-magic) .ensures) (λ _. fieldThen ((c .before .before .before .before .before .before .before .before .before .before .before .before .before .before .before .before .before .before .before .before .before .before .before .before .before .before .field-version) .ensures) (λ _. fieldThen ((c .before .before .before .before .before .before .before .before .before .before .before .before .before .before .before .before .before .before .before .before .before .before .field-str) .ensures) (λ _. comesThen ((c .before .before .before .before .before .before .before .before .before .before .before .before .before .before .before .before .before .before .types) .ensures) (fieldThen ((c .before .before .before .before .before .before .before .before .before .before .before .before .before .before .well-known) .ensures) (λ _. fieldThen ((c .before .before .before .before .before .before .before .before .before .before .constants) .ensures) (λ _. fieldThen ((c .before .before .before .before .before .before .globals) .ensures) (λ _. (c .before .before .functions-on) .ensures)))))))
 
 pub deserialize-spec : {M : Type 1} → statement M

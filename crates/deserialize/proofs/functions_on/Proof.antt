@@ -1,7 +1,8 @@
 use Rattle.reader.proofs.Reading.{reading}
 use Rattle.reader.proofs.Laws.{at-step, numberThen}
 use Rattle.vob24.specs.Settings.{settingsOf}
-use Rattle.vob24.specs.Grammar.{section, afterFunctions}
+use Rattle.vob24.specs.Grammar.{section, externs}
+use Rattle.deserialize.specs.Parts.{fromSection}
 use borrow.Author.Needs.{needs}
 use denote.Ref.{now}
 use Rattle.deserialize.proofs.functions_on.Statement.{statement}
@@ -43,7 +44,7 @@ same-length-2 c = search needs
 
 returns-3 : tie.Need-returns-3
 unfolding section
-returns-3 c = at-step ((c .before .before .before .before .before .before .before .before .before .before .before .before .r) .given .1) (numberThen (afterFunctions (settingsOf (now (c .before .before .before .before .before .before .before .before .before .before .before .before .before .before .before .before .args .set)))) ((c .before .before .before .before .before .q) .given .1) ((c .before .before .before .before .before .before .before .before .before .number-functions) .ensures) ((c .before .before .after-functions) .ensures))
+returns-3 c = at-step ((c .before .before .before .before .before .before .before .before .before .before .before .before .r) .given .1) (numberThen (λ n. fromSection (settingsOf (now (c .before .before .before .before .before .before .before .before .before .before .before .before .before .before .before .before .args .set))) n externs) ((c .before .before .before .before .before .q) .given .1) ((c .before .before .before .before .before .before .before .before .before .number-functions) .ensures) ((c .before .before .after-functions) .ensures))
 
 pub functions-on-spec : {M : Type 1} → statement M
 functions-on-spec =

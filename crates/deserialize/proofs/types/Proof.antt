@@ -1,10 +1,9 @@
 use mathlib.Core.Path.{refl}
 use Rattle.vob24.specs.Settings.{settingsOf}
 use Rattle.vob24.specs.Grammar.{section, struct, interface, namedType, itab, runtimeType}
-use Rattle.reader.proofs.Laws.{ready-at}
+use Rattle.reader.proofs.Laws.{ready-at, comes-not, comes-at, comes-last, comes-next}
 use Rattle.reader.proofs.Accepting.{accepted-at, accepted-first, accepted-next}
 use Rattle.empty_lists.proofs.Laws.{emptyFirst, emptySecond, emptyThird, emptyFourth, emptyFifth}
-use Rattle.deserialize.proofs.Laws.{comes-not, comes-at, comes-last, comes-next}
 use borrow.Author.Needs.{needs}
 use denote.Ref.{now}
 use Rattle.deserialize.proofs.types.Statement.{statement}

@@ -26,7 +26,7 @@ same-length : tie.Need-same-length
 same-length c = search needs
 
 returns-2 : tie.Need-returns-2
-returns-2 c = runs-low (c .before .before .before .before .before .before .before .before .before .before .pre) (omega arith) (omega arith) ((c .before .before .before .copy-low) .ensures .low) ((c .before .before .before .copy-low) .ensures .copied) ((c .remaining) .ensures)
+returns-2 c = runs-low _ (c .before .before .before .before .before .before .before .before .before .before .pre) (omega arith) (omega arith) ((c .before .before .before .copy-low) .ensures .low) ((c .before .before .before .copy-low) .ensures .copied) ((c .remaining) .ensures)
 
 pub slot-type-run-spec : {M : Type 1} → statement M
 slot-type-run-spec =
