@@ -191,7 +191,7 @@ fn source_numbers(s: &[u8], r: Step, n: u64, tape: &mut [u32]) -> Step
 }
 
 // One function's: pc, file_id, line, col and len of each, all packed. They are read as one run of numbers, which keeps the loop tight.
-pub fn locations(s: &[u8], set: &Settings, r: Step, tape: &mut [u32]) -> Step
+fn locations(s: &[u8], set: &Settings, r: Step, tape: &mut [u32]) -> Step
     requires { ⌜ Ready (now s) r ⌝ }
     ensures { λ q. ⌜ Reader (locationList (settingsOf (now (set .entry)))) (now (s .entry)) r (now (tape .entry)) q (now (tape .exit)) ⌝ }
 {
@@ -230,7 +230,7 @@ pub fn function_locations(s: &[u8], set: &Settings, r: Step, tape: &mut [u32]) -
 
 // ---- inline sources
 
-pub fn span(s: &[u8], r: Step, tape: &mut [u32]) -> Step
+fn span(s: &[u8], r: Step, tape: &mut [u32]) -> Step
     requires { ⌜ Ready (now s) r ⌝ }
     ensures { λ q. ⌜ Reader spanFormat (now (s .entry)) r (now (tape .entry)) q (now (tape .exit)) ⌝ }
 {
@@ -240,7 +240,7 @@ pub fn span(s: &[u8], r: Step, tape: &mut [u32]) -> Step
     fields::field_u32(s, col, tape)
 }
 
-pub fn optional_span(s: &[u8], r: Step, tape: &mut [u32]) -> Step
+fn optional_span(s: &[u8], r: Step, tape: &mut [u32]) -> Step
     requires { ⌜ Ready (now s) r ⌝ }
     ensures { λ q. ⌜ Reader (optional spanFormat) (now (s .entry)) r (now (tape .entry)) q (now (tape .exit)) ⌝ }
 {
@@ -258,7 +258,7 @@ pub fn optional_span(s: &[u8], r: Step, tape: &mut [u32]) -> Step
     span(s, here, tape)
 }
 
-pub fn inline_frame(s: &[u8], r: Step, tape: &mut [u32]) -> Step
+fn inline_frame(s: &[u8], r: Step, tape: &mut [u32]) -> Step
     requires { ⌜ Ready (now s) r ⌝ }
     ensures { λ q. ⌜ Reader frameFormat (now (s .entry)) r (now (tape .entry)) q (now (tape .exit)) ⌝ }
 {
@@ -267,7 +267,7 @@ pub fn inline_frame(s: &[u8], r: Step, tape: &mut [u32]) -> Step
     optional_span(s, function_id, tape)
 }
 
-pub fn inline_frames(s: &[u8], set: &Settings, r: Step, tape: &mut [u32]) -> Step
+fn inline_frames(s: &[u8], set: &Settings, r: Step, tape: &mut [u32]) -> Step
     requires { ⌜ Ready (now s) r ⌝ }
     ensures { λ q. ⌜ Reader (frameList (settingsOf (now (set .entry)))) (now (s .entry)) r (now (tape .entry)) q (now (tape .exit)) ⌝ }
 {
@@ -299,7 +299,7 @@ pub fn inline_frames(s: &[u8], set: &Settings, r: Step, tape: &mut [u32]) -> Ste
     here
 }
 
-pub fn inline_entry(s: &[u8], r: Step, tape: &mut [u32]) -> Step
+fn inline_entry(s: &[u8], r: Step, tape: &mut [u32]) -> Step
     requires { ⌜ Ready (now s) r ⌝ }
     ensures { λ q. ⌜ Reader entryFormat (now (s .entry)) r (now (tape .entry)) q (now (tape .exit)) ⌝ }
 {
@@ -308,7 +308,7 @@ pub fn inline_entry(s: &[u8], r: Step, tape: &mut [u32]) -> Step
 }
 
 // A function with at most `left` entries. Also returns their count.
-pub fn inline_function(s: &[u8], set: &Settings, c: Cursor, left: u64, tape: &mut [u32]) -> Number
+fn inline_function(s: &[u8], set: &Settings, c: Cursor, left: u64, tape: &mut [u32]) -> Number
     requires { ⌜ ReadyAt (now s) c ⌝ }
     ensures { λ q. ⌜ NumberOf (functionFormat (settingsOf (now (set .entry))) left) entriesOf (now (s .entry)) c (now (tape .entry)) q (now (tape .exit)) ⌝ }
 {
@@ -347,7 +347,7 @@ fn smaller(a: u64, b: u64) -> u64
 }
 
 // The limit of the frames is also that of the functions, and of all their entries together.
-pub fn inline_functions(s: &[u8], set: &Settings, r: Step, functions: u64, tape: &mut [u32]) -> Step
+fn inline_functions(s: &[u8], set: &Settings, r: Step, functions: u64, tape: &mut [u32]) -> Step
     requires { ⌜ Ready (now s) r ⌝ }
     ensures { λ q. ⌜ Reader (functionList (settingsOf (now (set .entry))) functions) (now (s .entry)) r (now (tape .entry)) q (now (tape .exit)) ⌝ }
 {
