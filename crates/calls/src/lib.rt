@@ -10,7 +10,7 @@ use reader::Refusal;
 use reader::Step;
 use reader::numbers;
 
-pub const MAX_PACK_BYTES: usize = 134_217_728;
+const MAX_PACK_BYTES: usize = 134_217_728;
 
 pub enum Answer {
     Taken {

@@ -20,7 +20,7 @@ use vob24::Settings;
 pub mod answers;
 
 // An answer without its constant.
-pub fn constant_step(q: ConstantRead) -> Step
+fn constant_step(q: ConstantRead) -> Step
     ensures { λ r. ⌜ r ≡ stepOfConstant q ⌝ }
 {
     match q {
@@ -29,7 +29,7 @@ pub fn constant_step(q: ConstantRead) -> Step
     }
 }
 
-// A refusal as an answer.
+// A refusal as an answer. The first arm is never run.
 fn constant_refusal(r: Step) -> ConstantRead
     ensures { λ q. ⌜ stepOfConstant q ≡ r ⌝ }
 {

@@ -1,7 +1,7 @@
 // The debug information: source files, the locations of each function's code, and the sources of inlined code.
 // Ports what Module::deserialize and read_inline_sources of serialize.rs read into the records of debug_info.rs and debug_info/inline.rs.
 ghost use mathlib.Core.Path.{_≡_};
-ghost use Prim.Native.Nat.{_≤_, _<_, min};
+ghost use Prim.Native.Nat.{_+_, _*_, _%_, _≤_, _<_, min};
 ghost use Rattle.format.specs.Format.{times};
 ghost use Rattle.vob24.specs.Settings.{settingsOf};
 ghost use Rattle.vob24.specs.Leaves.{optional, sourceU32};
@@ -42,61 +42,69 @@ pub fn files(s: &[u8], set: &Settings, r: Step, tape: &mut [u32]) -> Step
 
 // ---- packed numbers
 
-// A packed number of so many bytes; of none, where it is not short.
+// A packed number and its length; length 0: not one of 1 to 4 bytes.
 struct Short {
     value: u32,
     bytes: usize,
 }
 
-// The packed number that begins the eight bytes of x, where it has at most four.
+// The seven bits of a byte, below those of the bytes after it.
+fn gathered(byte: u64, after: u32) -> u32
+    requires { ⌜ after < 33554432 ⌝ }
+    ensures { λ n. ⌜ n ≡ byte % 128 + 128 * after ⌝ }
+{
+    (byte & 0x7f) as u32 | after << 7
+}
+
+// The packed number that begins the eight bytes of x, where it has at most four: no fifth byte, so no test of one.
 fn short_number(x: u64) -> Short
     ensures { λ q. ⌜ (q .bytes ≤ 4) × (0 < q .bytes → Packs 4 0 x (q .value) (q .bytes)) ⌝ }
 {
     let none = Short { value: 0, bytes: 0 };
-    let a = x % 256;
-    if a < 128 {
+    let a = x & 0xff;
+    if a < 0x80 {
         return Short {
             value: a as u32,
             bytes: 1,
         };
     }
-    let y = x / 256;
-    let b = y % 256;
-    if b < 128 {
+    let y = x >> 8;
+    let b = y & 0xff;
+    if b < 0x80 {
         if b == 0 {
             return none;
         }
         return Short {
-            value: (a - 128 + 128 * b) as u32,
+            value: gathered(a, b as u32),
             bytes: 2,
         };
     }
-    let z = y / 256;
-    let c = z % 256;
-    if c < 128 {
+    let z = y >> 8;
+    let c = z & 0xff;
+    if c < 0x80 {
         if c == 0 {
             return none;
         }
         return Short {
-            value: (a - 128 + 128 * (b - 128 + 128 * c)) as u32,
+            value: gathered(a, gathered(b, c as u32)),
             bytes: 3,
         };
     }
-    let d = z / 256 % 256;
-    if d < 128 {
+    let d = z >> 8 & 0xff;
+    if d < 0x80 {
         if d == 0 {
             return none;
         }
         return Short {
-            value: (a - 128 + 128 * (b - 128 + 128 * (c - 128 + 128 * d))) as u32,
+            value: gathered(a, gathered(b, gathered(c, d as u32))),
             bytes: 4,
         };
     }
     none
 }
 
-// Eight numbers of one byte, whose high bits are clear, or one of at most four and, after one byte, a second; none, where eight bytes are
-// not there or begin with neither.
+// From the next eight bytes: eight numbers of one byte each; else one of 1 to 4 bytes and, if it took one byte, a second; else none. Where
+// eight bytes are not there it reads none, and the leaf asks for its bytes.
 fn short_numbers(s: &[u8], c: Cursor, n: u64, tape: &mut [u32]) -> Rest
     requires { ⌜ ReadyAt (now s) c × (0 < n) ⌝ }
     ensures { λ q. ⌜ Runs sourceU32 (now (s .entry)) c (now (tape .entry)) n q (now (tape .exit)) × (q .items ≤ n) ⌝ }
@@ -126,7 +134,7 @@ fn short_numbers(s: &[u8], c: Cursor, n: u64, tape: &mut [u32]) -> Rest
     reader::put(tape, at, number.value);
     if taken == 1 {
         if 2 <= n {
-            let second = short_number(x / 256);
+            let second = short_number(x >> 8);
             let more = second.bytes;
             if more != 0 {
                 reader::put(tape, at + 1, second.value);
@@ -183,7 +191,7 @@ fn source_numbers(s: &[u8], r: Step, n: u64, tape: &mut [u32]) -> Step
 }
 
 // One function's: pc, file_id, line, col and len of each, all packed. They are read as one run of numbers, which keeps the loop tight.
-pub fn locations(s: &[u8], set: &Settings, r: Step, tape: &mut [u32]) -> Step
+fn locations(s: &[u8], set: &Settings, r: Step, tape: &mut [u32]) -> Step
     requires { ⌜ Ready (now s) r ⌝ }
     ensures { λ q. ⌜ Reader (locationList (settingsOf (now (set .entry)))) (now (s .entry)) r (now (tape .entry)) q (now (tape .exit)) ⌝ }
 {
@@ -222,7 +230,7 @@ pub fn function_locations(s: &[u8], set: &Settings, r: Step, tape: &mut [u32]) -
 
 // ---- inline sources
 
-pub fn span(s: &[u8], r: Step, tape: &mut [u32]) -> Step
+fn span(s: &[u8], r: Step, tape: &mut [u32]) -> Step
     requires { ⌜ Ready (now s) r ⌝ }
     ensures { λ q. ⌜ Reader spanFormat (now (s .entry)) r (now (tape .entry)) q (now (tape .exit)) ⌝ }
 {
@@ -232,7 +240,7 @@ pub fn span(s: &[u8], r: Step, tape: &mut [u32]) -> Step
     fields::field_u32(s, col, tape)
 }
 
-pub fn optional_span(s: &[u8], r: Step, tape: &mut [u32]) -> Step
+fn optional_span(s: &[u8], r: Step, tape: &mut [u32]) -> Step
     requires { ⌜ Ready (now s) r ⌝ }
     ensures { λ q. ⌜ Reader (optional spanFormat) (now (s .entry)) r (now (tape .entry)) q (now (tape .exit)) ⌝ }
 {
@@ -250,7 +258,7 @@ pub fn optional_span(s: &[u8], r: Step, tape: &mut [u32]) -> Step
     span(s, here, tape)
 }
 
-pub fn inline_frame(s: &[u8], r: Step, tape: &mut [u32]) -> Step
+fn inline_frame(s: &[u8], r: Step, tape: &mut [u32]) -> Step
     requires { ⌜ Ready (now s) r ⌝ }
     ensures { λ q. ⌜ Reader frameFormat (now (s .entry)) r (now (tape .entry)) q (now (tape .exit)) ⌝ }
 {
@@ -259,7 +267,7 @@ pub fn inline_frame(s: &[u8], r: Step, tape: &mut [u32]) -> Step
     optional_span(s, function_id, tape)
 }
 
-pub fn inline_frames(s: &[u8], set: &Settings, r: Step, tape: &mut [u32]) -> Step
+fn inline_frames(s: &[u8], set: &Settings, r: Step, tape: &mut [u32]) -> Step
     requires { ⌜ Ready (now s) r ⌝ }
     ensures { λ q. ⌜ Reader (frameList (settingsOf (now (set .entry)))) (now (s .entry)) r (now (tape .entry)) q (now (tape .exit)) ⌝ }
 {
@@ -291,7 +299,7 @@ pub fn inline_frames(s: &[u8], set: &Settings, r: Step, tape: &mut [u32]) -> Ste
     here
 }
 
-pub fn inline_entry(s: &[u8], r: Step, tape: &mut [u32]) -> Step
+fn inline_entry(s: &[u8], r: Step, tape: &mut [u32]) -> Step
     requires { ⌜ Ready (now s) r ⌝ }
     ensures { λ q. ⌜ Reader entryFormat (now (s .entry)) r (now (tape .entry)) q (now (tape .exit)) ⌝ }
 {
@@ -299,8 +307,8 @@ pub fn inline_entry(s: &[u8], r: Step, tape: &mut [u32]) -> Step
     fields::field_u32(s, pc, tape)
 }
 
-// A function with at most `left` entries; hands out how many they are.
-pub fn inline_function(s: &[u8], set: &Settings, c: Cursor, left: u64, tape: &mut [u32]) -> Number
+// A function with at most `left` entries. Also returns their count.
+fn inline_function(s: &[u8], set: &Settings, c: Cursor, left: u64, tape: &mut [u32]) -> Number
     requires { ⌜ ReadyAt (now s) c ⌝ }
     ensures { λ q. ⌜ NumberOf (functionFormat (settingsOf (now (set .entry))) left) entriesOf (now (s .entry)) c (now (tape .entry)) q (now (tape .exit)) ⌝ }
 {
@@ -339,7 +347,7 @@ fn smaller(a: u64, b: u64) -> u64
 }
 
 // The limit of the frames is also that of the functions, and of all their entries together.
-pub fn inline_functions(s: &[u8], set: &Settings, r: Step, functions: u64, tape: &mut [u32]) -> Step
+fn inline_functions(s: &[u8], set: &Settings, r: Step, functions: u64, tape: &mut [u32]) -> Step
     requires { ⌜ Ready (now s) r ⌝ }
     ensures { λ q. ⌜ Reader (functionList (settingsOf (now (set .entry))) functions) (now (s .entry)) r (now (tape .entry)) q (now (tape .exit)) ⌝ }
 {

@@ -1,6 +1,6 @@
 // The field readers: a leaf, and its words on the tape. Each opens a leaf's answer by `let .. else` and passes the refusal up.
-// `field_` readers take the answer so far and give the next; `number_` and `span_` readers start at a cursor and also hand
-// out the number, or the start and length, that they read. Ports the read_ functions of serialize.rs on one field.
+// `field_` readers take the answer so far and give the next; `number_` and `span_` readers start at a cursor and also return
+// the number, or the start and length, that they read. Ports the read_ functions of serialize.rs on one field.
 ghost use Rattle.format.specs.Format.{number};
 ghost use Rattle.vob24.specs.Settings.{settingsOf};
 ghost use Rattle.vob24.specs.Leaves.{u8, u16, u32, u64, optionalId, bool, slotType, valueKind, direction, valueMeta, valueRttid, sourceU32, str, memberName, optional};
@@ -58,21 +58,6 @@ pub fn field_u32(s: &[u8], r: Step, tape: &mut [u32]) -> Step
         return reader::step_of(q);
     };
     Step::Taken(reader::keep(d, n, tape))
-}
-
-// Also an i64 or f64, by its bits: the low word, then the high.
-pub fn field_u64(s: &[u8], r: Step, tape: &mut [u32]) -> Step
-    requires { ⌜ Ready (now s) r ⌝ }
-    ensures { λ q. ⌜ Reader u64 (now (s .entry)) r (now (tape .entry)) q (now (tape .exit)) ⌝ }
-{
-    let Step::Taken(c) = r else {
-        return r;
-    };
-    let q = reader::read_u64(s, c);
-    let Number::Got(n, d) = q else {
-        return reader::step_of(q);
-    };
-    Step::Taken(reader::keep_pair(d, n % 0x1_0000_0000, n / 0x1_0000_0000, tape))
 }
 
 // Stored plus 1; 0 where there is none.
@@ -135,20 +120,6 @@ pub fn field_value_kind(s: &[u8], r: Step, tape: &mut [u32]) -> Step
     Step::Taken(reader::keep(d, n, tape))
 }
 
-pub fn field_direction(s: &[u8], r: Step, tape: &mut [u32]) -> Step
-    requires { ⌜ Ready (now s) r ⌝ }
-    ensures { λ q. ⌜ Reader direction (now (s .entry)) r (now (tape .entry)) q (now (tape .exit)) ⌝ }
-{
-    let Step::Taken(c) = r else {
-        return r;
-    };
-    let q = number_leaves::read_small(s, c, 2, numbers::INVALID_CHAN_DIR);
-    let Number::Got(n, d) = q else {
-        return reader::step_of(q);
-    };
-    Step::Taken(reader::keep(d, n, tape))
-}
-
 pub fn field_value_meta(s: &[u8], r: Step, tape: &mut [u32]) -> Step
     requires { ⌜ Ready (now s) r ⌝ }
     ensures { λ q. ⌜ Reader valueMeta (now (s .entry)) r (now (tape .entry)) q (now (tape .exit)) ⌝ }
@@ -171,20 +142,6 @@ pub fn field_value_rttid(s: &[u8], r: Step, tape: &mut [u32]) -> Step
         return r;
     };
     let q = number_leaves::read_packed_word(s, c, numbers::INVALID_PACKED_VALUE_RTTID);
-    let Number::Got(n, d) = q else {
-        return reader::step_of(q);
-    };
-    Step::Taken(reader::keep(d, n, tape))
-}
-
-pub fn field_assert_kind(s: &[u8], r: Step, tape: &mut [u32]) -> Step
-    requires { ⌜ Ready (now s) r ⌝ }
-    ensures { λ q. ⌜ Reader assertKind (now (s .entry)) r (now (tape .entry)) q (now (tape .exit)) ⌝ }
-{
-    let Step::Taken(c) = r else {
-        return r;
-    };
-    let q = number_leaves::read_bare(s, c, 1, numbers::INVALID_INSTRUCTION_METADATA);
     let Number::Got(n, d) = q else {
         return reader::step_of(q);
     };
@@ -219,7 +176,7 @@ pub fn field_extern_count(s: &[u8], r: Step, tape: &mut [u32]) -> Step
     Step::Taken(reader::keep(d, n, tape))
 }
 
-// ---- numbers that are handed out
+// ---- numbers that are also returned
 
 pub fn number_u16(s: &[u8], c: Cursor, tape: &mut [u32]) -> Number
     requires { ⌜ ReadyAt (now s) c ⌝ }
@@ -243,6 +200,7 @@ pub fn number_u32(s: &[u8], c: Cursor, tape: &mut [u32]) -> Number
     Number::Got(n, reader::keep(d, n, tape))
 }
 
+// The low word, then the high.
 pub fn number_u64(s: &[u8], c: Cursor, tape: &mut [u32]) -> Number
     requires { ⌜ ReadyAt (now s) c ⌝ }
     ensures { λ q. ⌜ NumberOf u64 number (now (s .entry)) c (now (tape .entry)) q (now (tape .exit)) ⌝ }
@@ -511,46 +469,6 @@ pub fn span_str(s: &[u8], c: Cursor, tape: &mut [u32]) -> Payload
     let q = length_leaves::read_string(s, c.place, c.left, c.at);
     let Text::Got(start, length, _, d) = q else {
         return reader::text_span(q);
-    };
-    Payload::Got(
-        start,
-        length,
-        reader::keep_pair(d, start as u64, length as u64, tape),
-    )
-}
-
-pub fn span_artifact_name(s: &[u8], set: &Settings, c: Cursor, tape: &mut [u32]) -> Payload
-    requires { ⌜ ReadyAt (now s) c ⌝ }
-    ensures { λ q. ⌜ SpanOf (artifactName (settingsOf (now (set .entry)))) (now (s .entry)) c (now (tape .entry)) q (now (tape .exit)) ⌝ }
-{
-    let q = length_leaves::read_artifact_string(
-        s,
-        c,
-        numbers::ARTIFACT_NAME,
-        vob24::artifact_name_bytes(set),
-    );
-    let Text::Got(start, length, _, d) = q else {
-        return reader::text_span(q);
-    };
-    Payload::Got(
-        start,
-        length,
-        reader::keep_pair(d, start as u64, length as u64, tape),
-    )
-}
-
-pub fn span_artifact_payload(s: &[u8], set: &Settings, c: Cursor, tape: &mut [u32]) -> Payload
-    requires { ⌜ ReadyAt (now s) c ⌝ }
-    ensures { λ q. ⌜ SpanOf (artifactPayload (settingsOf (now (set .entry)))) (now (s .entry)) c (now (tape .entry)) q (now (tape .exit)) ⌝ }
-{
-    let q = length_leaves::read_artifact_bytes(
-        s,
-        c,
-        numbers::ARTIFACT_PAYLOAD,
-        vob24::artifact_payload_bytes(set),
-    );
-    let Payload::Got(start, length, d) = q else {
-        return q;
     };
     Payload::Got(
         start,

@@ -1,6 +1,6 @@
 // The functions section: each function's head, returns, traits, slot types, code, captures and parameters.
 // Ports FunctionDef of bytecode.rs and its reading in serialize.rs. Transfer words are judged after their whole list, the slot
-// count last of all; the list hands out how many functions there are, by which the inline sources are limited.
+// count last of all. The list also returns the number of functions, which limits the inline sources.
 ghost use Rattle.vob24.specs.Settings.{settingsOf};
 ghost use Rattle.format.specs.Format.{counted};
 ghost use Rattle.reader.specs.Contract.{Ready, ReadyAt, Reader, NumberOf};
@@ -76,8 +76,11 @@ fn capture_types(s: &[u8], set: &Settings, r: Step, tape: &mut [u32]) -> Step
     let Step::Taken(c) = r else {
         return r;
     };
-    let list = reader::step_of(number_transfer_types(s, set, c, tape));
-    transfers::transfer_words(s, numbers::CAPTURE_META, r, list)
+    let q = number_transfer_types(s, set, c, tape);
+    let Number::Got(_, d) = q else {
+        return reader::step_of(q);
+    };
+    transfers::transfer_words(s, numbers::CAPTURE_META, r, Step::Taken(d))
 }
 
 fn param_types(s: &[u8], set: &Settings, r: Step, tape: &mut [u32]) -> Step
@@ -87,8 +90,11 @@ fn param_types(s: &[u8], set: &Settings, r: Step, tape: &mut [u32]) -> Step
     let Step::Taken(c) = r else {
         return r;
     };
-    let list = reader::step_of(number_transfer_types(s, set, c, tape));
-    transfers::transfer_words(s, numbers::PARAMETER_META, r, list)
+    let q = number_transfer_types(s, set, c, tape);
+    let Number::Got(_, d) = q else {
+        return reader::step_of(q);
+    };
+    transfers::transfer_words(s, numbers::PARAMETER_META, r, Step::Taken(d))
 }
 
 // ---- functions
@@ -188,8 +194,8 @@ fn function_slots(s: &[u8], set: &Settings, r: Step, locals: u64, tape: &mut [u3
     function_body(s, set, Step::Taken(d), types, locals, tape)
 }
 
-// local_slots stands after the head
-pub fn function(s: &[u8], set: &Settings, r: Step, tape: &mut [u32]) -> Step
+// local_slots comes after the head
+fn function(s: &[u8], set: &Settings, r: Step, tape: &mut [u32]) -> Step
     requires { ⌜ Ready (now s) r ⌝ }
     ensures { λ q. ⌜ Reader (functionFormat (settingsOf (now (set .entry)))) (now (s .entry)) r (now (tape .entry)) q (now (tape .exit)) ⌝ }
 {
@@ -206,7 +212,7 @@ pub fn function(s: &[u8], set: &Settings, r: Step, tape: &mut [u32]) -> Step
     function_slots(s, set, traits, locals, tape)
 }
 
-// Hands out how many they are.
+// Also returns the count.
 pub fn number_functions(s: &[u8], set: &Settings, c: Cursor, tape: &mut [u32]) -> Number
     requires { ⌜ ReadyAt (now s) c ⌝ }
     ensures { λ q. ⌜ NumberOf (functionList (settingsOf (now (set .entry)))) counted (now (s .entry)) c (now (tape .entry)) q (now (tape .exit)) ⌝ }
@@ -234,5 +240,9 @@ pub fn functions(s: &[u8], set: &Settings, r: Step, tape: &mut [u32]) -> Step
     let Step::Taken(c) = r else {
         return r;
     };
-    reader::step_of(number_functions(s, set, c, tape))
+    let q = number_functions(s, set, c, tape);
+    let Number::Got(_, d) = q else {
+        return reader::step_of(q);
+    };
+    Step::Taken(d)
 }

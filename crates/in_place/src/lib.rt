@@ -8,7 +8,7 @@ ghost use Rattle.in_place.specs.Items.{formatOf};
 ghost use Rattle.in_place.specs.Tables.{formatIn};
 ghost use Rattle.in_place.specs.Contract.{TextAt, WordIs, EndIs, SameBytes, SameText, BlankIs, Placed, Past, PackageIs, After, TwoPlaced, SamePackage, SameKey, Seen};
 
-// The items that have a name; it stands first in each.
+// The items that have a name; it is the first field of each.
 pub enum Item {
     Name,
     StructField,

@@ -17,7 +17,7 @@ use reader::sizes;
 use vob24::Settings;
 
 // op, flags, a, b, c
-pub fn instruction(s: &[u8], r: Step, tape: &mut [u32]) -> Step
+fn instruction(s: &[u8], r: Step, tape: &mut [u32]) -> Step
     requires { ⌜ Ready (now s) r ⌝ }
     ensures { λ q. ⌜ Reader instructionFormat (now (s .entry)) r (now (tape .entry)) q (now (tape .exit)) ⌝ }
 {
@@ -89,7 +89,7 @@ fn instructions(s: &[u8], c: Cursor, n: u64, tape: &mut [u32]) -> Step
     here
 }
 
-// Hands out how many they are.
+// Also returns the count.
 pub fn number_instructions(s: &[u8], set: &Settings, c: Cursor, tape: &mut [u32]) -> Number
     requires { ⌜ ReadyAt (now s) c ⌝ }
     ensures { λ q. ⌜ NumberOf (instructionList (settingsOf (now (set .entry)))) counted (now (s .entry)) c (now (tape .entry)) q (now (tape .exit)) ⌝ }

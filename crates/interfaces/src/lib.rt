@@ -10,7 +10,7 @@ use reader::Step;
 use reader::sizes;
 use vob24::Settings;
 
-pub fn method_names(s: &[u8], set: &Settings, r: Step, tape: &mut [u32]) -> Step
+fn method_names(s: &[u8], set: &Settings, r: Step, tape: &mut [u32]) -> Step
     requires { ⌜ Ready (now s) r ⌝ }
     ensures { λ q. ⌜ Reader (nameList (settingsOf (now (set .entry)))) (now (s .entry)) r (now (tape .entry)) q (now (tape .exit)) ⌝ }
 {
@@ -33,7 +33,7 @@ pub fn method_names(s: &[u8], set: &Settings, r: Step, tape: &mut [u32]) -> Step
     here
 }
 
-pub fn interface_method(s: &[u8], r: Step, tape: &mut [u32]) -> Step
+fn interface_method(s: &[u8], r: Step, tape: &mut [u32]) -> Step
     requires { ⌜ Ready (now s) r ⌝ }
     ensures { λ q. ⌜ Reader methodFormat (now (s .entry)) r (now (tape .entry)) q (now (tape .exit)) ⌝ }
 {
@@ -41,7 +41,7 @@ pub fn interface_method(s: &[u8], r: Step, tape: &mut [u32]) -> Step
     fields::field_u32(s, name, tape)
 }
 
-pub fn interface_methods(s: &[u8], set: &Settings, r: Step, tape: &mut [u32]) -> Step
+fn interface_methods(s: &[u8], set: &Settings, r: Step, tape: &mut [u32]) -> Step
     requires { ⌜ Ready (now s) r ⌝ }
     ensures { λ q. ⌜ Reader (methodList (settingsOf (now (set .entry)))) (now (s .entry)) r (now (tape .entry)) q (now (tape .exit)) ⌝ }
 {
@@ -65,7 +65,7 @@ pub fn interface_methods(s: &[u8], set: &Settings, r: Step, tape: &mut [u32]) ->
 }
 
 // Both lists are read before either set is charged and judged.
-pub fn interface(s: &[u8], set: &Settings, r: Step, again: bool, tape: &mut [u32]) -> Step
+fn interface(s: &[u8], set: &Settings, r: Step, again: bool, tape: &mut [u32]) -> Step
     requires { ⌜ (Ready (now s) r) × (Accepted again (interfaceFormat (settingsOf (now set))) (now s) r) ⌝ }
     ensures { λ q. ⌜ Reader (interfaceFormat (settingsOf (now (set .entry)))) (now (s .entry)) r (now (tape .entry)) q (now (tape .exit)) ⌝ }
 {

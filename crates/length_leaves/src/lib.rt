@@ -1,5 +1,6 @@
 // Leaves with a length or a count: payloads, texts, and the counts of lists, each with the bytes left and the charge.
-// Ports read_bytes, read_string, read_count and their kin of `impl ByteReader` in serialize.rs.
+// Ports read_bytes, read_string and, for the counts, what read_vec, read_debug_vec and their kin of `impl ByteReader` in serialize.rs ask before
+// the first item.
 ghost use mathlib.Core.Path.{_≡_};
 ghost use Prim.Native.Nat.{_+_, _≤_};
 ghost use lib.ListN.{length as lengthOf};
@@ -24,6 +25,7 @@ use utf8::Scanned;
 use utf8::Tried;
 use vob24::Settings;
 
+// A refusal of another answer type. The first arm is never run, here and in the two below.
 fn payload_refusal(q: Number) -> Payload
     ensures { λ r. ⌜ payloadStep r ≡ stepOf q ⌝ }
 {
@@ -90,7 +92,7 @@ fn bytes(s: &[u8], d: Cursor, n: u64, context: u64) -> Payload
     Payload::Got(start, length, e)
 }
 
-pub fn read_bytes(s: &[u8], c: Cursor) -> Payload
+fn read_bytes(s: &[u8], c: Cursor) -> Payload
     requires { ⌜ ReadyAt (now s) c ⌝ }
     ensures { λ q. ⌜ Spans (Leaf.payload free Refusals.byteString) (now (s .entry)) c q ⌝ }
 {
@@ -128,7 +130,7 @@ fn text(s: &[u8], start: usize, length: usize, d: Cursor) -> Text
     Text::Got(start, length, n, d)
 }
 
-// The cursor comes in registers: texts are read one by one, and each waits for the place that the one before it came to.
+// Scalars, not a Cursor: each text depends on the place after the one before, and a store and load in between would add its latency to every text.
 pub fn read_string(s: &[u8], place: usize, left: u64, at: usize) -> Text
     requires { ⌜ ReadyAt (now s) (cursorAt place left at) ⌝ }
     ensures { λ q. ⌜ Texts (Leaf.string free Refusals.byteString wellFormed) (now (s .entry)) (cursorAt place left at) q ⌝ }
@@ -141,7 +143,7 @@ pub fn read_string(s: &[u8], place: usize, left: u64, at: usize) -> Text
     if let Tried::Characters(n) = utf8::try_short(&s[0..end], start, length) {
         return Text::Got(start, length, n, d);
     }
-    // A copy goes in and a copy comes out, so that the short way above keeps all in registers.
+    // Copies, so that no address escapes on the short way above.
     let copy = Cursor {
         place: d.place,
         left: d.left,
@@ -176,7 +178,11 @@ fn counted(s: &[u8], d: Cursor, n: u64, least: u64, context: u64, size: u64) -> 
     if ((s.len() - place) as u64) < n * least {
         return Number::Not(reader::refuse(d, numbers::UNEXPECTED_EOF, 0));
     }
-    reader::number_of(n, reader::charge_allocation(d, context, n * size))
+    let paid = reader::charge_allocation(d, context, n * size);
+    let Step::Taken(e) = paid else {
+        return reader::number_of(n, paid);
+    };
+    Number::Got(n, e)
 }
 
 // The count of a list of entries whose size is numbered `entry`.
@@ -213,7 +219,7 @@ pub fn read_debug_count(
     counted(s, d, n, 1, numbers::VECTOR, vob24::size(set, entry))
 }
 
-// The count of artifacts, which is never held against the bytes left.
+// The count of artifacts, which is not compared with the bytes left.
 pub fn read_artifact_count(s: &[u8], set: &Settings, c: Cursor) -> Number
     requires { ⌜ ReadyAt (now s) c ⌝ }
     ensures { λ q. ⌜ Answers (Leaf.count (limit Refusals.moduleArtifactLimitExceeded Refusals.artifactCount (settingsOf (now (set .entry)) .artifacts)) 0 Refusals.moduleArtifacts (sizeOf (settingsOf (now (set .entry))) ModuleArtifact)) (now (s .entry)) c q ⌝ }
@@ -255,7 +261,7 @@ pub fn read_method_count(s: &[u8], set: &Settings, c: Cursor) -> Number
     counted(s, d, n, 14, numbers::NAMED_METHOD_MAP, size)
 }
 
-// The count of externs, which the reader leaves out: it is 0.
+// The count of externs; anything but 0 is refused with 25.
 pub fn read_extern_count(s: &[u8], c: Cursor) -> Number
     requires { ⌜ ReadyAt (now s) c ⌝ }
     ensures { λ q. ⌜ Answers (Leaf.count noHostCalls 1 Refusals.vector 0) (now (s .entry)) c q ⌝ }

@@ -1,5 +1,5 @@
 // The section call that is lent its place and budget and advances them, over the section call by value.
-// The Rust has no such call; its ByteReader advances its pos and allocation_remaining so.
+// The Rust has no such call; its ByteReader does the same with pos and allocation_remaining.
 ghost use Rattle.vob24.specs.Sections.{sectionOf, functionsOf};
 ghost use Rattle.position.specs.Contract.{LentCall};
 use calls::Answer;

@@ -1,6 +1,6 @@
-// The items of lists of u16, u32 and slot types, after the count: as many as can be are read at once, as a run.
-// Ports the loops of `read_vec` in serialize.rs over them. A run stops before an item that is refused, or of whose words the
-// tape has no room for all; the rest is read item by item.
+// The items of lists of u16, u32 and slot types, after the count. As many as possible are read at once, as a run.
+// Ports the loops of `read_vec` in serialize.rs over them. A run stops before an item that is refused, or whose words do
+// not all fit the tape; the rest is read item by item.
 ghost use mathlib.Core.Path.{_≡_};
 ghost use mathlib.Core.Bool.{false};
 ghost use mathlib.Core.List.{[], _∷_};
@@ -13,13 +13,13 @@ ghost use Rattle.lists.specs.Runs.{advanced, Runs, ItemsReader, Copied, 
 use reader::Cursor;
 use reader::Step;
 
-// Of fewer slot types than these a run costs more than it saves.
+// Below this many slot types a run does not pay.
 const SHORT: u64 = 16;
 
-// So many bytes are tested and then copied, and the next only then: the copy finds them in the cache.
+// Block size: each block is copied right after its test, while it is in the cache.
 const PART: usize = 4096;
 
-// What a run leaves of a list: so many items, from the cursor on.
+// What a run leaves of a list: how many items, and the cursor before them.
 pub struct Rest {
     pub items: u64,
     pub at: Cursor,
@@ -27,14 +27,14 @@ pub struct Rest {
 
 // ---- how many items
 
-// The items of the count that so many bytes can hold.
+// The smaller of n and `most`.
 pub fn fewer(n: u64, most: usize) -> usize
     ensures { λ q. ⌜ (q ≤ n) × (q ≤ most) ⌝ }
 {
     if n < (most as u64) { n as usize } else { most }
 }
 
-// The items of so many words each that the tape has room for; all, where it has ended.
+// How many of n items of `words` words fit from `at` on; all n where the tape has ended, as words are then only counted.
 pub fn fitting(n: usize, words: usize, at: usize, length: usize) -> usize
     requires { ⌜ 0 < words ⌝ }
     ensures { λ q. ⌜ (q ≤ n) × Fits words q at length ⌝ }
@@ -46,7 +46,7 @@ pub fn fitting(n: usize, words: usize, at: usize, length: usize) -> usize
     if room < n { room } else { n }
 }
 
-// The rest of n items after k of them, in so many bytes and words.
+// The rest of n items after k of them, which took `bytes` bytes and `words` words.
 pub fn remaining(c: Cursor, n: u64, k: usize, bytes: usize, words: usize) -> Rest
     requires { ⌜ (k ≤ n) × (c .place + bytes < 18446744073709551616) × (c .at + words < 18446744073709551616) ⌝ }
     ensures { λ q. ⌜ q ≡ record { items = n - k; at = advanced c bytes words } ⌝ }
@@ -151,7 +151,7 @@ fn larger(a: u8, b: u8) -> u8
     if a < b { b } else { a }
 }
 
-// Is one of the n bytes at from above `most`? With no early exit the loop is compiled to vector code.
+// Is one of the n bytes at `from` above `most`? With no early exit the loop is compiled to vector code.
 fn one_above(s: &[u8], from: usize, n: usize, most: u8) -> bool
     requires { ⌜ from + n ≤ length (now s) ⌝ }
     ensures { λ q. ⌜ (q ≡ false → Low (now (s .entry)) from (from + n) most) ⌝ }
@@ -166,7 +166,7 @@ fn one_above(s: &[u8], from: usize, n: usize, most: u8) -> bool
     most < m
 }
 
-// How many of n bytes are in the next part.
+// How many of n bytes the next part has.
 fn part_of(n: usize) -> usize
     requires { ⌜ 0 < n ⌝ }
     ensures { λ q. ⌜ (0 < q) × (q ≤ n) ⌝ }
@@ -174,7 +174,7 @@ fn part_of(n: usize) -> usize
     if n < PART { n } else { PART }
 }
 
-// Copies the parts before the first with a byte above `most`. That it has one is not promised: its bytes' own reader tests them again.
+// Copies the parts before the first with a byte above `most`. The contract does not say why it stopped: the item reader tests again from there.
 fn copy_low(s: &[u8], from: usize, n: usize, most: u8, tape: &mut [u32], at: usize) -> usize
     requires { ⌜ (from + n ≤ length (now s)) × (at + n < 18446744073709551616) × Fits 1 n at (length (now tape)) ⌝ }
     ensures { λ q. ⌜ CopiedLow n (now (s .entry)) from most (now (tape .entry)) at q (now (tape .exit)) ⌝ }

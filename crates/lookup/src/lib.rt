@@ -1,4 +1,4 @@
-// The artifact of a name: the first in the file whose name has exactly these bytes, found where it stands in the pack.
+// The artifact of a name: the first in the file whose name has exactly these bytes, found in the pack itself.
 // The Rust's Module::artifact is a binary search; document 01 asks for the first.
 ghost use Prim.Native.Nat.{_+_, _≤_};
 ghost use lib.ListN.{length};
@@ -45,7 +45,7 @@ fn look(s: &[u8], set: &Settings, from: usize, n: usize, name: &[u8], end: Curso
     let mut k = n;
     while 0 < k {
         let named = in_place::word_at(s, at);
-        // The version stands between the name and the payload's length.
+        // The version is between the name and the payload's length.
         let payload = at + 4 + named + 4;
         let len = in_place::word_at(s, payload);
         if is_name(s, at + 4, named, name) {

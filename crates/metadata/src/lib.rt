@@ -1,6 +1,6 @@
-// The metadata beside each instruction.
-// Ports InstructionMetadata of bytecode.rs and read_instruction_metadata of serialize.rs. A metadata is answered as an enum without
-// lists, held in a record beside its lists' starts and counts.
+// The metadata of each instruction.
+// Ports InstructionMetadata of bytecode.rs and read_instruction_metadata_for_version of serialize.rs. A metadata is answered as an enum
+// without lists, in a record beside its lists' starts and counts.
 ghost use mathlib.Core.Path.{_≡_};
 ghost use mathlib.Core.Bool.{true};
 ghost use Prim.Native.Nat.{_≤_};
@@ -26,7 +26,7 @@ const NONE: u8 = 0;
 
 const CALL_LAYOUT: u8 = 11;
 
-// What stands beside an instruction, without its lists.
+// What belongs to an instruction, without its lists.
 pub enum Metadata {
     None,
     ElemLayout {
@@ -61,7 +61,7 @@ pub enum Metadata {
     SelectExecLayout,
 }
 
-// A metadata and its lists in file order; a list that it has not is empty.
+// A metadata and its lists in file order; absent lists are empty.
 pub struct MetadataRecord {
     pub kind: Metadata,
     pub first: ListAt,
@@ -86,7 +86,7 @@ fn bare(kind: Metadata) -> MetadataRecord
     }
 }
 
-// A part that was not got: its refusal.
+// A field's refusal as this reader's answer. The first arm is never run.
 fn metadata_refusal(q: Number) -> MetadataRead
     ensures { λ r. ⌜ metadataStep r ≡ stepOf q ⌝ }
 {
@@ -273,7 +273,7 @@ fn select_exec_layout(s: &[u8], set: &Settings, c: Cursor, tape: &mut [u32]) -> 
     )
 }
 
-// The tag, and what it stands for; the last arm is 18, as number_metadata_tag refuses all others.
+// The tag, and the metadata that it announces; the last arm is 18, as number_metadata_tag refuses all others.
 pub fn instruction_metadata(s: &[u8], set: &Settings, c: Cursor, tape: &mut [u32]) -> MetadataRead
     requires { ⌜ ReadyAt (now s) c ⌝ }
     ensures { λ q. ⌜ MetadataReader (metadataFormat (settingsOf (now (set .entry)))) metadataOf (now (s .entry)) c (now (tape .entry)) q (now (tape .exit)) ⌝ }
@@ -314,7 +314,7 @@ fn metadata_step(q: MetadataRead) -> Step
     }
 }
 
-// Is this the byte at the place? Where there is none, it is no tag.
+// Is the byte at `place` this tag? False at the end.
 fn is_tag(s: &[u8], place: usize, tag: u8) -> bool
     requires { ⌜ place ≤ length (now s) ⌝ }
     ensures { λ q. ⌜ (q ≡ true → getD (now (s .entry)) place 0 ≡ tag) ⌝ }
@@ -329,11 +329,15 @@ fn two_layouts(s: &[u8], set: &Settings, c: Cursor, tape: &mut [u32]) -> Step
     requires { ⌜ ReadyAt (now s) c ⌝ }
     ensures { λ q. ⌜ ReaderAt (twoLayouts (settingsOf (now (set .entry)))) (now (s .entry)) c (now (tape .entry)) q (now (tape .exit)) ⌝ }
 {
-    let q = slots::number_slot_types(s, set, c, tape);
-    let Number::Got(_, d) = q else {
-        return reader::step_of(q);
+    let q1 = slots::number_slot_types(s, set, c, tape);
+    let Number::Got(_, d) = q1 else {
+        return reader::step_of(q1);
     };
-    reader::step_of(slots::number_slot_types(s, set, d, tape))
+    let q2 = slots::number_slot_types(s, set, d, tape);
+    let Number::Got(_, e) = q2 else {
+        return reader::step_of(q2);
+    };
+    Step::Taken(e)
 }
 
 // The next of a list: the two commonest, None and CallLayout, are read without their records.
@@ -346,7 +350,11 @@ fn next_metadata(s: &[u8], set: &Settings, r: Step, tape: &mut [u32]) -> Step
     };
     let place = c.place;
     if is_tag(s, place, NONE) {
-        return reader::step_of(fields::number_metadata_tag(s, c, tape));
+        let p = fields::number_metadata_tag(s, c, tape);
+        let Number::Got(_, e) = p else {
+            return reader::step_of(p);
+        };
+        return Step::Taken(e);
     }
     if is_tag(s, place, CALL_LAYOUT) {
         let q = fields::number_metadata_tag(s, c, tape);
@@ -358,7 +366,7 @@ fn next_metadata(s: &[u8], set: &Settings, r: Step, tape: &mut [u32]) -> Step
     metadata_step(instruction_metadata(s, set, c, tape))
 }
 
-// Hands out how many they are.
+// Also returns the count.
 pub fn number_instruction_metadata(s: &[u8], set: &Settings, c: Cursor, tape: &mut [u32]) -> Number
     requires { ⌜ ReadyAt (now s) c ⌝ }
     ensures { λ q. ⌜ NumberOf (metadataList (settingsOf (now (set .entry)))) counted (now (s .entry)) c (now (tape .entry)) q (now (tape .exit)) ⌝ }

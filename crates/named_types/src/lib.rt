@@ -1,4 +1,4 @@
-// The named-type section: each named type's methods, whose names are new one by one.
+// The named-type section: each named type's methods; a method's name is compared right after its record.
 // Ports what Module::deserialize of serialize.rs reads into NamedTypeMeta and MethodInfo of bytecode.rs.
 ghost use Rattle.vob24.specs.Settings.{settingsOf};
 ghost use Rattle.reader.specs.Contract.{Ready, ReadyAt, Reader};
@@ -12,7 +12,7 @@ use reader::Step;
 use reader::sizes;
 use vob24::Settings;
 
-pub fn method(s: &[u8], r: Step, tape: &mut [u32]) -> Step
+fn method(s: &[u8], r: Step, tape: &mut [u32]) -> Step
     requires { ⌜ Ready (now s) r ⌝ }
     ensures { λ q. ⌜ Reader namedMethod (now (s .entry)) r (now (tape .entry)) q (now (tape .exit)) ⌝ }
 {
@@ -24,12 +24,12 @@ pub fn method(s: &[u8], r: Step, tape: &mut [u32]) -> Step
 }
 
 // How many methods were read, and the answer past them.
-pub struct Run {
+struct Run {
     pub count: usize,
     pub step: Step,
 }
 
-// Up to n methods, one after the other. Method `first` is compared with those before it, once its whole record was read, and ends the run.
+// Reads up to n methods; after method `first` asks whether its name is a repeat, and stops.
 fn read_methods(s: &[u8], d: Cursor, n: usize, first: usize, tape: &mut [u32]) -> Run
     requires { ⌜ ReadyAt (now s) d ⌝ }
     ensures { λ q. ⌜ MethodsRead (now (s .entry)) d n first (now (tape .entry)) (q .count) (q .step) (now (tape .exit)) ⌝ }
@@ -58,9 +58,9 @@ fn read_methods(s: &[u8], d: Cursor, n: usize, first: usize, tape: &mut [u32]) -
     }
 }
 
-// The methods are read, and then, in a first pass, the first repeat among those that were read is looked for; it is judged where it comes, by
-// a second run.
-pub fn methods(s: &[u8], set: &Settings, r: Step, again: bool, tape: &mut [u32]) -> Step
+// Reads all methods, then, in a first pass, looks for the first repeat; if there is one, reads again up to it, so that the refusal shows that
+// method's place and budget.
+fn methods(s: &[u8], set: &Settings, r: Step, again: bool, tape: &mut [u32]) -> Step
     requires { ⌜ (Ready (now s) r) × (Accepted again (namedMethods (settingsOf (now set))) (now s) r) ⌝ }
     ensures { λ q. ⌜ Reader (namedMethods (settingsOf (now (set .entry)))) (now (s .entry)) r (now (tape .entry)) q (now (tape .exit)) ⌝ }
 {
@@ -89,7 +89,7 @@ pub fn methods(s: &[u8], set: &Settings, r: Step, again: bool, tape: &mut [u32])
     judged.step
 }
 
-pub fn named_type(s: &[u8], set: &Settings, r: Step, again: bool, tape: &mut [u32]) -> Step
+fn named_type(s: &[u8], set: &Settings, r: Step, again: bool, tape: &mut [u32]) -> Step
     requires { ⌜ (Ready (now s) r) × (Accepted again (namedFormat (settingsOf (now set))) (now s) r) ⌝ }
     ensures { λ q. ⌜ Reader (namedFormat (settingsOf (now (set .entry)))) (now (s .entry)) r (now (tape .entry)) q (now (tape .exit)) ⌝ }
 {

@@ -1,4 +1,4 @@
-// Leaves that hold a number to a rule, packed numbers, and the file's marks.
+// Leaves that judge a number by a rule, packed numbers, and the file's marks.
 // Ports the methods of `impl ByteReader` in serialize.rs that judge what they read.
 ghost use Rattle.format.specs.Format.{Leaf, Width};
 ghost use Rattle.vob24.specs.Leaves.{atMost, atMostBare, packedWord, magicMark, versionMark};
@@ -10,7 +10,7 @@ use reader::Number;
 use reader::Step;
 use reader::numbers;
 
-// ---- numbers held to a rule
+// ---- numbers judged by a rule
 
 // A byte at most `most`, else `number` with the byte.
 pub fn read_small(s: &[u8], c: Cursor, most: u64, number: u64) -> Number
@@ -63,7 +63,7 @@ pub fn read_metadata_tag(s: &[u8], c: Cursor) -> Number
     Number::Got(n, d)
 }
 
-// A packed word: its kind, else 9; then its id, else `invalid`.
+// A packed word: a kind in the low byte, else 9; then an id above it, else `invalid`.
 pub fn read_packed_word(s: &[u8], c: Cursor, invalid: u64) -> Number
     requires { ⌜ ReadyAt (now s) c ⌝ }
     ensures { λ q. ⌜ Answers (Leaf.fixed Width.word (packedWord invalid)) (now (s .entry)) c q ⌝ }

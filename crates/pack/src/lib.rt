@@ -12,9 +12,9 @@ use vob24::Section;
 use vob24::Settings;
 
 // The Rust's own, under which the lookup reads.
-const STARTING_BUDGET: u64 = 536_870_912;
+pub const STARTING_BUDGET: u64 = 536_870_912;
 
-// A pack of at most so many bytes is read over a tape of the call's own, which has so many words.
+// A pack of at most SMALL bytes is read once, into a local tape of OWN words that is then copied.
 const SMALL: usize = 128;
 
 const OWN: usize = 64;

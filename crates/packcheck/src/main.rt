@@ -6,8 +6,6 @@ use libc::STDOUT_FILENO;
 ghost use Prim.Native.Nat.{_≤_};
 ghost use lib.ListN.{length};
 
-const BUDGET: u64 = 536_870_912;
-
 struct Moved {
     bytes: usize,
     failed: bool,
@@ -110,7 +108,7 @@ fn print(answer: Answer) {
 
 fn check(pack: &[u8]) {
     let mut tape = [0; 16384];
-    print(pack::read(pack, BUDGET, &mut tape));
+    print(pack::read(pack, pack::STARTING_BUDGET, &mut tape));
 }
 
 fn main() {

@@ -1,5 +1,5 @@
 // A place and a budget that the lent section call advances, and where an answer moves them.
-// The Rust's ByteReader advances its pos and allocation_remaining so.
+// The Rust's ByteReader does the same with pos and allocation_remaining.
 ghost use Rattle.position.specs.Moving.{Fits, Moves};
 use calls::Answer;
 

@@ -181,9 +181,6 @@ module _ {s : List ℕ} {c : Cursor} {q : Number} {t t₁ : List ℕ} where
   pub long-lost : {of : Value → ℕ} {x : Refusal} → q ≡ Not x → Fetches 8 s c q → NumberOf (leaf (fixed long free)) of s c t q t₁
   long-lost e h = number-lost e (fixed-short e h)
 
-  pub long-field-lost : {x : Refusal} {p : Step} → q ≡ Not x → p ≡ stepOf q → Fetches 8 s c q → Reader (leaf (fixed long free)) s (Taken c) t p t₁
-  long-field-lost e i h = field-lost e i (fixed-short e h)
-
   pub option-lost : {of : Value → ℕ} {x : Refusal} → q ≡ Not x → Fetches 4 s c q → NumberOf (leaf (fixed option free)) of s c t q t₁
   option-lost e h = number-lost e (fixed-short e h)
 
@@ -193,9 +190,6 @@ module _ {s : List ℕ} {c : Cursor} {q : Number} {t t₁ : List ℕ} where
   module _ {n : ℕ} {d g : Cursor} (r : ReadyAt s c) (e : q ≡ Got n d) where
     pub long-kept : Fetches 8 s c q → KeptPair d (n % 4294967296) (n / 4294967296) t g t₁ → NumberOf (leaf (fixed long free)) number s c t (Got n g) t₁
     long-kept h k = takesNumber r (fixed-pair long (fetched e h) refl k)
-
-    pub long-field-kept : Fetches 8 s c q → KeptPair d (n % 4294967296) (n / 4294967296) t g t₁ → Reader (leaf (fixed long free)) s (Taken c) t (Taken g) t₁
-    long-field-kept h k = takesReader r (fixed-pair long (fetched e h) refl k)
 
     pub option-absent : n ≡ 0 → Fetches 4 s c q → KeptPair d 0 0 t g t₁ → NumberOf (leaf (fixed option free)) number s c t (Got n g) t₁
     option-absent i h k = takesNumber r (fixed-pair option (fetched e h) (option-none n i) k)
@@ -248,12 +242,6 @@ module _ {l : Leaf} {s : List ℕ} {c : Cursor} {q : Payload} where
   payload-wordy r e h = span-wordy r (spans-got e h)
 
   module _ {t t₁ : List ℕ} where
-    pub span-lost : {x : Refusal} → q ≡ Payload.Not x → Spans l s c q → SpanOf (leaf l) s c t q t₁
-    span-lost e h = let a = denied-refuses (spans-not e h) in rw e (refusesSpan a)
-
-    pub span-kept : {p n : ℕ} {d g : Cursor} → ReadyAt s c → q ≡ Payload.Got p n d → Spans l s c q → TwoWords l → KeptPair d p n t g t₁ → SpanOf (leaf l) s c t (Payload.Got p n g) t₁
-    span-kept r e h o k = let a = spans-got e h in takesSpan r (a .room) (span-takes o a k)
-
     pub payload-lost : {x : Refusal} {r : Step} → q ≡ Payload.Not x → r ≡ payloadStep q → Spans l s c q → Reader (leaf l) s (Taken c) t r t₁
     payload-lost e i h = let a = denied-refuses (spans-not e h) in rw (i, e) (refusesReader a)
 
@@ -295,4 +283,4 @@ unfolding trace words wordsLeaf
 mark-read r (marked {d} e i) = takesReader {v = none} {d = d} r (record { settles = e; moves = i ∙ omega arith; writes = refl })
 mark-read r (unmarked h) = refusesReader (denied-refuses h)
 
-pub ruleset keeping = (narrow-byte, narrow-half, narrow-word, one-fixed, one-packed, one-count, wordy, number-lost, number-kept, field-lost, field-kept, fetches-answers, wordy1, wordy2, wordy4, wordy8, wordy-absent, wordy-id, long-lost, long-field-lost, option-lost, option-field-lost, long-kept, long-field-kept, option-absent, option-id, option-field-absent, option-field-id, two-string, two-payload, payload-wordy, span-lost, span-kept, payload-lost, payload-kept, text-wordy, text-span-lost, text-span-kept, text-lost, text-kept, mark-read)
+pub ruleset keeping = (narrow-byte, narrow-half, narrow-word, one-fixed, one-packed, one-count, wordy, number-lost, number-kept, field-lost, field-kept, fetches-answers, wordy1, wordy2, wordy4, wordy8, wordy-absent, wordy-id, long-lost, option-lost, option-field-lost, long-kept, option-absent, option-id, option-field-absent, option-field-id, two-string, two-payload, payload-wordy, payload-lost, payload-kept, text-wordy, text-span-lost, text-span-kept, text-lost, text-kept, mark-read)

@@ -15,7 +15,7 @@ ghost use Rattle.reader.specs.Leaves.{Fetches, FetchesSigned, FetchesFlo
 pub mod numbers;
 pub mod sizes;
 
-// Where a reading stands: the place in the pack, the budget left, and the words counted so far.
+// Place in the pack, budget left, and words counted so far.
 pub struct Cursor {
     pub place: usize,
     pub left: u64,
@@ -31,7 +31,7 @@ pub struct Refusal {
     pub left: u64,
 }
 
-// The answer so far, which readers hand on.
+// The answer so far: a reader takes it and returns the next.
 pub enum Step {
     Taken(Cursor),
     Refused(Refusal),
@@ -66,7 +66,7 @@ pub enum Text {
     Not(Refusal),
 }
 
-// A leaf's refusal, passed up.
+// An answer without its number, as `stepOf`: of a refused one it is the refusal.
 pub fn step_of(q: Number) -> Step
     ensures { λ r. ⌜ r ≡ stepOf q ⌝ }
 {
@@ -112,7 +112,7 @@ pub fn float_step(q: Float) -> Step
     }
 }
 
-// The refusal of a leaf's first part, as the leaf's own answer.
+// The refusal of a leaf's first part as the leaf's own answer. The first arm is never run.
 fn signed_refusal(q: Number) -> Signed
     ensures { λ r. ⌜ signedStep r ≡ stepOf q ⌝ }
 {
@@ -141,7 +141,7 @@ pub fn text_span(q: Text) -> Payload
     }
 }
 
-// An answer, with the number that it is for.
+// The answer with this number, as `numberOf`.
 pub fn number_of(n: u64, r: Step) -> Number
     ensures { λ q. ⌜ q ≡ numberOf n r ⌝ }
 {
@@ -151,13 +151,13 @@ pub fn number_of(n: u64, r: Step) -> Number
     }
 }
 
-// A list that was read: the place of its first entry in the pack, and how many entries it has.
+// A list that was read: the place of its first entry in the pack, and its count.
 pub struct ListAt {
     pub start: usize,
     pub count: usize,
 }
 
-// The list of n entries whose count stands at the cursor.
+// The list of n entries whose count is at the cursor.
 pub fn list_at(s: &[u8], c: Cursor, n: u64) -> ListAt
     requires { ⌜ ReadyAt (now s) c ⌝ }
     ensures { λ q. ⌜ q ≡ record { start = c .place + 4; count = n } ⌝ }
@@ -337,7 +337,7 @@ pub fn read_u64(s: &[u8], c: Cursor) -> Number
 }
 
 // The i64 with these bits.
-pub fn i64_of(n: u64) -> i64
+fn i64_of(n: u64) -> i64
     ensures { λ i. ⌜ i ≡ toZ w64 n ⌝ }
 {
     if n < 0x8000_0000_0000_0000 {
@@ -347,8 +347,8 @@ pub fn i64_of(n: u64) -> i64
     }
 }
 
-// The f64 with these bits; there is one NaN.
-pub fn f64_of(n: u64) -> f64
+// The f64 with these bits. The logic has one NaN, so every NaN's bits give 0.0 / 0.0 (docs/DIFFERENCES.md).
+fn f64_of(n: u64) -> f64
     ensures { λ y. ⌜ y ≡ ofBits binary64 n ⌝ }
 {
     if 0x7ff0_0000_0000_0000 < n % 0x8000_0000_0000_0000 {

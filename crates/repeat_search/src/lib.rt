@@ -13,26 +13,26 @@ ghost use Rattle.repeat_search.specs.Tables.{keysAt, ExemptIs, MarkIs, T
 ghost use Rattle.in_place.specs.Contract.{TextAt, Placed, Items};
 use in_place::Table;
 
-// Fewer items are told apart by one word of marks.
+// Below this many items: one word of marks.
 const FEW: usize = 24;
 
-// Fewer have a small filter.
+// Below this many: a small filter.
 const MIDDLING: usize = 1024;
 
-// Fewer have a large filter, of which each word then has 1.5 items; from here on suspects are looked for first.
+// Below this many: a large filter, of which each word then has 1.5 items; from here on suspects are looked for first.
 const MANY: usize = 24576;
 
-// The suspects of so many items are looked for at once: twelve to a word of the filter.
+// How many items are searched for suspects at once: twelve to a word of the filter.
 const CLASS: usize = 196608;
 
-// An item repeats one before it; too many were compared in vain; or go on, with so many comparisons left.
+// An item repeats one before it; too many comparisons found no repeat; or go on, with the comparisons that are left.
 enum Probe {
     Repeat,
     TooMany,
     Next(usize),
 }
 
-// The first repeat, or the number of items where there is none; or too many were compared in vain.
+// The first repeat, or the number of items where there is none; or too many comparisons found no repeat.
 enum Outcome {
     First(usize),
     GaveUp,
@@ -58,7 +58,7 @@ fn wide(b: u8) -> u64
     b as u64
 }
 
-// A bit for the text at p, by its length and its last byte; that of an empty text is the length's.
+// A bit for the text at p, by its length and its last byte. For an empty text the last byte is that of its length word.
 fn mark(s: &[u8], p: usize) -> u64
     requires { ⌜ TextAt (now s) p ⌝ }
     ensures { λ q. ⌜ MarkIs (now (s .entry)) p q ⌝ }
@@ -82,7 +82,7 @@ fn repeats_one(s: &[u8], table: Table, from: usize, i: usize, p: usize, marks: u
     in_place::seen(s, table, from, i, p)
 }
 
-// Have the n items from `from` on different marks? Most tables of a few have.
+// Have the n items from `from` on different marks? True for most small tables.
 fn all_new(s: &[u8], table: Table, from: usize, n: usize) -> bool
     requires { ⌜ Items (formatIn table) n (now s) from ⌝ }
     ensures { λ q. ⌜ AllNew (keysAt table (now (s .entry)) from) n q ⌝ }
@@ -170,7 +170,7 @@ fn second_seed(seed: u64) -> u64
     (seed + 2773480762) % 4294967296
 }
 
-// The two lanes taken on over the eight bytes at p and the eight before end, and joined.
+// Extends the two lanes by the eight bytes at p and the eight before end, and joins them.
 fn join(s: &[u8], p: usize, end: usize, seed: u64, lane1: u64, lane2: u64) -> u64
     requires { ⌜ (p + 8 ≤ end) × (end ≤ length (now s)) × (seed < 4294967296) ⌝ }
     ensures { λ q. ⌜ JoinIs seed lane1 lane2 (now (s .entry)) p end q ⌝ }
@@ -206,7 +206,7 @@ fn hash_long(s: &[u8], start: usize, len: usize, seed: u64, h: u64) -> u64
     join(s, end - 16, end, seed, lane1, lane2)
 }
 
-// The hash h taken on over the len bytes at start.
+// Extends the hash h by the len bytes at start.
 fn hash_bytes(s: &[u8], start: usize, len: usize, seed: u64, h: u64) -> u64
     requires { ⌜ PartAt seed (now s) start len ⌝ }
     ensures { λ q. ⌜ HashIs seed h (part (now (s .entry)) start len) q ⌝ }
@@ -220,8 +220,8 @@ fn hash_bytes(s: &[u8], start: usize, len: usize, seed: u64, h: u64) -> u64
     join(s, start, start + len, seed, h, h)
 }
 
-// The hash h taken on over the text at p. Its length goes in first, times the seed: or a name and a package would have the hash of each other
-// split of their bytes, and two lanes that start from what is known could be made to cancel out under every seed.
+// Extends the hash h by the text at p. Its length goes in first, times the seed: else ("a", "bc") and ("ab", "c") collide, and two lanes that
+// start from known values could be made to cancel out under every seed.
 fn hash_text(s: &[u8], p: usize, seed: u64, h: u64) -> u64
     requires { ⌜ (TextAt (now s) p) × (seed < 4294967296) ⌝ }
     ensures { λ q. ⌜ TextHash seed h (now (s .entry)) p q ⌝ }
@@ -277,7 +277,7 @@ fn lacks(filter: &[u64], h: u64) -> bool
     x != m
 }
 
-// Enters h, and tells whether some of its bits were not there before.
+// Enters h; true where some of its bits were not there before.
 fn enter(filter: &mut [u64], h: u64) -> bool
     requires { ⌜ 0 < length (now filter) ⌝ }
     ensures { λ q. ⌜ Entered (now (filter .entry)) h (now (filter .exit)) q ⌝ }
@@ -294,7 +294,7 @@ fn enter(filter: &mut [u64], h: u64) -> bool
 fn outside(h: u64, lo: u64, hi: u64) -> bool
     ensures { λ q. ⌜ Outside lo hi h q ⌝ }
 {
-    // Of the lower half, which is even: the upper half stays below the seed.
+    // From the low 32 bits, which are evenly distributed; the high 32 are always below the seed.
     let class = h / 65536 % 65536;
     if class < lo {
         return true;
@@ -304,8 +304,8 @@ fn outside(h: u64, lo: u64, hi: u64) -> bool
 
 // ---- a pass over the items
 
-// Does the item at p repeat one of the i before it? Asked where its class is from lo to hi and it is a suspect. At most `left` items are still
-// to be compared with all before them in vain.
+// Does the item at p repeat one of the i before it? Considers only suspects of class lo to hi. `left`: how many comparisons without a repeat
+// this pass still tolerates.
 fn probed(
     s: &[u8],
     table: Table,
@@ -498,8 +498,7 @@ fn past_items(s: &[u8], table: Table, from: usize, n: usize) -> usize
     p
 }
 
-// A seed that depends on every byte of the table, by a hash under a seed that no filter takes: names can't be made to collide under it
-// without changing it.
+// The next seed is a hash of the whole table, under a seed that no filter uses: names that collide under it cannot be chosen without changing it.
 fn fresh_seed(s: &[u8], table: Table, from: usize, n: usize, seed: u64) -> u64
     requires { ⌜ (Items (formatIn table) n (now s) from) × (seed < 4294967296) ⌝ }
     ensures { λ q. ⌜ q < 4294967296 ⌝ }
@@ -512,8 +511,8 @@ fn fresh_seed(s: &[u8], table: Table, from: usize, n: usize, seed: u64) -> u64
     2147483649 + h / 65536 % 1073741824 * 2
 }
 
-// The first repeat, with a large filter or a small one. Names that were made to have the same hash under one seed are told apart under the
-// next. The first seed stands apart: a function that is called twice is not merged into this one, and the large filter's frame stays out of it.
+// The first repeat, with a large filter or a small one. Names that were made to collide under one seed do not collide
+// under the next. `many` is called at two places so that the compiler does not inline it: its large frame must stay out of this one.
 fn searched(s: &[u8], table: Table, from: usize, n: usize, large: bool) -> usize
     requires { ⌜ Items (formatIn table) n (now s) from ⌝ }
     ensures { λ q. ⌜ FirstRepeat (keysAt table (now (s .entry)) from) n q ⌝ }

@@ -1,5 +1,5 @@
-// The members of runtime types: the fields of a struct, each with an identity of its own, and the methods of an interface,
-// each with a name of its own.
+// The members of runtime types: the fields of a struct, no two with the same identity, and the methods of an interface, no two
+// with the same name.
 // Ports StructField and InterfaceMethod of runtime_type.rs and their reading by read_runtime_type of serialize.rs.
 ghost use Rattle.vob24.specs.Settings.{settingsOf};
 ghost use Rattle.format.specs.Format.{counted};
@@ -48,7 +48,7 @@ fn number_fields(s: &[u8], set: &Settings, c: Cursor, tape: &mut [u32]) -> Numbe
     reader::number_of(n, here)
 }
 
-// A struct's fields, each with an identity of its own; hands out how many they are.
+// A struct's fields, no two with the same identity. Also returns their count.
 pub fn number_new_fields(
     s: &[u8],
     set: &Settings,
@@ -100,7 +100,7 @@ fn number_methods(s: &[u8], set: &Settings, c: Cursor, tape: &mut [u32]) -> Numb
     reader::number_of(n, here)
 }
 
-// An interface's methods, each with a name of its own; hands out how many they are.
+// An interface's methods, no two with the same name. Also returns their count.
 pub fn number_new_methods(
     s: &[u8],
     set: &Settings,

@@ -43,7 +43,7 @@ pub enum RuntimeType {
 }
 
 // A runtime type and its lists in file order: a function's parameters and results, a struct's fields, an interface's methods,
-// a tuple's types. A list that it has not is empty.
+// a tuple's types. Absent lists are empty.
 pub struct RuntimeTypeRecord {
     pub kind: RuntimeType,
     pub first: ListAt,
@@ -55,7 +55,7 @@ pub enum RuntimeTypeRead {
     Not(Refusal),
 }
 
-// A list of rttids; hands out how many they are.
+// A list of rttids. Also returns its count.
 fn number_rttids(s: &[u8], set: &Settings, c: Cursor, tape: &mut [u32]) -> Number
     requires { ⌜ ReadyAt (now s) c ⌝ }
     ensures { λ q. ⌜ NumberOf (rttidList (settingsOf (now (set .entry)))) counted (now (s .entry)) c (now (tape .entry)) q (now (tape .exit)) ⌝ }
@@ -99,7 +99,7 @@ fn bare(kind: RuntimeType) -> RuntimeTypeRecord
     }
 }
 
-// A part that was not got: its refusal.
+// A field's refusal as this reader's answer. The first arm is never run.
 fn type_refusal(q: Number) -> RuntimeTypeRead
     ensures { λ r. ⌜ typeStep r ≡ stepOf q ⌝ }
 {
@@ -340,7 +340,7 @@ fn port(s: &[u8], c: Cursor, tape: &mut [u32]) -> RuntimeTypeRead
 
 // ---- the section
 
-// The tag, and what it stands for; the last arm is 12, as number_runtime_tag refuses all others.
+// The tag, and the type that it announces; the last arm is 12, as number_runtime_tag refuses all others.
 pub fn runtime_type(
     s: &[u8],
     set: &Settings,

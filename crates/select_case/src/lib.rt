@@ -1,5 +1,5 @@
-// The cases of a select, which stand in an instruction's metadata.
-// Ports SelectCaseLayout of bytecode.rs and its reading in serialize.rs, read_instruction_metadata.
+// The cases of a select, which are the list of their metadata's record (crate metadata, SelectExecLayout).
+// Ports SelectCaseLayout of bytecode.rs and its reading in serialize.rs, read_instruction_metadata_for_version.
 ghost use Rattle.vob24.specs.Settings.{settingsOf};
 ghost use mathlib.Core.Path.{_≡_};
 ghost use Rattle.format.specs.Format.{counted};
@@ -31,7 +31,7 @@ pub enum SelectCaseRead {
     Not(Refusal),
 }
 
-// A part that was not got: its refusal.
+// A field's refusal as this reader's answer. The first arm is never run.
 fn select_refusal(q: Number) -> SelectCaseRead
     ensures { λ r. ⌜ selectStep r ≡ stepOf q ⌝ }
 {
@@ -121,7 +121,7 @@ pub fn select_case(s: &[u8], c: Cursor, tape: &mut [u32]) -> SelectCaseRead
     recv(s, d, tape)
 }
 
-// An item's refusal, passed up.
+// An item's refusal as the list's answer. The first arm is never run.
 fn number_refusal(q: SelectCaseRead) -> Number
     ensures { λ r. ⌜ stepOf r ≡ selectStep q ⌝ }
 {
@@ -131,7 +131,7 @@ fn number_refusal(q: SelectCaseRead) -> Number
     }
 }
 
-// Hands out how many they are.
+// Also returns the count.
 pub fn number_select_cases(s: &[u8], set: &Settings, c: Cursor, tape: &mut [u32]) -> Number
     requires { ⌜ ReadyAt (now s) c ⌝ }
     ensures { λ q. ⌜ NumberOf (selectList (settingsOf (now (set .entry)))) counted (now (s .entry)) c (now (tape .entry)) q (now (tape .exit)) ⌝ }

@@ -1,7 +1,7 @@
-// A list of slot types, which stands in many records: structs, globals, functions, instructions' metadata.
+// A list of slot types, which many records have: structs, globals, functions, instructions' metadata.
 // Ports `read_vec(read_slot_type)` of serialize.rs.
 // Most lists have one item or two: a list of at most four is tested whole, and then kept, without a loop. Where a test fails, nothing is
-// kept yet, and the list is read as any other, so that a refusal is made in one place.
+// kept yet, and the answer is that of `number_any`, which reads any list and makes every refusal.
 ghost use Rattle.format.specs.Format.{counted};
 ghost use Rattle.vob24.specs.Settings.{settingsOf};
 ghost use Rattle.vob24.specs.Grammar.{slotTypes};
@@ -29,7 +29,7 @@ fn number_any(s: &[u8], set: &Settings, c: Cursor, tape: &mut [u32]) -> Number
     Number::Got(n, e)
 }
 
-// How many slot types the list at `place` has, where they are one to four, all good: then their words are kept. 0 of any other list.
+// Keeps the words of a list of one to four valid slot types at `place`, and returns its count; 0 for any other list.
 fn short(s: &[u8], place: usize, at: usize, tape: &mut [u32]) -> usize
     requires { ⌜ ReadyAt (now s) (cursorAt place 0 at) ⌝ }
     ensures { λ n. ⌜ Keeps (now (s .entry)) place at (now (tape .entry)) n (now (tape .exit)) ⌝ }
@@ -83,8 +83,8 @@ fn short(s: &[u8], place: usize, at: usize, tape: &mut [u32]) -> usize
     0
 }
 
-// Hands out how many they are. Where four can be paid, the quick way asks nothing of the budget. `number_any` is called with copies: what is
-// lent to it, or is its answer, stands in memory and not in registers, also where it is not called.
+// Also returns the count. Where four can be paid, the short way asks nothing of the budget. `number_any` gets copies: a value whose address
+// escapes is spilled on the short way too.
 pub fn number_slot_types(s: &[u8], set: &Settings, c: Cursor, tape: &mut [u32]) -> Number
     requires { ⌜ ReadyAt (now s) c ⌝ }
     ensures { λ q. ⌜ NumberOf (slotTypes (settingsOf (now (set .entry)))) counted (now (s .entry)) c (now (tape .entry)) q (now (tape .exit)) ⌝ }
@@ -112,8 +112,8 @@ pub fn number_slot_types(s: &[u8], set: &Settings, c: Cursor, tape: &mut [u32]) 
     any
 }
 
-// The quick way stands here a second time: of a function that is called at one place only the compiler makes a part of its caller, which
-// then is too long to be made a part of its own callers.
+// The short way is here a second time: with `number_any` called at one place only, the compiler would inline it there, and the caller would
+// be too long to be inlined itself.
 pub fn slot_types(s: &[u8], set: &Settings, r: Step, tape: &mut [u32]) -> Step
     requires { ⌜ Ready (now s) r ⌝ }
     ensures { λ q. ⌜ Reader (slotTypes (settingsOf (now (set .entry)))) (now (s .entry)) r (now (tape .entry)) q (now (tape .exit)) ⌝ }

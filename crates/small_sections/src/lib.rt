@@ -10,7 +10,7 @@ use reader::Step;
 use reader::sizes;
 use vob24::Settings;
 
-pub fn itab_methods(s: &[u8], set: &Settings, r: Step, tape: &mut [u32]) -> Step
+fn itab_methods(s: &[u8], set: &Settings, r: Step, tape: &mut [u32]) -> Step
     requires { ⌜ Ready (now s) r ⌝ }
     ensures { λ q. ⌜ Reader (itabMethods (settingsOf (now (set .entry)))) (now (s .entry)) r (now (tape .entry)) q (now (tape .exit)) ⌝ }
 {
@@ -24,7 +24,7 @@ pub fn itab_methods(s: &[u8], set: &Settings, r: Step, tape: &mut [u32]) -> Step
     lists::u32s(s, d, n, tape)
 }
 
-pub fn itab(s: &[u8], set: &Settings, r: Step, tape: &mut [u32]) -> Step
+fn itab(s: &[u8], set: &Settings, r: Step, tape: &mut [u32]) -> Step
     requires { ⌜ Ready (now s) r ⌝ }
     ensures { λ q. ⌜ Reader (itabFormat (settingsOf (now (set .entry)))) (now (s .entry)) r (now (tape .entry)) q (now (tape .exit)) ⌝ }
 {
@@ -77,7 +77,7 @@ fn error_field_offsets(s: &[u8], r: Step, tape: &mut [u32]) -> Step
     fields::field_u16(s, first, tape)
 }
 
-pub fn error_types(s: &[u8], r: Step, tape: &mut [u32]) -> Step
+fn error_types(s: &[u8], r: Step, tape: &mut [u32]) -> Step
     requires { ⌜ Ready (now s) r ⌝ }
     ensures { λ q. ⌜ Reader errorFormat (now (s .entry)) r (now (tape .entry)) q (now (tape .exit)) ⌝ }
 {
@@ -88,7 +88,7 @@ pub fn error_types(s: &[u8], r: Step, tape: &mut [u32]) -> Step
     error_field_offsets(s, error_struct_meta_id, tape)
 }
 
-pub fn object_interfaces(s: &[u8], r: Step, tape: &mut [u32]) -> Step
+fn object_interfaces(s: &[u8], r: Step, tape: &mut [u32]) -> Step
     requires { ⌜ Ready (now s) r ⌝ }
     ensures { λ q. ⌜ Reader objectFormat (now (s .entry)) r (now (tape .entry)) q (now (tape .exit)) ⌝ }
 {
@@ -109,7 +109,7 @@ pub fn well_known(s: &[u8], r: Step, tape: &mut [u32]) -> Step
 
 // ---- globals, externs and single ids
 
-pub fn global(s: &[u8], set: &Settings, r: Step, tape: &mut [u32]) -> Step
+fn global(s: &[u8], set: &Settings, r: Step, tape: &mut [u32]) -> Step
     requires { ⌜ Ready (now s) r ⌝ }
     ensures { λ q. ⌜ Reader (globalFormat (settingsOf (now (set .entry)))) (now (s .entry)) r (now (tape .entry)) q (now (tape .exit)) ⌝ }
 {
@@ -167,7 +167,7 @@ pub fn island_init(s: &[u8], r: Step, tape: &mut [u32]) -> Step
 
 // ---- artifacts
 
-pub fn artifact(s: &[u8], set: &Settings, r: Step, tape: &mut [u32]) -> Step
+fn artifact(s: &[u8], set: &Settings, r: Step, tape: &mut [u32]) -> Step
     requires { ⌜ Ready (now s) r ⌝ }
     ensures { λ q. ⌜ Reader (artifactFormat (settingsOf (now (set .entry)))) (now (s .entry)) r (now (tape .entry)) q (now (tape .exit)) ⌝ }
 {

@@ -105,7 +105,7 @@ fn fetch(fd: i32, buf: &mut [u8], n: u64) -> bool {
     io::read_full(fd, &mut buf[0..n]) == n
 }
 
-// Whether a header's numbers can be. How many bytes follow the header is tested where they are read.
+// Are the header's numbers consistent? How many bytes follow the header is tested where they are read.
 fn is_sound(h: &[u8], pack: &[u8], tape: &[u32]) -> bool {
     let section = number(h, SECTION);
     let length = number(h, LENGTH);

@@ -9,7 +9,7 @@ use reader::Step;
 use reader::sizes;
 use vob24::Settings;
 
-pub fn struct_field(s: &[u8], r: Step, tape: &mut [u32]) -> Step
+fn struct_field(s: &[u8], r: Step, tape: &mut [u32]) -> Step
     requires { ⌜ Ready (now s) r ⌝ }
     ensures { λ q. ⌜ Reader fieldFormat (now (s .entry)) r (now (tape .entry)) q (now (tape .exit)) ⌝ }
 {
@@ -21,7 +21,7 @@ pub fn struct_field(s: &[u8], r: Step, tape: &mut [u32]) -> Step
     fields::field_optional_str(s, embedded, tape)
 }
 
-pub fn struct_fields(s: &[u8], set: &Settings, r: Step, tape: &mut [u32]) -> Step
+fn struct_fields(s: &[u8], set: &Settings, r: Step, tape: &mut [u32]) -> Step
     requires { ⌜ Ready (now s) r ⌝ }
     ensures { λ q. ⌜ Reader (fieldList (settingsOf (now (set .entry)))) (now (s .entry)) r (now (tape .entry)) q (now (tape .exit)) ⌝ }
 {
@@ -44,8 +44,8 @@ pub fn struct_fields(s: &[u8], set: &Settings, r: Step, tape: &mut [u32]) -> Ste
     here
 }
 
-// The field index is built after the whole list, from where the list stands.
-pub fn structure(s: &[u8], set: &Settings, r: Step, again: bool, tape: &mut [u32]) -> Step
+// The field index is built after the whole list, from the list's place in the pack.
+fn structure(s: &[u8], set: &Settings, r: Step, again: bool, tape: &mut [u32]) -> Step
     requires { ⌜ (Ready (now s) r) × (Accepted again (structFormat (settingsOf (now set))) (now s) r) ⌝ }
     ensures { λ q. ⌜ Reader (structFormat (settingsOf (now (set .entry)))) (now (s .entry)) r (now (tape .entry)) q (now (tape .exit)) ⌝ }
 {

@@ -112,7 +112,7 @@ fn judged(s: &[u8], table: Table, from: usize, n: usize, first: usize, c: Cursor
     Step::Taken(here)
 }
 
-// The questions on n items whose keys cost so much in all, item `first` being the first that repeats another: at once where there is none
+// The questions on n items whose keys cost `cost` in all, item `first` being the first that repeats another: at once where there is none
 // and all can be paid.
 fn settled(
     s: &[u8],

@@ -10,7 +10,7 @@ ghost use Rattle.vob24.specs.Utf8 as Utf8;
 ghost use Rattle.utf8.specs.Answers.{nextOf, scanOf, Ascii, Both, Scans, Tries, TriesAt};
 ghost use Rattle.utf8.specs.Parts.{Flipped, Pair, Near, Stands, Starts, isTrailing, Most, Tests, PartOf};
 
-// What may come after a byte: so many more of its sequence, the next of them from lo to hi.
+// What may come after a byte: how many more of its sequence, and the next of them from lo to hi.
 enum Next {
     Bad,
     Want { more: u8, lo: u8, hi: u8 },
@@ -21,13 +21,13 @@ pub enum Scanned {
     Characters(usize),
 }
 
-// Whole characters up to a place, and how many they are.
+// Whole characters up to a place, and their count.
 enum Upto {
     IllFormed,
     At { place: usize, characters: usize },
 }
 
-// What the faster test says: well-formed with so many characters, or nothing.
+// What the faster test says: well-formed, with the number of characters, or nothing.
 pub enum Tried {
     Unknown,
     Characters(usize),
@@ -200,7 +200,7 @@ fn pair(c1: u8, b: u8) -> u8
     only(b / 2, 0x60, 255) | only(c1, 0xe0, 255 - x) | only(c1, 0xed, x)
 }
 
-// Below 128 where b stands as it should after the bytes before it, if none of them is above DF.
+// Below 128 where b may follow the bytes before it, if none of them is above DF.
 fn wrong_two(c1: u8, b: u8) -> u8
     ensures { λ q. ⌜ (q < 128 → (c3 c2 : ℕ) → c3 < 0xe0 → c2 < 0xe0 → c1 < 0xe0 → Near c3 c2 c1 b) ⌝ }
 {
@@ -235,7 +235,7 @@ fn wrong(c3: u8, c2: u8, c1: u8, b: u8) -> u8
 // A multiple of 16, and so few that a u8 can count the trailing bytes.
 const PART: usize = 240;
 
-// What was found of `width` bytes: `wrong` is below 128 where each stands as it should; `trailing` counts the trailing bytes.
+// What was found of `width` bytes: `wrong` is below 128 where each may follow those before it; `trailing` counts the trailing bytes.
 struct Part {
     width: usize,
     wrong: u8,
@@ -527,7 +527,7 @@ pub fn try_short(s: &[u8], start: usize, size: usize) -> Tried
     Tried::Characters(size - p.trailing as usize)
 }
 
-// The text of `size` bytes at start. ASCII is told in one go: a text without accents is cheapest so, and one with some loses little.
+// The text of `size` bytes at start. ASCII is tested first and whole: the cheapest for a text without accents, and one with some loses little.
 pub fn scan_at(s: &[u8], start: usize, size: usize) -> Scanned
     requires { ⌜ start + size ≤ length (now s) ⌝ }
     ensures { λ q. ⌜ scanOf q ≡ Utf8.scan (take size (drop start (now (s .entry)))) ⌝ }

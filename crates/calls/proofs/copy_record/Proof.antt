@@ -6,7 +6,7 @@ use native.Mathlib.Numerals.{add-one}
 use native.Mathlib.Omega.{arith}
 use borrow.Author.Needs.{needs}
 use lib.ListN.{length, set, getD, length-set}
-use lib.Seq.{paste, paste-zero, paste-suc}
+use lib.Seq.{paste, paste-suc}
 use Rattle.calls.proofs.copy_record.Statement.{statement}
 use Rattle.calls.proofs.copy_record.Tie as tie
 

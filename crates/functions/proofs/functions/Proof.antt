@@ -1,3 +1,4 @@
+use Rattle.reader.proofs.Leaves.{got-up}
 use Rattle.reader.proofs.Reading.{reading}
 use borrow.Author.Needs.{needs}
 use Rattle.functions.proofs.functions.Statement.{statement}
@@ -15,6 +16,12 @@ returns c = search (needs, reading)
 number-functions-requires : tie.Need-number-functions-requires
 number-functions-requires c κs = search (needs, reading)
 
+enum-known-q : tie.Need-enum-known-q
+enum-known-q c = search needs
+
+enum-told-2 : tie.Need-enum-told-2
+enum-told-2 c = search needs
+
 step-of-requires : tie.Need-step-of-requires
 step-of-requires c κs = search needs
 
@@ -24,6 +31,12 @@ same-length c = search needs
 returns-2 : tie.Need-returns-2
 returns-2 c = search (needs, reading)
 
+same-length-2 : tie.Need-same-length-2
+same-length-2 c = search needs
+
+returns-3 : tie.Need-returns-3
+returns-3 c = search (needs, reading, got-up)
+
 pub functions-spec : {M : Type 1} → statement M
 functions-spec =
     tie.close
@@ -32,6 +45,10 @@ functions-spec =
     enum-told
     returns
     number-functions-requires
+    enum-known-q
+    enum-told-2
     step-of-requires
     same-length
-    returns-2)
+    returns-2
+    same-length-2
+    returns-3)

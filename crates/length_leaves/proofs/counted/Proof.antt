@@ -21,11 +21,20 @@ mul-charge-allocation c = search (needs, leaves)
 charge-allocation-requires : tie.Need-charge-allocation-requires
 charge-allocation-requires c κs = search needs
 
+enum-known-paid : tie.Need-enum-known-paid
+enum-known-paid c = search needs
+
+enum-told : tie.Need-enum-told
+enum-told c = search needs
+
 number-of-requires : tie.Need-number-of-requires
 number-of-requires c κs = search needs
 
 returns-2 : tie.Need-returns-2
 returns-2 c = search (needs, leaves)
+
+returns-3 : tie.Need-returns-3
+returns-3 c = search (needs, leaves)
 
 pub counted-spec : {M : Type 1} → statement M
 counted-spec =
@@ -37,5 +46,8 @@ counted-spec =
     returns
     mul-charge-allocation
     charge-allocation-requires
+    enum-known-paid
+    enum-told
     number-of-requires
-    returns-2)
+    returns-2
+    returns-3)
