@@ -57,16 +57,5 @@ returns c = copied-all _ _ _ _ _ (c .before .loop .inv .0) (c .loop-test .left) 
 pub copy-record-spec : {M : Type 1} → statement M
 copy-record-spec =
     tie.close
-    (tie.spec
-    Inv-loop
-    μ-loop
-    loop-holds
-    mul-to
-    shared-slice-read-to
-    mul-to-2
-    slice-write-to
-    add-i
-    loop-less
-    loop-again
-    same-length
-    returns)
+    (tie.spec Inv-loop μ-loop loop-holds mul-to shared-slice-read-to mul-to-2 slice-write-to add-i loop-less loop-again
+    same-length returns)

@@ -70,25 +70,7 @@ returns-6 c = search (needs, reading, constants)
 pub constant-spec : {M : Type 1} → statement M
 constant-spec =
     tie.close
-    (tie.spec
-    number-constant-tag-requires
-    enum-known-q
-    enum-told
-    step-of-requires
-    constant-refusal-requires
-    same-length
-    returns
-    constant-bool-requires
-    constant-int-requires
-    constant-float-requires
-    constant-text-requires
-    same-length-2
-    returns-2
-    same-length-3
-    returns-3
-    same-length-4
-    returns-4
-    same-length-5
-    returns-5
-    same-length-6
+    (tie.spec number-constant-tag-requires enum-known-q enum-told step-of-requires constant-refusal-requires
+    same-length returns constant-bool-requires constant-int-requires constant-float-requires constant-text-requires
+    same-length-2 returns-2 same-length-3 returns-3 same-length-4 returns-4 same-length-5 returns-5 same-length-6
     returns-6)

@@ -33,13 +33,5 @@ returns-2 c = search (needs, constants)
 pub constant-bool-spec : {M : Type 1} → statement M
 constant-bool-spec =
     tie.close
-    (tie.spec
-    number-bool-requires
-    enum-known-q
-    enum-told
-    step-of-requires
-    constant-refusal-requires
-    same-length
-    returns
-    same-length-2
-    returns-2)
+    (tie.spec number-bool-requires enum-known-q enum-told step-of-requires constant-refusal-requires same-length
+    returns same-length-2 returns-2)

@@ -28,11 +28,4 @@ returns-2 c = search (needs, reading, constants)
 pub constant-field-spec : {M : Type 1} → statement M
 constant-field-spec =
     tie.close
-    (tie.spec
-    enum-known-r
-    enum-told
-    returns
-    constant-requires
-    constant-step-requires
-    same-length
-    returns-2)
+    (tie.spec enum-known-r enum-told returns constant-requires constant-step-requires same-length returns-2)

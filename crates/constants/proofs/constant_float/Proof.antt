@@ -33,13 +33,5 @@ returns-2 c = search (needs, constants)
 pub constant-float-spec : {M : Type 1} → statement M
 constant-float-spec =
     tie.close
-    (tie.spec
-    read-f64-requires
-    enum-known-q
-    enum-told
-    float-step-requires
-    constant-refusal-requires
-    returns
-    keep-pair-requires
-    same-length
-    returns-2)
+    (tie.spec read-f64-requires enum-known-q enum-told float-step-requires constant-refusal-requires returns
+    keep-pair-requires same-length returns-2)

@@ -33,13 +33,5 @@ returns-2 c = search (needs, constants)
 pub constant-int-spec : {M : Type 1} → statement M
 constant-int-spec =
     tie.close
-    (tie.spec
-    read-i64-requires
-    enum-known-q
-    enum-told
-    signed-step-requires
-    constant-refusal-requires
-    returns
-    keep-pair-requires
-    same-length
-    returns-2)
+    (tie.spec read-i64-requires enum-known-q enum-told signed-step-requires constant-refusal-requires returns
+    keep-pair-requires same-length returns-2)

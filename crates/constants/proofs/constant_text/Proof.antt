@@ -33,13 +33,5 @@ returns-2 c = search (needs, constants)
 pub constant-text-spec : {M : Type 1} → statement M
 constant-text-spec =
     tie.close
-    (tie.spec
-    span-str-requires
-    enum-known-q
-    enum-told
-    payload-step-requires
-    constant-refusal-requires
-    same-length
-    returns
-    same-length-2
-    returns-2)
+    (tie.spec span-str-requires enum-known-q enum-told payload-step-requires constant-refusal-requires same-length
+    returns same-length-2 returns-2)

@@ -84,29 +84,7 @@ returns-4 c = search (needs, reading, sharing)
 pub inline-function-spec : {M : Type 1} → statement M
 inline-function-spec =
     tie.close
-    (tie.spec
-    Inv-loop
-    μ-loop
-    number-u32-requires
-    enum-known-p
-    enum-told
-    same-length
-    returns
-    number-debug-count-requires
-    enum-known-q
-    enum-told-2
-    same-length-2
-    returns-2
-    loop-holds
-    inline-entry-requires
-    enum-told-3
-    enum-told-4
-    number-of-requires
-    same-length-3
-    returns-3
-    sub-k
-    loop-less
-    loop-again
-    number-of-requires-2
-    same-length-4
-    returns-4)
+    (tie.spec Inv-loop μ-loop number-u32-requires enum-known-p enum-told same-length returns
+    number-debug-count-requires enum-known-q enum-told-2 same-length-2 returns-2 loop-holds inline-entry-requires
+    enum-told-3 enum-told-4 number-of-requires same-length-3 returns-3 sub-k loop-less loop-again number-of-requires-2
+    same-length-4 returns-4)

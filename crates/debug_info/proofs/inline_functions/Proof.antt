@@ -86,30 +86,7 @@ returns-4 c = search (needs, reading, sharing)
 pub inline-functions-spec : {M : Type 1} → statement M
 inline-functions-spec =
     tie.close
-    (tie.spec
-    Inv-loop
-    μ-loop
-    enum-known-r
-    enum-told
-    returns
-    inline-records-requires
-    smaller-requires
-    number-debug-count-requires
-    enum-known-q
-    enum-told-2
-    step-of-requires
-    same-length
-    returns-2
-    loop-holds
-    inline-function-requires
-    enum-known-p
-    enum-told-3
-    step-of-requires-2
-    same-length-2
-    returns-3
-    sub-left
-    sub-k
-    loop-less
-    loop-again
-    same-length-3
-    returns-4)
+    (tie.spec Inv-loop μ-loop enum-known-r enum-told returns inline-records-requires smaller-requires
+    number-debug-count-requires enum-known-q enum-told-2 step-of-requires same-length returns-2 loop-holds
+    inline-function-requires enum-known-p enum-told-3 step-of-requires-2 same-length-2 returns-3 sub-left sub-k
+    loop-less loop-again same-length-3 returns-4)

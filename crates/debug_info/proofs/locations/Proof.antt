@@ -49,17 +49,5 @@ returns-3 c = listThen locationFormat ((c .before .before .before .before .befor
 pub locations-spec : {M : Type 1} → statement M
 locations-spec =
     tie.close
-    (tie.spec
-    enum-known-r
-    enum-told
-    returns
-    number-count-requires
-    enum-known-q
-    enum-told-2
-    step-of-requires
-    same-length
-    returns-2
-    mul-source-numbers
-    source-numbers-requires
-    same-length-2
-    returns-3)
+    (tie.spec enum-known-r enum-told returns number-count-requires enum-known-q enum-told-2 step-of-requires
+    same-length returns-2 mul-source-numbers source-numbers-requires same-length-2 returns-3)

@@ -48,18 +48,5 @@ returns-4 c = search (needs, reading)
 pub optional-span-spec : {M : Type 1} → statement M
 optional-span-spec =
     tie.close
-    (tie.spec
-    enum-known-r
-    enum-told
-    returns
-    number-bool-requires
-    enum-known-q
-    enum-told-2
-    step-of-requires
-    same-length
-    returns-2
-    same-length-2
-    returns-3
-    span-requires
-    same-length-3
-    returns-4)
+    (tie.spec enum-known-r enum-told returns number-bool-requires enum-known-q enum-told-2 step-of-requires same-length
+    returns-2 same-length-2 returns-3 span-requires same-length-3 returns-4)

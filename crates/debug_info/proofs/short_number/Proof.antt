@@ -61,22 +61,6 @@ returns-8 c = (search needs, λ h. absurd (omega arith))
 pub short-number-spec : {M : Type 1} → statement M
 short-number-spec =
     tie.close
-    (tie.spec
-    cast-t10
-    returns
-    returns-2
-    cast-gathered
-    gathered-requires
-    returns-3
-    returns-4
-    cast-gathered-2
-    gathered-requires-2
-    gathered-requires-3
-    returns-5
-    returns-6
-    cast-gathered-3
-    gathered-requires-4
-    gathered-requires-5
-    gathered-requires-6
-    returns-7
-    returns-8)
+    (tie.spec cast-t10 returns returns-2 cast-gathered gathered-requires returns-3 returns-4 cast-gathered-2
+    gathered-requires-2 gathered-requires-3 returns-5 returns-6 cast-gathered-3 gathered-requires-4 gathered-requires-5
+    gathered-requires-6 returns-7 returns-8)

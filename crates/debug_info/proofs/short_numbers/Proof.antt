@@ -82,28 +82,7 @@ returns-6 c = (runs-short ((c .before .before .before .before .before .before .b
 pub short-numbers-spec : {M : Type 1} → statement M
 short-numbers-spec =
     tie.close
-    (tie.spec
-    read-u64-requires
-    enum-known-bytes
-    enum-told
-    returns
-    remaining-requires
-    returns-2
-    sub-if4
-    copy-bytes-requires
-    remaining-requires-2
-    same-length
-    returns-3
-    short-number-requires
-    returns-4
-    put-requires
-    short-number-requires-2
-    add-put
-    put-requires-2
-    add-remaining
-    remaining-requires-3
-    same-length-2
-    returns-5
-    remaining-requires-4
-    same-length-3
-    returns-6)
+    (tie.spec read-u64-requires enum-known-bytes enum-told returns remaining-requires returns-2 sub-if4
+    copy-bytes-requires remaining-requires-2 same-length returns-3 short-number-requires returns-4 put-requires
+    short-number-requires-2 add-put put-requires-2 add-remaining remaining-requires-3 same-length-2 returns-5
+    remaining-requires-4 same-length-3 returns-6)

@@ -42,14 +42,5 @@ returns-2 c = search needs
 pub short-run-spec : {M : Type 1} → statement M
 short-run-spec =
     tie.close
-    (tie.spec
-    Inv-loop
-    μ-loop
-    loop-holds
-    short-numbers-requires
-    same-length
-    returns
-    loop-less
-    loop-again
-    same-length-2
+    (tie.spec Inv-loop μ-loop loop-holds short-numbers-requires same-length returns loop-less loop-again same-length-2
     returns-2)

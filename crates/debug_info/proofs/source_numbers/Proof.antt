@@ -63,22 +63,6 @@ returns-3 c = at-step ((c .before .before .before .before .before .before .befor
 pub source-numbers-spec : {M : Type 1} → statement M
 source-numbers-spec =
     tie.close
-    (tie.spec
-    Inv-loop
-    μ-loop
-    enum-known-r
-    enum-told
-    returns
-    short-run-requires
-    loop-holds
-    field-source-u32-requires
-    enum-known-here
-    enum-told-2
-    same-length
-    returns-2
-    sub-short-run
-    short-run-requires-2
-    loop-less
-    loop-again
-    same-length-2
-    returns-3)
+    (tie.spec Inv-loop μ-loop enum-known-r enum-told returns short-run-requires loop-holds field-source-u32-requires
+    enum-known-here enum-told-2 same-length returns-2 sub-short-run short-run-requires-2 loop-less loop-again
+    same-length-2 returns-3)

@@ -26,10 +26,4 @@ returns c = search (needs, reading)
 pub span-spec : {M : Type 1} → statement M
 span-spec =
     tie.close
-    (tie.spec
-    field-u32-requires
-    field-u32-requires-2
-    field-u32-requires-3
-    field-u32-requires-4
-    same-length
-    returns)
+    (tie.spec field-u32-requires field-u32-requires-2 field-u32-requires-3 field-u32-requires-4 same-length returns)

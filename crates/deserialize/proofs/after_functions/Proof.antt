@@ -26,10 +26,4 @@ returns c = fieldThen ((c .before .before .before .before .before .before .befor
 pub after-functions-spec : {M : Type 1} → statement M
 after-functions-spec =
     tie.close
-    (tie.spec
-    externs-requires
-    entry-requires
-    island-init-requires
-    artifacts-on-requires
-    same-length
-    returns)
+    (tie.spec externs-requires entry-requires island-init-requires artifacts-on-requires same-length returns)

@@ -56,17 +56,5 @@ returns-3 c = at-step ((c .before .before .before .before .before .before .befor
 pub artifacts-on-spec : {M : Type 1} → statement M
 artifacts-on-spec =
     tie.close
-    (tie.spec
-    enum-known-r
-    enum-told
-    returns
-    five-at-requires
-    past-five-requires
-    same-length
-    returns-2
-    artifacts-requires
-    files-requires
-    function-locations-requires
-    inline-sources-requires
-    same-length-2
-    returns-3)
+    (tie.spec enum-known-r enum-told returns five-at-requires past-five-requires same-length returns-2
+    artifacts-requires files-requires function-locations-requires inline-sources-requires same-length-2 returns-3)

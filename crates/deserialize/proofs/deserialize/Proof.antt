@@ -40,14 +40,5 @@ returns c = fieldThen ((c .before .before .before .before .before .before .befor
 pub deserialize-spec : {M : Type 1} → statement M
 deserialize-spec =
     tie.close
-    (tie.spec
-    field-magic-requires
-    field-version-requires
-    field-str-requires
-    types-requires
-    well-known-requires
-    constants-requires
-    globals-requires
-    functions-on-requires
-    same-length
-    returns)
+    (tie.spec field-magic-requires field-version-requires field-str-requires types-requires well-known-requires
+    constants-requires globals-requires functions-on-requires same-length returns)

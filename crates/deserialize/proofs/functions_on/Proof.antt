@@ -49,16 +49,5 @@ returns-3 c = at-step ((c .before .before .before .before .before .before .befor
 pub functions-on-spec : {M : Type 1} → statement M
 functions-on-spec =
     tie.close
-    (tie.spec
-    enum-known-r
-    enum-told
-    returns
-    number-functions-requires
-    enum-known-q
-    enum-told-2
-    step-of-requires
-    same-length
-    returns-2
-    after-functions-requires
-    same-length-2
-    returns-3)
+    (tie.spec enum-known-r enum-told returns number-functions-requires enum-known-q enum-told-2 step-of-requires
+    same-length returns-2 after-functions-requires same-length-2 returns-3)

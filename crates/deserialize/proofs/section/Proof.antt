@@ -235,72 +235,12 @@ returns-17 c = section-at (settingsOf (now (c .before .before .before .before .b
 pub section-spec : {M : Type 1} → statement M
 section-spec =
     tie.close
-    (tie.spec
-    enum-told
-    field-str-requires
-    enum-told-2
-    structs-requires
-    enum-told-3
-    interfaces-requires
-    enum-told-4
-    named-types-requires
-    enum-told-5
-    itabs-requires
-    enum-told-6
-    runtime-types-requires
-    enum-told-7
-    well-known-requires
-    enum-told-8
-    constants-requires
-    enum-told-9
-    globals-requires
-    enum-told-10
-    functions-requires
-    enum-told-11
-    externs-requires
-    enum-told-12
-    entry-requires
-    enum-told-13
-    island-init-requires
-    enum-told-14
-    artifacts-requires
-    enum-told-15
-    files-requires
-    enum-told-16
-    function-locations-requires
-    enum-known-section
-    inline-sources-requires
-    same-length
-    returns
-    same-length-2
-    returns-2
-    same-length-3
-    returns-3
-    same-length-4
-    returns-4
-    same-length-5
-    returns-5
-    same-length-6
-    returns-6
-    same-length-7
-    returns-7
-    same-length-8
-    returns-8
-    same-length-9
-    returns-9
-    same-length-10
-    returns-10
-    same-length-11
-    returns-11
-    same-length-12
-    returns-12
-    same-length-13
-    returns-13
-    same-length-14
-    returns-14
-    same-length-15
-    returns-15
-    same-length-16
-    returns-16
-    same-length-17
-    returns-17)
+    (tie.spec enum-told field-str-requires enum-told-2 structs-requires enum-told-3 interfaces-requires enum-told-4
+    named-types-requires enum-told-5 itabs-requires enum-told-6 runtime-types-requires enum-told-7 well-known-requires
+    enum-told-8 constants-requires enum-told-9 globals-requires enum-told-10 functions-requires enum-told-11
+    externs-requires enum-told-12 entry-requires enum-told-13 island-init-requires enum-told-14 artifacts-requires
+    enum-told-15 files-requires enum-told-16 function-locations-requires enum-known-section inline-sources-requires
+    same-length returns same-length-2 returns-2 same-length-3 returns-3 same-length-4 returns-4 same-length-5 returns-5
+    same-length-6 returns-6 same-length-7 returns-7 same-length-8 returns-8 same-length-9 returns-9 same-length-10
+    returns-10 same-length-11 returns-11 same-length-12 returns-12 same-length-13 returns-13 same-length-14 returns-14
+    same-length-15 returns-15 same-length-16 returns-16 same-length-17 returns-17)

@@ -50,17 +50,5 @@ returns c = along-reaches _ ((c .before .before .before .before .before .before 
 pub to-section-spec : {M : Type 1} → statement M
 to-section-spec =
     tie.close
-    (tie.spec
-    Inv-loop
-    μ-loop
-    field-magic-requires
-    field-version-requires
-    section-number-requires
-    loop-holds
-    section-at-requires
-    section-requires
-    add-i
-    loop-less
-    loop-again
-    same-length
-    returns)
+    (tie.spec Inv-loop μ-loop field-magic-requires field-version-requires section-number-requires loop-holds
+    section-at-requires section-requires add-i loop-less loop-again same-length returns)

@@ -60,18 +60,5 @@ returns-3 c = comes-at ((c .before .before .before .before .before .before .befo
 pub types-spec : {M : Type 1} → statement M
 types-spec =
     tie.close
-    (tie.spec
-    enum-known-r
-    enum-told
-    returns
-    five-at-requires
-    past-five-requires
-    same-length
-    returns-2
-    structs-requires
-    interfaces-requires
-    named-types-requires
-    itabs-requires
-    runtime-types-requires
-    same-length-2
-    returns-3)
+    (tie.spec enum-known-r enum-told returns five-at-requires past-five-requires same-length returns-2 structs-requires
+    interfaces-requires named-types-requires itabs-requires runtime-types-requires same-length-2 returns-3)

@@ -58,20 +58,6 @@ returns-2 c = λ e. five-of ((c .before .before .before .before .before .before 
 pub five-at-spec : {M : Type 1} → statement M
 five-at-spec =
     tie.close
-    (tie.spec
-    sub-if1
-    returns
-    word-at-requires
-    add-word-at
-    word-at-requires-2
-    add-word-at-2
-    word-at-requires-3
-    add-word-at-3
-    word-at-requires-4
-    add-word-at-4
-    word-at-requires-5
-    add-result
-    add-result-2
-    add-result-3
-    add-result-4
+    (tie.spec sub-if1 returns word-at-requires add-word-at word-at-requires-2 add-word-at-2 word-at-requires-3
+    add-word-at-3 word-at-requires-4 add-word-at-4 word-at-requires-5 add-result add-result-2 add-result-3 add-result-4
     returns-2)

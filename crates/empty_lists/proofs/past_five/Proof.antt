@@ -27,11 +27,4 @@ returns c = search needs
 pub past-five-spec : {M : Type 1} → statement M
 past-five-spec =
     tie.close
-    (tie.spec
-    past-requires
-    past-requires-2
-    past-requires-3
-    past-requires-4
-    past-requires-5
-    same-length
-    returns)
+    (tie.spec past-requires past-requires-2 past-requires-3 past-requires-4 past-requires-5 same-length returns)

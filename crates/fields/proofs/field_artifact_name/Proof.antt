@@ -43,16 +43,5 @@ returns-3 c = rw (← (c .before .before .before .before .before .before .before
 pub field-artifact-name-spec : {M : Type 1} → statement M
 field-artifact-name-spec =
     tie.close
-    (tie.spec
-    enum-known-r
-    enum-told
-    returns
-    artifact-name-bytes-requires
-    read-artifact-string-requires
-    enum-known-q
-    enum-told-2
-    text-step-requires
-    returns-2
-    keep-pair-requires
-    same-length
-    returns-3)
+    (tie.spec enum-known-r enum-told returns artifact-name-bytes-requires read-artifact-string-requires enum-known-q
+    enum-told-2 text-step-requires returns-2 keep-pair-requires same-length returns-3)

@@ -43,16 +43,5 @@ returns-3 c = rw (← (c .before .before .before .before .before .before .before
 pub field-artifact-payload-spec : {M : Type 1} → statement M
 field-artifact-payload-spec =
     tie.close
-    (tie.spec
-    enum-known-r
-    enum-told
-    returns
-    artifact-payload-bytes-requires
-    read-artifact-bytes-requires
-    enum-known-q
-    enum-told-2
-    payload-step-requires
-    returns-2
-    keep-pair-requires
-    same-length
-    returns-3)
+    (tie.spec enum-known-r enum-told returns artifact-payload-bytes-requires read-artifact-bytes-requires enum-known-q
+    enum-told-2 payload-step-requires returns-2 keep-pair-requires same-length returns-3)

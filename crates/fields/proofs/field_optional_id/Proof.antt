@@ -52,19 +52,5 @@ returns-4 c = search (needs, reading, keeping)
 pub field-optional-id-spec : {M : Type 1} → statement M
 field-optional-id-spec =
     tie.close
-    (tie.spec
-    enum-known-r
-    enum-told
-    returns
-    read-u32-requires
-    enum-known-q
-    enum-told-2
-    step-of-requires
-    returns-2
-    keep-pair-requires
-    same-length
-    returns-3
-    sub-keep-pair
-    keep-pair-requires-2
-    same-length-2
-    returns-4)
+    (tie.spec enum-known-r enum-told returns read-u32-requires enum-known-q enum-told-2 step-of-requires returns-2
+    keep-pair-requires same-length returns-3 sub-keep-pair keep-pair-requires-2 same-length-2 returns-4)

@@ -40,15 +40,5 @@ returns-3 c = search (needs, reading, keeping)
 pub field-str-spec : {M : Type 1} → statement M
 field-str-spec =
     tie.close
-    (tie.spec
-    enum-known-r
-    enum-told
-    returns
-    read-string-requires
-    enum-known-q
-    enum-told-2
-    text-step-requires
-    returns-2
-    keep-pair-requires
-    same-length
-    returns-3)
+    (tie.spec enum-known-r enum-told returns read-string-requires enum-known-q enum-told-2 text-step-requires returns-2
+    keep-pair-requires same-length returns-3)

@@ -28,11 +28,4 @@ returns-2 c = search (needs, reading, keeping)
 pub number-artifact-count-spec : {M : Type 1} → statement M
 number-artifact-count-spec =
     tie.close
-    (tie.spec
-    read-artifact-count-requires
-    enum-known-q
-    enum-told
-    returns
-    keep-requires
-    same-length
-    returns-2)
+    (tie.spec read-artifact-count-requires enum-known-q enum-told returns keep-requires same-length returns-2)

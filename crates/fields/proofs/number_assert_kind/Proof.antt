@@ -28,11 +28,4 @@ returns-2 c = search (needs, reading, keeping)
 pub number-assert-kind-spec : {M : Type 1} → statement M
 number-assert-kind-spec =
     tie.close
-    (tie.spec
-    read-bare-requires
-    enum-known-q
-    enum-told
-    returns
-    keep-requires
-    same-length
-    returns-2)
+    (tie.spec read-bare-requires enum-known-q enum-told returns keep-requires same-length returns-2)

@@ -28,11 +28,4 @@ returns-2 c = search (needs, reading, keeping)
 pub number-debug-count-spec : {M : Type 1} → statement M
 number-debug-count-spec =
     tie.close
-    (tie.spec
-    read-debug-count-requires
-    enum-known-q
-    enum-told
-    returns
-    keep-requires
-    same-length
-    returns-2)
+    (tie.spec read-debug-count-requires enum-known-q enum-told returns keep-requires same-length returns-2)

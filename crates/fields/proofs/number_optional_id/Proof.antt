@@ -40,15 +40,5 @@ returns-3 c = search (needs, reading, keeping)
 pub number-optional-id-spec : {M : Type 1} → statement M
 number-optional-id-spec =
     tie.close
-    (tie.spec
-    read-u32-requires
-    enum-known-q
-    enum-told
-    returns
-    keep-pair-requires
-    same-length
-    returns-2
-    sub-keep-pair
-    keep-pair-requires-2
-    same-length-2
-    returns-3)
+    (tie.spec read-u32-requires enum-known-q enum-told returns keep-pair-requires same-length returns-2 sub-keep-pair
+    keep-pair-requires-2 same-length-2 returns-3)

@@ -28,11 +28,4 @@ returns-2 c = search (needs, reading, keeping)
 pub number-u64-spec : {M : Type 1} → statement M
 number-u64-spec =
     tie.close
-    (tie.spec
-    read-u64-requires
-    enum-known-q
-    enum-told
-    returns
-    keep-pair-requires
-    same-length
-    returns-2)
+    (tie.spec read-u64-requires enum-known-q enum-told returns keep-pair-requires same-length returns-2)

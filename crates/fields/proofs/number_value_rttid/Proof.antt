@@ -28,11 +28,4 @@ returns-2 c = search (needs, reading, keeping)
 pub number-value-rttid-spec : {M : Type 1} → statement M
 number-value-rttid-spec =
     tie.close
-    (tie.spec
-    read-packed-word-requires
-    enum-known-q
-    enum-told
-    returns
-    keep-requires
-    same-length
-    returns-2)
+    (tie.spec read-packed-word-requires enum-known-q enum-told returns keep-requires same-length returns-2)

@@ -31,12 +31,5 @@ returns-2 c = search (needs, reading, keeping)
 pub span-str-spec : {M : Type 1} → statement M
 span-str-spec =
     tie.close
-    (tie.spec
-    read-string-requires
-    enum-known-q
-    enum-told
-    text-span-requires
-    returns
-    keep-pair-requires
-    same-length
+    (tie.spec read-string-requires enum-known-q enum-told text-span-requires returns keep-pair-requires same-length
     returns-2)

@@ -81,24 +81,6 @@ returns-5 c = at-step ((c .before .before .before .before .before .before .befor
 pub code-spec : {M : Type 1} → statement M
 code-spec =
     tie.close
-    (tie.spec
-    enum-known-r
-    enum-told
-    returns
-    number-instructions-requires
-    enum-known-p
-    enum-told-2
-    step-of-requires
-    same-length
-    returns-2
-    number-instruction-metadata-requires
-    enum-known-q
-    enum-told-3
-    step-of-requires-2
-    same-length-2
-    returns-3
-    refuse-requires
-    same-length-3
-    returns-4
-    same-length-4
-    returns-5)
+    (tie.spec enum-known-r enum-told returns number-instructions-requires enum-known-p enum-told-2 step-of-requires
+    same-length returns-2 number-instruction-metadata-requires enum-known-q enum-told-3 step-of-requires-2
+    same-length-2 returns-3 refuse-requires same-length-3 returns-4 same-length-4 returns-5)

@@ -63,20 +63,6 @@ returns-3 c = fieldThen ((c .before .before .before .before .before .before .bef
 pub function-spec : {M : Type 1} → statement M
 function-spec =
     tie.close
-    (tie.spec
-    function-head-requires
-    enum-known-head
-    enum-told
-    same-length
-    returns
-    number-u16-requires
-    enum-known-q
-    enum-told-2
-    step-of-requires
-    same-length-2
-    returns-2
-    function-returns-requires
-    function-traits-requires
-    function-slots-requires
-    same-length-3
-    returns-3)
+    (tie.spec function-head-requires enum-known-head enum-told same-length returns number-u16-requires enum-known-q
+    enum-told-2 step-of-requires same-length-2 returns-2 function-returns-requires function-traits-requires
+    function-slots-requires same-length-3 returns-3)

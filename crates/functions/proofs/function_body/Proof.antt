@@ -50,16 +50,5 @@ returns-3 c = fieldThen ((c .before .before .before .before .before .before .bef
 pub function-body-spec : {M : Type 1} → statement M
 function-body-spec =
     tie.close
-    (tie.spec
-    code-requires
-    capture-types-requires
-    slot-types-requires
-    param-types-requires
-    enum-known-params
-    enum-told
-    same-length
-    returns
-    same-length-2
-    returns-2
-    same-length-3
-    returns-3)
+    (tie.spec code-requires capture-types-requires slot-types-requires param-types-requires enum-known-params enum-told
+    same-length returns same-length-2 returns-2 same-length-3 returns-3)

@@ -32,12 +32,5 @@ returns c = fieldThen ((c .before .before .before .before .before .before .befor
 pub function-returns-spec : {M : Type 1} → statement M
 function-returns-spec =
     tie.close
-    (tie.spec
-    field-u16-requires
-    slot-types-requires
-    field-u16-requires-2
-    field-u16-requires-3
-    field-u16-requires-4
-    heap-ret-slots-requires
-    same-length
-    returns)
+    (tie.spec field-u16-requires slot-types-requires field-u16-requires-2 field-u16-requires-3 field-u16-requires-4
+    heap-ret-slots-requires same-length returns)

@@ -46,16 +46,5 @@ returns-3 c = at-step ((c .before .before .before .before .before .before .befor
 pub function-slots-spec : {M : Type 1} → statement M
 function-slots-spec =
     tie.close
-    (tie.spec
-    enum-known-r
-    enum-told
-    returns
-    number-slot-types-requires
-    enum-known-q
-    enum-told-2
-    step-of-requires
-    same-length
-    returns-2
-    function-body-requires
-    same-length-2
-    returns-3)
+    (tie.spec enum-known-r enum-told returns number-slot-types-requires enum-known-q enum-told-2 step-of-requires
+    same-length returns-2 function-body-requires same-length-2 returns-3)

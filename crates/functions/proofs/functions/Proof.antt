@@ -40,15 +40,5 @@ returns-3 c = search (needs, reading, got-up)
 pub functions-spec : {M : Type 1} → statement M
 functions-spec =
     tie.close
-    (tie.spec
-    enum-known-r
-    enum-told
-    returns
-    number-functions-requires
-    enum-known-q
-    enum-told-2
-    step-of-requires
-    same-length
-    returns-2
-    same-length-2
-    returns-3)
+    (tie.spec enum-known-r enum-told returns number-functions-requires enum-known-q enum-told-2 step-of-requires
+    same-length returns-2 same-length-2 returns-3)

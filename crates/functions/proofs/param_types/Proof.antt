@@ -49,16 +49,5 @@ returns-3 c = at-step (c .before .before .before .before .before .before .before
 pub param-types-spec : {M : Type 1} → statement M
 param-types-spec =
     tie.close
-    (tie.spec
-    enum-known-r
-    enum-told
-    returns
-    number-transfer-types-requires
-    enum-known-q
-    enum-told-2
-    step-of-requires
-    same-length
-    returns-2
-    transfer-words-requires
-    same-length-2
-    returns-3)
+    (tie.spec enum-known-r enum-told returns number-transfer-types-requires enum-known-q enum-told-2 step-of-requires
+    same-length returns-2 transfer-words-requires same-length-2 returns-3)

@@ -67,24 +67,6 @@ returns-6 c = past-identity-end (c .before .before .before .before .before .befo
 pub past-spec : {M : Type 1} → statement M
 past-spec =
     tie.close
-    (tie.spec
-    past-text-requires
-    enum-told
-    enum-told-2
-    add-past-optional-text
-    past-optional-text-requires
-    enum-told-3
-    add-result
-    enum-told-4
-    add-result-2
-    enum-told-5
-    add-result-3
-    enum-told-6
-    package-at-requires
-    past-text-requires-2
-    returns
-    returns-2
-    returns-3
-    returns-4
-    returns-5
-    returns-6)
+    (tie.spec past-text-requires enum-told enum-told-2 add-past-optional-text past-optional-text-requires enum-told-3
+    add-result enum-told-4 add-result-2 enum-told-5 add-result-3 enum-told-6 package-at-requires past-text-requires-2
+    returns returns-2 returns-3 returns-4 returns-5 returns-6)

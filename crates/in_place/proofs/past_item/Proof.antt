@@ -33,13 +33,5 @@ returns-3 c = past-in (c .before .enum-told2 .given .1) (c .past3 .ensures)
 pub past-item-spec : {M : Type 1} → statement M
 past-item-spec =
     tie.close
-    (tie.spec
-    enum-told
-    past-requires
-    enum-known-table
-    past-requires-2
-    enum-told-2
-    past-requires-3
-    returns
-    returns-2
+    (tie.spec enum-told past-requires enum-known-table past-requires-2 enum-told-2 past-requires-3 returns returns-2
     returns-3)

@@ -42,16 +42,5 @@ returns-2 c = search (needs, texts)
 pub same-bytes-spec : {M : Type 1} → statement M
 same-bytes-spec =
     tie.close
-    (tie.spec
-    Inv-loop
-    μ-loop
-    loop-holds
-    shared-slice-read-if1
-    shared-slice-read-if1-2
-    returns
-    add-p
-    add-q
-    sub-k
-    loop-less
-    loop-again
-    returns-2)
+    (tie.spec Inv-loop μ-loop loop-holds shared-slice-read-if1 shared-slice-read-if1-2 returns add-p add-q sub-k
+    loop-less loop-again returns-2)

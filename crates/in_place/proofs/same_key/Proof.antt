@@ -33,13 +33,5 @@ returns-4 c = search (needs, keys)
 pub same-key-spec : {M : Type 1} → statement M
 same-key-spec =
     tie.close
-    (tie.spec
-    same-text-requires
-    enum-told
-    enum-told-2
-    enum-told-3
-    same-package-requires
-    returns
-    returns-2
-    returns-3
+    (tie.spec same-text-requires enum-told enum-told-2 enum-told-3 same-package-requires returns returns-2 returns-3
     returns-4)

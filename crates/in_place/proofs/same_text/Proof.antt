@@ -27,11 +27,4 @@ returns-2 c = search (needs, texts)
 pub same-text-spec : {M : Type 1} → statement M
 same-text-spec =
     tie.close
-    (tie.spec
-    word-at-requires
-    word-at-requires-2
-    returns
-    add-same-bytes
-    add-same-bytes-2
-    same-bytes-requires
-    returns-2)
+    (tie.spec word-at-requires word-at-requires-2 returns add-same-bytes add-same-bytes-2 same-bytes-requires returns-2)

@@ -36,14 +36,5 @@ returns-2 c = search (needs, keys)
 pub seen-spec : {M : Type 1} → statement M
 seen-spec =
     tie.close
-    (tie.spec
-    Inv-loop
-    μ-loop
-    loop-holds
-    same-key-requires
-    returns
-    past-item-requires
-    sub-k
-    loop-less
-    loop-again
+    (tie.spec Inv-loop μ-loop loop-holds same-key-requires returns past-item-requires sub-k loop-less loop-again
     returns-2)

@@ -36,14 +36,5 @@ returns c = search (needs, texts)
 pub word-at-spec : {M : Type 1} → statement M
 word-at-spec =
     tie.close
-    (tie.spec
-    shared-slice-read-t6
-    add-t7
-    shared-slice-read-t9
-    add-t10
-    shared-slice-read-t12
-    add-t13
-    shared-slice-read-t15
-    le4-requires
-    cast-result
-    returns)
+    (tie.spec shared-slice-read-t6 add-t7 shared-slice-read-t9 add-t10 shared-slice-read-t12 add-t13
+    shared-slice-read-t15 le4-requires cast-result returns)

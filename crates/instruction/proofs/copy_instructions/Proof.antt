@@ -46,16 +46,5 @@ returns-2 c = search (needs, copying)
 pub copy-instructions-spec : {M : Type 1} → statement M
 copy-instructions-spec =
     tie.close
-    (tie.spec
-    Inv-loop
-    μ-loop
-    returns
-    loop-holds
-    put-instruction-requires
-    add-p
-    add-t
-    sub-k
-    loop-less
-    loop-again
-    same-length
-    returns-2)
+    (tie.spec Inv-loop μ-loop returns loop-holds put-instruction-requires add-p add-t sub-k loop-less loop-again
+    same-length returns-2)

@@ -29,11 +29,5 @@ returns c = search (needs, reading)
 pub instruction-spec : {M : Type 1} → statement M
 instruction-spec =
     tie.close
-    (tie.spec
-    field-u8-requires
-    field-u8-requires-2
-    field-u16-requires
-    field-u16-requires-2
-    field-u16-requires-3
-    same-length
-    returns)
+    (tie.spec field-u8-requires field-u8-requires-2 field-u16-requires field-u16-requires-2 field-u16-requires-3
+    same-length returns)

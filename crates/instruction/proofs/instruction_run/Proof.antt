@@ -35,13 +35,5 @@ returns c = runs-flat flat-instruction (c .before .before .before .before .befor
 pub instruction-run-spec : {M : Type 1} → statement M
 instruction-run-spec =
     tie.close
-    (tie.spec
-    sub-fewer
-    fewer-requires
-    fitting-requires
-    copy-instructions-requires
-    mul-remaining
-    mul-remaining-2
-    remaining-requires
-    same-length
-    returns)
+    (tie.spec sub-fewer fewer-requires fitting-requires copy-instructions-requires mul-remaining mul-remaining-2
+    remaining-requires same-length returns)

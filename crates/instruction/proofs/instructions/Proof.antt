@@ -50,18 +50,5 @@ returns-2 c = comesThen (c .before .before .before .before .before .instruction-
 pub instructions-spec : {M : Type 1} → statement M
 instructions-spec =
     tie.close
-    (tie.spec
-    Inv-loop
-    μ-loop
-    instruction-run-requires
-    loop-holds
-    instruction-requires
-    enum-told
-    enum-told-2
-    same-length
-    returns
-    sub-k
-    loop-less
-    loop-again
-    same-length-2
-    returns-2)
+    (tie.spec Inv-loop μ-loop instruction-run-requires loop-holds instruction-requires enum-told enum-told-2
+    same-length returns sub-k loop-less loop-again same-length-2 returns-2)

@@ -35,13 +35,5 @@ returns-2 c = numberedItems (c .before .before .before .before .before .before .
 pub number-instructions-spec : {M : Type 1} → statement M
 number-instructions-spec =
     tie.close
-    (tie.spec
-    number-count-requires
-    enum-known-q
-    enum-told
-    same-length
-    returns
-    instructions-requires
-    number-of-requires
-    same-length-2
-    returns-2)
+    (tie.spec number-count-requires enum-known-q enum-told same-length returns instructions-requires number-of-requires
+    same-length-2 returns-2)

@@ -90,31 +90,7 @@ returns c = let a = c .before .before .before .before .before .before .before .b
 pub put-instruction-spec : {M : Type 1} → statement M
 put-instruction-spec =
     tie.close
-    (tie.spec
-    shared-slice-read-wide
-    wide-requires
-    mul-tape
-    slice-write-tape
-    add-wide
-    shared-slice-read-wide-2
-    wide-requires-2
-    add-tape
-    mul-tape-2
-    slice-write-tape-2
-    add-half
-    half-requires
-    add-tape-2
-    mul-tape-3
-    slice-write-tape-3
-    add-half-2
-    half-requires-2
-    add-tape-3
-    mul-tape-4
-    slice-write-tape-4
-    add-half-3
-    half-requires-3
-    add-tape-4
-    mul-tape-5
-    slice-write-tape-5
-    same-length
-    returns)
+    (tie.spec shared-slice-read-wide wide-requires mul-tape slice-write-tape add-wide shared-slice-read-wide-2
+    wide-requires-2 add-tape mul-tape-2 slice-write-tape-2 add-half half-requires add-tape-2 mul-tape-3
+    slice-write-tape-3 add-half-2 half-requires-2 add-tape-3 mul-tape-4 slice-write-tape-4 add-half-3 half-requires-3
+    add-tape-4 mul-tape-5 slice-write-tape-5 same-length returns)

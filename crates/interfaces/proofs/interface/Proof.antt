@@ -39,11 +39,5 @@ returns c = fieldThen ((c .before .before .before .before .before .before .befor
 pub interface-spec : {M : Type 1} → statement M
 interface-spec =
     tie.close
-    (tie.spec
-    field-str-requires
-    method-names-requires
-    interface-methods-requires
-    method-set-requires
-    method-set-requires-2
-    same-length
-    returns)
+    (tie.spec field-str-requires method-names-requires interface-methods-requires method-set-requires
+    method-set-requires-2 same-length returns)

@@ -36,14 +36,5 @@ returns-3 c = search (needs, leaves)
 pub bytes-spec : {M : Type 1} → statement M
 bytes-spec =
     tie.close
-    (tie.spec
-    sub-if1
-    refuse-requires
-    returns
-    add-t9
-    charge-allocation-requires
-    enum-known-paid
-    enum-told
-    charge-refusal-requires
-    returns-2
-    returns-3)
+    (tie.spec sub-if1 refuse-requires returns add-t9 charge-allocation-requires enum-known-paid enum-told
+    charge-refusal-requires returns-2 returns-3)

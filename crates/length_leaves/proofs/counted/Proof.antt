@@ -39,15 +39,5 @@ returns-3 c = search (needs, leaves)
 pub counted-spec : {M : Type 1} → statement M
 counted-spec =
     tie.close
-    (tie.spec
-    sub-if1
-    mul-if1
-    refuse-requires
-    returns
-    mul-charge-allocation
-    charge-allocation-requires
-    enum-known-paid
-    enum-told
-    number-of-requires
-    returns-2
-    returns-3)
+    (tie.spec sub-if1 mul-if1 refuse-requires returns mul-charge-allocation charge-allocation-requires enum-known-paid
+    enum-told number-of-requires returns-2 returns-3)

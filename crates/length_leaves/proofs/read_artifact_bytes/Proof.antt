@@ -33,13 +33,5 @@ returns-3 c = search (needs, leaves)
 pub read-artifact-bytes-spec : {M : Type 1} → statement M
 read-artifact-bytes-spec =
     tie.close
-    (tie.spec
-    read-u32-requires
-    enum-known-q
-    enum-told
-    payload-refusal-requires
-    returns
-    over-requires
-    returns-2
-    bytes-requires
-    returns-3)
+    (tie.spec read-u32-requires enum-known-q enum-told payload-refusal-requires returns over-requires returns-2
+    bytes-requires returns-3)

@@ -37,14 +37,5 @@ returns-3 c = limit-kept ((c .before .before .before .before .before .q) .given 
 pub read-artifact-count-spec : {M : Type 1} → statement M
 read-artifact-count-spec =
     tie.close
-    (tie.spec
-    read-u32-requires
-    enum-known-q
-    enum-told
-    returns
-    artifacts-requires
-    over-requires
-    returns-2
-    size-requires
-    counted-requires
-    returns-3)
+    (tie.spec read-u32-requires enum-known-q enum-told returns artifacts-requires over-requires returns-2 size-requires
+    counted-requires returns-3)

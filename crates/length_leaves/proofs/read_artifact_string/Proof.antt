@@ -27,11 +27,4 @@ returns-2 c = search (needs, texts)
 pub read-artifact-string-spec : {M : Type 1} → statement M
 read-artifact-string-spec =
     tie.close
-    (tie.spec
-    read-artifact-bytes-requires
-    enum-known-q
-    enum-told
-    text-refusal-requires
-    returns
-    text-requires
-    returns-2)
+    (tie.spec read-artifact-bytes-requires enum-known-q enum-told text-refusal-requires returns text-requires returns-2)

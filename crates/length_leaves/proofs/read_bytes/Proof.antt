@@ -27,11 +27,4 @@ returns-2 c = search (needs, leaves)
 pub read-bytes-spec : {M : Type 1} → statement M
 read-bytes-spec =
     tie.close
-    (tie.spec
-    read-u32-requires
-    enum-known-q
-    enum-told
-    payload-refusal-requires
-    returns
-    bytes-requires
-    returns-2)
+    (tie.spec read-u32-requires enum-known-q enum-told payload-refusal-requires returns bytes-requires returns-2)

@@ -27,11 +27,4 @@ returns-2 c = search (needs, leaves)
 pub read-count-spec : {M : Type 1} → statement M
 read-count-spec =
     tie.close
-    (tie.spec
-    read-u32-requires
-    enum-known-q
-    enum-told
-    returns
-    size-requires
-    counted-requires
-    returns-2)
+    (tie.spec read-u32-requires enum-known-q enum-told returns size-requires counted-requires returns-2)

@@ -33,13 +33,5 @@ returns-3 c = search (needs, leaves)
 pub read-debug-count-spec : {M : Type 1} → statement M
 read-debug-count-spec =
     tie.close
-    (tie.spec
-    read-u32-requires
-    enum-known-q
-    enum-told
-    returns
-    over-requires
-    returns-2
-    size-requires
-    counted-requires
+    (tie.spec read-u32-requires enum-known-q enum-told returns over-requires returns-2 size-requires counted-requires
     returns-3)

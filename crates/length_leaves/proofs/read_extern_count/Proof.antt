@@ -30,12 +30,4 @@ returns-3 c = search (needs, leaves)
 pub read-extern-count-spec : {M : Type 1} → statement M
 read-extern-count-spec =
     tie.close
-    (tie.spec
-    read-u32-requires
-    enum-known-q
-    enum-told
-    returns
-    refuse-requires
-    returns-2
-    counted-requires
-    returns-3)
+    (tie.spec read-u32-requires enum-known-q enum-told returns refuse-requires returns-2 counted-requires returns-3)

@@ -40,14 +40,5 @@ returns-2 c =
 pub read-method-count-spec : {M : Type 1} → statement M
 read-method-count-spec =
     tie.close
-    (tie.spec
-    read-u32-requires
-    enum-known-q
-    enum-told
-    returns
-    size-requires
-    size-requires-2
-    mul-size
-    add-size
-    counted-requires
-    returns-2)
+    (tie.spec read-u32-requires enum-known-q enum-told returns size-requires size-requires-2 mul-size add-size
+    counted-requires returns-2)

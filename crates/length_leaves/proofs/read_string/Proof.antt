@@ -61,22 +61,6 @@ returns-4 c = search (needs, texts)
 pub read-string-spec : {M : Type 1} → statement M
 read-string-spec =
     tie.close
-    (tie.spec
-    read-bytes-requires
-    enum-known-q
-    enum-told
-    text-refusal-requires
-    returns
-    add-end
-    sub-try-short
-    part-try-short-start
-    part-try-short-end
-    try-short-requires
-    enum-known-n
-    returns-2
-    enum-told-2
-    text-requires
-    enum-known-found
-    enum-told-3
-    returns-3
-    returns-4)
+    (tie.spec read-bytes-requires enum-known-q enum-told text-refusal-requires returns add-end sub-try-short
+    part-try-short-start part-try-short-end try-short-requires enum-known-n returns-2 enum-told-2 text-requires
+    enum-known-found enum-told-3 returns-3 returns-4)

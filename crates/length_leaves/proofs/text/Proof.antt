@@ -36,14 +36,5 @@ returns-2 c = search (needs, texts)
 pub text-spec : {M : Type 1} → statement M
 text-spec =
     tie.close
-    (tie.spec
-    add-end
-    sub-scan-at
-    part-scan-at-start
-    part-scan-at-end
-    scan-at-requires
-    enum-known-found
-    enum-told
-    refuse-requires
-    returns
-    returns-2)
+    (tie.spec add-end sub-scan-at part-scan-at-start part-scan-at-end scan-at-requires enum-known-found enum-told
+    refuse-requires returns returns-2)

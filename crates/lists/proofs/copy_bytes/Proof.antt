@@ -54,19 +54,5 @@ returns-2 c = search (needs, copying)
 pub copy-bytes-spec : {M : Type 1} → statement M
 copy-bytes-spec =
     tie.close
-    (tie.spec
-    Inv-loop
-    μ-loop
-    returns
-    loop-holds
-    shared-slice-read-wide
-    wide-requires
-    mul-tape
-    slice-write-tape
-    add-p
-    add-t
-    sub-k
-    loop-less
-    loop-again
-    same-length
-    returns-2)
+    (tie.spec Inv-loop μ-loop returns loop-holds shared-slice-read-wide wide-requires mul-tape slice-write-tape add-p
+    add-t sub-k loop-less loop-again same-length returns-2)

@@ -52,18 +52,5 @@ returns-2 c = search (needs, copying)
 pub copy-halves-spec : {M : Type 1} → statement M
 copy-halves-spec =
     tie.close
-    (tie.spec
-    Inv-loop
-    μ-loop
-    returns
-    loop-holds
-    half-requires
-    mul-tape
-    slice-write-tape
-    add-p
-    add-t
-    sub-k
-    loop-less
-    loop-again
-    same-length
-    returns-2)
+    (tie.spec Inv-loop μ-loop returns loop-holds half-requires mul-tape slice-write-tape add-p add-t sub-k loop-less
+    loop-again same-length returns-2)

@@ -61,21 +61,5 @@ returns-2 c = (c .before .loop) .inv
 pub copy-low-spec : {M : Type 1} → statement M
 copy-low-spec =
     tie.close
-    (tie.spec
-    Inv-loop
-    μ-loop
-    loop-holds
-    sub-part-of
-    part-of-requires
-    add-one-above
-    one-above-requires
-    same-length
-    returns
-    add-copy-bytes
-    add-copy-bytes-2
-    copy-bytes-requires
-    add-i
-    loop-less
-    loop-again
-    same-length-2
-    returns-2)
+    (tie.spec Inv-loop μ-loop loop-holds sub-part-of part-of-requires add-one-above one-above-requires same-length
+    returns add-copy-bytes add-copy-bytes-2 copy-bytes-requires add-i loop-less loop-again same-length-2 returns-2)

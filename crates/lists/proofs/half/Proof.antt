@@ -32,12 +32,5 @@ returns c = let a = c .before .before .before .before .before .args in omega (ar
 pub half-spec : {M : Type 1} → statement M
 half-spec =
     tie.close
-    (tie.spec
-    add-p1
-    shared-slice-read-wide
-    wide-requires
-    shared-slice-read-wide-2
-    wide-requires-2
-    mul-result
-    add-result
-    returns)
+    (tie.spec add-p1 shared-slice-read-wide wide-requires shared-slice-read-wide-2 wide-requires-2 mul-result
+    add-result returns)

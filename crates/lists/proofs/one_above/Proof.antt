@@ -37,14 +37,5 @@ returns c = search (needs, largest)
 pub one-above-spec : {M : Type 1} → statement M
 one-above-spec =
     tie.close
-    (tie.spec
-    Inv-loop
-    μ-loop
-    add-end
-    loop-holds
-    shared-slice-read-larger
-    larger-requires
-    add-k
-    loop-less
-    loop-again
+    (tie.spec Inv-loop μ-loop add-end loop-holds shared-slice-read-larger larger-requires add-k loop-less loop-again
     returns)

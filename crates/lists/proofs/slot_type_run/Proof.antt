@@ -31,12 +31,5 @@ returns-2 c = runs-low _ (c .before .before .before .before .before .before .bef
 pub slot-type-run-spec : {M : Type 1} → statement M
 slot-type-run-spec =
     tie.close
-    (tie.spec
-    returns
-    sub-fewer
-    fewer-requires
-    fitting-requires
-    copy-low-requires
-    remaining-requires
-    same-length
+    (tie.spec returns sub-fewer fewer-requires fitting-requires copy-low-requires remaining-requires same-length
     returns-2)

@@ -50,18 +50,5 @@ returns-2 c = comesThen (c .before .before .before .before .before .slot-type-ru
 pub slot-types-spec : {M : Type 1} → statement M
 slot-types-spec =
     tie.close
-    (tie.spec
-    Inv-loop
-    μ-loop
-    slot-type-run-requires
-    loop-holds
-    field-slot-type-requires
-    enum-told
-    enum-told-2
-    same-length
-    returns
-    sub-k
-    loop-less
-    loop-again
-    same-length-2
-    returns-2)
+    (tie.spec Inv-loop μ-loop slot-type-run-requires loop-holds field-slot-type-requires enum-told enum-told-2
+    same-length returns sub-k loop-less loop-again same-length-2 returns-2)

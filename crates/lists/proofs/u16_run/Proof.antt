@@ -32,12 +32,5 @@ returns c = runs-flat (flat-one narrow-half) (c .before .before .before .before 
 pub u16-run-spec : {M : Type 1} → statement M
 u16-run-spec =
     tie.close
-    (tie.spec
-    sub-fewer
-    fewer-requires
-    fitting-requires
-    copy-halves-requires
-    mul-remaining
-    remaining-requires
-    same-length
-    returns)
+    (tie.spec sub-fewer fewer-requires fitting-requires copy-halves-requires mul-remaining remaining-requires
+    same-length returns)

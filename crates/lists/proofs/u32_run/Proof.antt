@@ -32,12 +32,5 @@ returns c = runs-flat (flat-one narrow-word) (c .before .before .before .before 
 pub u32-run-spec : {M : Type 1} → statement M
 u32-run-spec =
     tie.close
-    (tie.spec
-    sub-fewer
-    fewer-requires
-    fitting-requires
-    copy-words-requires
-    mul-remaining
-    remaining-requires
-    same-length
-    returns)
+    (tie.spec sub-fewer fewer-requires fitting-requires copy-words-requires mul-remaining remaining-requires
+    same-length returns)

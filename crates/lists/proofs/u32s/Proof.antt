@@ -50,18 +50,5 @@ returns-2 c = comesThen (c .before .before .before .before .before .u32-run .ens
 pub u32s-spec : {M : Type 1} → statement M
 u32s-spec =
     tie.close
-    (tie.spec
-    Inv-loop
-    μ-loop
-    u32-run-requires
-    loop-holds
-    field-u32-requires
-    enum-told
-    enum-told-2
-    same-length
-    returns
-    sub-k
-    loop-less
-    loop-again
-    same-length-2
-    returns-2)
+    (tie.spec Inv-loop μ-loop u32-run-requires loop-holds field-u32-requires enum-told enum-told-2 same-length returns
+    sub-k loop-less loop-again same-length-2 returns-2)

@@ -62,22 +62,6 @@ returns c = let a = c .before .before .before .before .before .before .before .b
 pub word-spec : {M : Type 1} → statement M
 word-spec =
     tie.close
-    (tie.spec
-    add-p1
-    add-p2
-    add-p3
-    shared-slice-read-wide
-    wide-requires
-    shared-slice-read-wide-2
-    wide-requires-2
-    shared-slice-read-wide-3
-    wide-requires-3
-    shared-slice-read-wide-4
-    wide-requires-4
-    mul-result
-    add-result
-    mul-result-2
-    add-result-2
-    mul-result-3
-    add-result-3
-    returns)
+    (tie.spec add-p1 add-p2 add-p3 shared-slice-read-wide wide-requires shared-slice-read-wide-2 wide-requires-2
+    shared-slice-read-wide-3 wide-requires-3 shared-slice-read-wide-4 wide-requires-4 mul-result add-result
+    mul-result-2 add-result-2 mul-result-3 add-result-3 returns)

@@ -44,16 +44,5 @@ returns-3 c = search (needs, matching)
 pub is-name-spec : {M : Type 1} → statement M
 is-name-spec =
     tie.close
-    (tie.spec
-    Inv-loop
-    μ-loop
-    returns
-    loop-holds
-    add-if2
-    shared-slice-read-if2
-    shared-slice-read-if2-2
-    returns-2
-    add-i
-    loop-less
-    loop-again
-    returns-3)
+    (tie.spec Inv-loop μ-loop returns loop-holds add-if2 shared-slice-read-if2 shared-slice-read-if2-2 returns-2 add-i
+    loop-less loop-again returns-3)

@@ -62,22 +62,5 @@ returns-2 c = looking-done ((c .before .loop) .inv) ((c .loop-test) .left)
 pub look-spec : {M : Type 1} → statement M
 look-spec =
     tie.close
-    (tie.spec
-    Inv-loop
-    μ-loop
-    loop-holds
-    word-at-requires
-    add-payload
-    add-payload-2
-    add-payload-3
-    word-at-requires-2
-    add-is-name
-    is-name-requires
-    add-t16
-    returns
-    add-at
-    add-at-2
-    sub-k
-    loop-less
-    loop-again
-    returns-2)
+    (tie.spec Inv-loop μ-loop loop-holds word-at-requires add-payload add-payload-2 add-payload-3 word-at-requires-2
+    add-is-name is-name-requires add-t16 returns add-at add-at-2 sub-k loop-less loop-again returns-2)

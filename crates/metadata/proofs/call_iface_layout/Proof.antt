@@ -61,21 +61,6 @@ returns-3 c = callIfaceRecord _ ((c .before .before .before .before .before .bef
 pub call-iface-layout-spec : {M : Type 1} → statement M
 call-iface-layout-spec =
     tie.close
-    (tie.spec
-    number-u32-requires
-    enum-known-q1
-    enum-told
-    metadata-refusal-requires
-    same-length
-    returns
-    number-u32-requires-2
-    enum-known-q2
-    enum-told-2
-    metadata-refusal-requires-2
-    same-length-2
-    returns-2
-    cast-t16
-    cast-t17
-    layouts-requires
-    same-length-3
-    returns-3)
+    (tie.spec number-u32-requires enum-known-q1 enum-told metadata-refusal-requires same-length returns
+    number-u32-requires-2 enum-known-q2 enum-told-2 metadata-refusal-requires-2 same-length-2 returns-2 cast-t16
+    cast-t17 layouts-requires same-length-3 returns-3)

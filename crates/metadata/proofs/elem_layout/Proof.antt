@@ -58,20 +58,6 @@ returns-3 c = elemRecord _ ((c .before .before .before .before .before .before .
 pub elem-layout-spec : {M : Type 1} → statement M
 elem-layout-spec =
     tie.close
-    (tie.spec
-    number-u32-requires
-    enum-known-q1
-    enum-told
-    metadata-refusal-requires
-    same-length
-    returns
-    number-bool-requires
-    enum-known-q2
-    enum-told-2
-    metadata-refusal-requires-2
-    same-length-2
-    returns-2
-    cast-t16
-    layout-requires
-    same-length-3
-    returns-3)
+    (tie.spec number-u32-requires enum-known-q1 enum-told metadata-refusal-requires same-length returns
+    number-bool-requires enum-known-q2 enum-told-2 metadata-refusal-requires-2 same-length-2 returns-2 cast-t16
+    layout-requires same-length-3 returns-3)

@@ -62,21 +62,6 @@ returns-3 c = assertRecord _ ((c .before .before .before .before .before .before
 pub iface-assert-layout-spec : {M : Type 1} → statement M
 iface-assert-layout-spec =
     tie.close
-    (tie.spec
-    number-assert-kind-requires
-    enum-known-q1
-    enum-told
-    metadata-refusal-requires
-    same-length
-    returns
-    number-u32-requires
-    enum-known-q2
-    enum-told-2
-    metadata-refusal-requires-2
-    same-length-2
-    returns-2
-    cast-t16
-    cast-t17
-    layout-requires
-    same-length-3
-    returns-3)
+    (tie.spec number-assert-kind-requires enum-known-q1 enum-told metadata-refusal-requires same-length returns
+    number-u32-requires enum-known-q2 enum-told-2 metadata-refusal-requires-2 same-length-2 returns-2 cast-t16 cast-t17
+    layout-requires same-length-3 returns-3)

@@ -173,58 +173,11 @@ returns-17 c = metadataAt _ 18 ((c .before .before .before .before .before .befo
 pub instruction-metadata-spec : {M : Type 1} → statement M
 instruction-metadata-spec =
     tie.close
-    (tie.spec
-    number-metadata-tag-requires
-    enum-known-q
-    enum-told
-    metadata-refusal-requires
-    same-length
-    returns
-    bare-requires
-    elem-layout-requires
-    map-get-requires
-    layouts-requires
-    layout-requires
-    loop-end-requires
-    layout-requires-2
-    slot-layout-requires
-    layouts-requires-2
-    layouts-requires-3
-    layout-requires-3
-    layouts-requires-4
-    iface-assert-layout-requires
-    layouts-requires-5
-    call-iface-layout-requires
-    select-exec-layout-requires
-    same-length-2
-    returns-2
-    same-length-3
-    returns-3
-    same-length-4
-    returns-4
-    same-length-5
-    returns-5
-    same-length-6
-    returns-6
-    same-length-7
-    returns-7
-    same-length-8
-    returns-8
-    same-length-9
-    returns-9
-    same-length-10
-    returns-10
-    same-length-11
-    returns-11
-    same-length-12
-    returns-12
-    same-length-13
-    returns-13
-    same-length-14
-    returns-14
-    same-length-15
-    returns-15
-    same-length-16
-    returns-16
-    same-length-17
-    returns-17)
+    (tie.spec number-metadata-tag-requires enum-known-q enum-told metadata-refusal-requires same-length returns
+    bare-requires elem-layout-requires map-get-requires layouts-requires layout-requires loop-end-requires
+    layout-requires-2 slot-layout-requires layouts-requires-2 layouts-requires-3 layout-requires-3 layouts-requires-4
+    iface-assert-layout-requires layouts-requires-5 call-iface-layout-requires select-exec-layout-requires
+    same-length-2 returns-2 same-length-3 returns-3 same-length-4 returns-4 same-length-5 returns-5 same-length-6
+    returns-6 same-length-7 returns-7 same-length-8 returns-8 same-length-9 returns-9 same-length-10 returns-10
+    same-length-11 returns-11 same-length-12 returns-12 same-length-13 returns-13 same-length-14 returns-14
+    same-length-15 returns-15 same-length-16 returns-16 same-length-17 returns-17)

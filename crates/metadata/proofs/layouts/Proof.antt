@@ -57,20 +57,6 @@ returns-3 c = twoLayout _ ((c .before .before .before .before .before .before .b
 pub layouts-spec : {M : Type 1} → statement M
 layouts-spec =
     tie.close
-    (tie.spec
-    number-slot-types-requires
-    enum-known-q1
-    enum-told
-    metadata-refusal-requires
-    same-length
-    returns
-    number-slot-types-requires-2
-    enum-known-q2
-    enum-told-2
-    metadata-refusal-requires-2
-    same-length-2
-    returns-2
-    list-at-requires
-    list-at-requires-2
-    same-length-3
-    returns-3)
+    (tie.spec number-slot-types-requires enum-known-q1 enum-told metadata-refusal-requires same-length returns
+    number-slot-types-requires-2 enum-known-q2 enum-told-2 metadata-refusal-requires-2 same-length-2 returns-2
+    list-at-requires list-at-requires-2 same-length-3 returns-3)

@@ -76,26 +76,7 @@ returns-4 c = mapGetLayout _ ((c .before .before .before .before .before .before
 pub map-get-spec : {M : Type 1} → statement M
 map-get-spec =
     tie.close
-    (tie.spec
-    number-slot-types-requires
-    enum-known-q1
-    enum-told
-    metadata-refusal-requires
-    same-length
-    returns
-    number-slot-types-requires-2
-    enum-known-q2
-    enum-told-2
-    metadata-refusal-requires-2
-    same-length-2
-    returns-2
-    number-bool-requires
-    enum-known-q3
-    enum-told-3
-    metadata-refusal-requires-3
-    same-length-3
-    returns-3
-    list-at-requires
-    list-at-requires-2
-    same-length-4
-    returns-4)
+    (tie.spec number-slot-types-requires enum-known-q1 enum-told metadata-refusal-requires same-length returns
+    number-slot-types-requires-2 enum-known-q2 enum-told-2 metadata-refusal-requires-2 same-length-2 returns-2
+    number-bool-requires enum-known-q3 enum-told-3 metadata-refusal-requires-3 same-length-3 returns-3 list-at-requires
+    list-at-requires-2 same-length-4 returns-4)

@@ -90,30 +90,7 @@ returns-6 c = at-step (c .before .before .before .before .before .before .before
 pub next-metadata-spec : {M : Type 1} → statement M
 next-metadata-spec =
     tie.close
-    (tie.spec
-    enum-known-r
-    enum-told
-    returns
-    is-tag-requires
-    number-metadata-tag-requires
-    enum-known-p
-    enum-told-2
-    step-of-requires
-    same-length
-    returns-2
-    same-length-2
-    returns-3
-    is-tag-requires-2
-    number-metadata-tag-requires-2
-    enum-known-q
-    enum-told-3
-    step-of-requires-2
-    same-length-3
-    returns-4
-    two-layouts-requires
-    same-length-4
-    returns-5
-    instruction-metadata-requires
-    metadata-step-requires
-    same-length-5
-    returns-6)
+    (tie.spec enum-known-r enum-told returns is-tag-requires number-metadata-tag-requires enum-known-p enum-told-2
+    step-of-requires same-length returns-2 same-length-2 returns-3 is-tag-requires-2 number-metadata-tag-requires-2
+    enum-known-q enum-told-3 step-of-requires-2 same-length-3 returns-4 two-layouts-requires same-length-4 returns-5
+    instruction-metadata-requires metadata-step-requires same-length-5 returns-6)

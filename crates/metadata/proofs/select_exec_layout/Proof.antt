@@ -35,13 +35,5 @@ returns-2 c = oneLayout ((c .before .before .q) .given .1) ((c .before .before .
 pub select-exec-layout-spec : {M : Type 1} → statement M
 select-exec-layout-spec =
     tie.close
-    (tie.spec
-    number-select-cases-requires
-    enum-known-q
-    enum-told
-    metadata-refusal-requires
-    same-length
-    returns
-    list-at-requires
-    same-length-2
-    returns-2)
+    (tie.spec number-select-cases-requires enum-known-q enum-told metadata-refusal-requires same-length returns
+    list-at-requires same-length-2 returns-2)

@@ -39,14 +39,5 @@ returns-2 c = slotRecord _ ((c .before .before .before .before .before .q) .give
 pub slot-layout-spec : {M : Type 1} → statement M
 slot-layout-spec =
     tie.close
-    (tie.spec
-    number-u16-requires
-    enum-known-q
-    enum-told
-    metadata-refusal-requires
-    same-length
-    returns
-    cast-t11
-    layout-requires
-    same-length-2
-    returns-2)
+    (tie.spec number-u16-requires enum-known-q enum-told metadata-refusal-requires same-length returns cast-t11
+    layout-requires same-length-2 returns-2)

@@ -52,18 +52,6 @@ returns-3 c = numberThen (λ _. slotTypes (settingsOf (now ((c .before .before .
 pub two-layouts-spec : {M : Type 1} → statement M
 two-layouts-spec =
     tie.close
-    (tie.spec
-    number-slot-types-requires
-    enum-known-q1
-    enum-told
-    step-of-requires
-    same-length
-    returns
-    number-slot-types-requires-2
-    enum-known-q2
-    enum-told-2
-    step-of-requires-2
-    same-length-2
-    returns-2
-    same-length-3
+    (tie.spec number-slot-types-requires enum-known-q1 enum-told step-of-requires same-length returns
+    number-slot-types-requires-2 enum-known-q2 enum-told-2 step-of-requires-2 same-length-2 returns-2 same-length-3
     returns-3)

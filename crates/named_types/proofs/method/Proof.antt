@@ -29,11 +29,5 @@ returns c = search (needs, reading)
 pub method-spec : {M : Type 1} → statement M
 method-spec =
     tie.close
-    (tie.spec
-    field-member-name-requires
-    field-u32-requires
-    field-bool-requires
-    field-bool-requires-2
-    field-u32-requires-2
-    same-length
-    returns)
+    (tie.spec field-member-name-requires field-u32-requires field-bool-requires field-bool-requires-2
+    field-u32-requires-2 same-length returns)

@@ -64,22 +64,6 @@ returns-5 c = methodsThen _ ((c .before .before .before .before .before .before 
 pub methods-spec : {M : Type 1} → statement M
 methods-spec =
     tie.close
-    (tie.spec
-    enum-known-r
-    enum-told
-    returns
-    number-method-count-requires
-    enum-known-q
-    enum-told-2
-    step-of-requires
-    same-length
-    returns-2
-    read-methods-requires
-    same-length-2
-    returns-3
-    first-repeat-requires
-    same-length-3
-    returns-4
-    read-methods-requires-2
-    same-length-4
-    returns-5)
+    (tie.spec enum-known-r enum-told returns number-method-count-requires enum-known-q enum-told-2 step-of-requires
+    same-length returns-2 read-methods-requires same-length-2 returns-3 first-repeat-requires same-length-3 returns-4
+    read-methods-requires-2 same-length-4 returns-5)

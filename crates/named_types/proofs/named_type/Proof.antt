@@ -28,10 +28,5 @@ returns c = search (needs, reading)
 pub named-type-spec : {M : Type 1} → statement M
 named-type-spec =
     tie.close
-    (tie.spec
-    field-str-requires
-    field-value-meta-requires
-    field-value-rttid-requires
-    methods-requires
-    same-length
+    (tie.spec field-str-requires field-value-meta-requires field-value-rttid-requires methods-requires same-length
     returns)

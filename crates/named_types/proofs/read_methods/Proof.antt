@@ -54,4 +54,5 @@ returns-3 : tie.Need-returns-3 Inv-loop μ-loop
 returns-3 c = search (needs, unjudged)
 
 pub read-methods-spec : {M : Type 1} → statement M
-read-methods-spec = tie.close (tie.spec Inv-loop μ-loop loop-holds method-requires new-method-requires same-length returns enum-told enum-told-2 same-length-2 returns-2 add-i loop-less loop-again same-length-3 returns-3)
+read-methods-spec = tie.close (tie.spec Inv-loop μ-loop loop-holds method-requires new-method-requires same-length returns enum-told enum-told-2
+    same-length-2 returns-2 add-i loop-less loop-again same-length-3 returns-3)

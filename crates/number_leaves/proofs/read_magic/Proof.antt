@@ -49,18 +49,5 @@ returns-5 c = search (needs, leaves, marks)
 pub read-magic-spec : {M : Type 1} → statement M
 read-magic-spec =
     tie.close
-    (tie.spec
-    sub-if1
-    refuse-requires
-    returns
-    add-if4
-    refuse-requires-2
-    shared-slice-read-if2
-    returns-2
-    add-if3
-    shared-slice-read-if3
-    returns-3
-    add-if4-2
-    shared-slice-read-if4
-    returns-4
-    returns-5)
+    (tie.spec sub-if1 refuse-requires returns add-if4 refuse-requires-2 shared-slice-read-if2 returns-2 add-if3
+    shared-slice-read-if3 returns-3 add-if4-2 shared-slice-read-if4 returns-4 returns-5)

@@ -36,14 +36,5 @@ returns-5 c = search (needs, leaves)
 pub read-metadata-tag-spec : {M : Type 1} → statement M
 read-metadata-tag-spec =
     tie.close
-    (tie.spec
-    read-u8-requires
-    enum-known-q
-    enum-told
-    returns
-    returns-2
-    refuse-requires
-    returns-3
-    refuse-requires-2
-    returns-4
-    returns-5)
+    (tie.spec read-u8-requires enum-known-q enum-told returns returns-2 refuse-requires returns-3 refuse-requires-2
+    returns-4 returns-5)

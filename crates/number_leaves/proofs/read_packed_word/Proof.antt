@@ -33,13 +33,5 @@ returns-4 c = search (needs, leaves)
 pub read-packed-word-spec : {M : Type 1} → statement M
 read-packed-word-spec =
     tie.close
-    (tie.spec
-    read-u32-requires
-    enum-known-q
-    enum-told
-    returns
-    refuse-requires
-    returns-2
-    refuse-requires-2
-    returns-3
+    (tie.spec read-u32-requires enum-known-q enum-told returns refuse-requires returns-2 refuse-requires-2 returns-3
     returns-4)

@@ -77,25 +77,6 @@ returns-5 c = absurd (omega (arith, (c .before .before .loop) .inv .turn))
 pub read-source-u32-spec : {M : Type 1} → statement M
 read-source-u32-spec =
     tie.close
-    (tie.spec
-    Inv-loop
-    μ-loop
-    loop-holds
-    read-u8-requires
-    enum-known-q
-    enum-told
-    returns
-    refuse-requires
-    returns-2
-    cast-value
-    mul-value
-    shl-value
-    refuse-requires-2
-    returns-3
-    cast-t19
-    returns-4
-    add-i
-    loop-less
-    loop-again
-    refuse-requires-3
-    returns-5)
+    (tie.spec Inv-loop μ-loop loop-holds read-u8-requires enum-known-q enum-told returns refuse-requires returns-2
+    cast-value mul-value shl-value refuse-requires-2 returns-3 cast-t19 returns-4 add-i loop-less loop-again
+    refuse-requires-3 returns-5)

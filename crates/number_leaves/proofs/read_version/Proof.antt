@@ -31,12 +31,4 @@ returns-3 c = search (needs, leaves, marks)
 pub read-version-spec : {M : Type 1} → statement M
 read-version-spec =
     tie.close
-    (tie.spec
-    read-u32-requires
-    enum-known-q
-    enum-told
-    step-of-requires
-    returns
-    refuse-requires
-    returns-2
-    returns-3)
+    (tie.spec read-u32-requires enum-known-q enum-told step-of-requires returns refuse-requires returns-2 returns-3)

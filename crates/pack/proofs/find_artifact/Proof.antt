@@ -37,14 +37,5 @@ returns-2 c = find-none ((c .before .before .before .locate-artifact) .ensures) 
 pub find-artifact-spec : {M : Type 1} → statement M
 find-artifact-spec =
     tie.close
-    (tie.spec
-    locate-artifact-requires
-    enum-known-found
-    add-end
-    sub-result
-    part-result-start
-    part-result-end
-    enum-told
-    slice-aggregate-result
-    returns
-    returns-2)
+    (tie.spec locate-artifact-requires enum-known-found add-end sub-result part-result-start part-result-end enum-told
+    slice-aggregate-result returns returns-2)

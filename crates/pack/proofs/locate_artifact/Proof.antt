@@ -41,14 +41,5 @@ returns-2 c = locate-found _ ((c .before .before .before .before .before .before
 pub locate-artifact-spec : {M : Type 1} → statement M
 locate-artifact-spec =
     tie.close
-    (tie.spec
-    opening-whole-requires
-    array-borrow-prefix-none
-    slice-aggregate-deserialize
-    deserialize-requires
-    ended-requires
-    enum-known-end
-    enum-known-end-2
-    located-requires
-    returns
-    returns-2)
+    (tie.spec opening-whole-requires array-borrow-prefix-none slice-aggregate-deserialize deserialize-requires
+    ended-requires enum-known-end enum-known-end-2 located-requires returns returns-2)

@@ -30,12 +30,5 @@ returns-2 c = located-look (c .before .before .before .before .before .before .b
 pub located-spec : {M : Type 1} → statement M
 located-spec =
     tie.close
-    (tie.spec
-    array-borrow-prefix-none
-    slice-aggregate-to-section
-    to-section-requires
-    enum-known-at
-    enum-known-at-2
-    look-from-requires
-    returns
-    returns-2)
+    (tie.spec array-borrow-prefix-none slice-aggregate-to-section to-section-requires enum-known-at enum-known-at-2
+    look-from-requires returns returns-2)

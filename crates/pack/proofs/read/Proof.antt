@@ -56,19 +56,6 @@ returns-3 c = read-taken _ ((c .before .before .before .before .before .before .
 pub read-spec : {M : Type 1} → statement M
 read-spec =
     tie.close
-    (tie.spec
-    opening-whole-requires
-    read-once-requires
-    same-length
-    returns
-    slice-relend-prefix-deserialize
-    slice-aggregate-deserialize
-    deserialize-requires
-    closed-whole-requires
-    enum-told
-    enum-told-2
-    same-length-2
-    returns-2
-    deserialize-requires-2
-    same-length-3
-    returns-3)
+    (tie.spec opening-whole-requires read-once-requires same-length returns slice-relend-prefix-deserialize
+    slice-aggregate-deserialize deserialize-requires closed-whole-requires enum-told enum-told-2 same-length-2
+    returns-2 deserialize-requires-2 same-length-3 returns-3)

@@ -46,17 +46,6 @@ returns-3 c = small-again _ ((c .before .before .before .before .before .before 
 pub read-once-spec : {M : Type 1} → statement M
 read-once-spec =
     tie.close
-    (tie.spec
-    slice-aggregate-deserialize
-    deserialize-requires
-    closed-whole-requires
-    enum-known-answer
-    enum-told
-    returns
-    slice-aggregate-copy-record
-    copy-record-requires
-    same-length
-    returns-2
-    deserialize-requires-2
-    same-length-2
+    (tie.spec slice-aggregate-deserialize deserialize-requires closed-whole-requires enum-known-answer enum-told
+    returns slice-aggregate-copy-record copy-record-requires same-length returns-2 deserialize-requires-2 same-length-2
     returns-3)

@@ -59,21 +59,5 @@ returns-3 c = search needs
 pub read-input-spec : {M : Type 1} → statement M
 read-input-spec =
     tie.close
-    (tie.spec
-    Inv-loop
-    μ-loop
-    loop-holds
-    sub-read-some
-    part-read-some-start
-    part-read-some-end
-    read-some-requires
-    same-length
-    returns
-    same-length-2
-    returns-2
-    add-at
-    loop-less
-    loop-again
-    after-full-requires
-    same-length-3
-    returns-3)
+    (tie.spec Inv-loop μ-loop loop-holds sub-read-some part-read-some-start part-read-some-end read-some-requires
+    same-length returns same-length-2 returns-2 add-at loop-less loop-again after-full-requires same-length-3 returns-3)

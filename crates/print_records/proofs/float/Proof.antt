@@ -40,12 +40,5 @@ returns-2 c = search needs
 pub float-spec : {M : Type 1} → statement M
 float-spec =
     tie.close
-    (tie.spec
-    float-to-bits-bits
-    slice-aggregate-text
-    text-requires
-    print-hex-requires
-    slice-aggregate-text-2
-    text-requires-2
-    returns
-    returns-2)
+    (tie.spec float-to-bits-bits slice-aggregate-text text-requires print-hex-requires slice-aggregate-text-2
+    text-requires-2 returns returns-2)

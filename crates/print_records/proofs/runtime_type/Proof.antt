@@ -39,15 +39,5 @@ returns-3 c = search needs
 pub runtime-type-spec : {M : Type 1} → statement M
 runtime-type-spec =
     tie.close
-    (tie.spec
-    returns
-    start-requires
-    slice-aggregate-runtime-type
-    runtime-type-requires
-    enum-known-q
-    runtime-record-requires
-    end-requires
-    enum-known-q-2
-    refused-requires
-    returns-2
-    returns-3)
+    (tie.spec returns start-requires slice-aggregate-runtime-type runtime-type-requires enum-known-q
+    runtime-record-requires end-requires enum-known-q-2 refused-requires returns-2 returns-3)

@@ -37,14 +37,4 @@ returns-3 c = search needs
 pub select-cases-spec : {M : Type 1} → statement M
 select-cases-spec =
     tie.close
-    (tie.spec
-    Inv-loop
-    μ-loop
-    returns
-    loop-holds
-    returns-2
-    select-case-requires
-    sub-k
-    loop-less
-    loop-again
-    returns-3)
+    (tie.spec Inv-loop μ-loop returns loop-holds returns-2 select-case-requires sub-k loop-less loop-again returns-3)

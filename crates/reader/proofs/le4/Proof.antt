@@ -38,13 +38,5 @@ returns c =
 pub le4-spec : {M : Type 1} → statement M
 le4-spec =
     tie.close
-    (tie.spec
-    array-read-result
-    cast-result
-    array-read-result-2
-    cast-result-2
-    array-read-result-3
-    cast-result-3
-    array-read-result-4
-    cast-result-4
-    returns)
+    (tie.spec array-read-result cast-result array-read-result-2 cast-result-2 array-read-result-3 cast-result-3
+    array-read-result-4 cast-result-4 returns)

@@ -62,21 +62,6 @@ returns c =
 pub le8-spec : {M : Type 1} → statement M
 le8-spec =
     tie.close
-    (tie.spec
-    array-read-result
-    cast-result
-    array-read-result-2
-    cast-result-2
-    array-read-result-3
-    cast-result-3
-    array-read-result-4
-    cast-result-4
-    array-read-result-5
-    cast-result-5
-    array-read-result-6
-    cast-result-6
-    array-read-result-7
-    cast-result-7
-    array-read-result-8
-    cast-result-8
-    returns)
+    (tie.spec array-read-result cast-result array-read-result-2 cast-result-2 array-read-result-3 cast-result-3
+    array-read-result-4 cast-result-4 array-read-result-5 cast-result-5 array-read-result-6 cast-result-6
+    array-read-result-7 cast-result-7 array-read-result-8 cast-result-8 returns)

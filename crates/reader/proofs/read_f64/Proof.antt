@@ -27,11 +27,4 @@ returns-2 c = search (needs, leaves)
 pub read-f64-spec : {M : Type 1} → statement M
 read-f64-spec =
     tie.close
-    (tie.spec
-    read-u64-requires
-    enum-known-q
-    enum-told
-    float-refusal-requires
-    returns
-    f64-of-requires
-    returns-2)
+    (tie.spec read-u64-requires enum-known-q enum-told float-refusal-requires returns f64-of-requires returns-2)

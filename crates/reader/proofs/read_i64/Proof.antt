@@ -27,11 +27,4 @@ returns-2 c = search (needs, leaves)
 pub read-i64-spec : {M : Type 1} → statement M
 read-i64-spec =
     tie.close
-    (tie.spec
-    read-u64-requires
-    enum-known-q
-    enum-told
-    signed-refusal-requires
-    returns
-    i64-of-requires
-    returns-2)
+    (tie.spec read-u64-requires enum-known-q enum-told signed-refusal-requires returns i64-of-requires returns-2)

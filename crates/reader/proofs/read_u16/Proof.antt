@@ -37,14 +37,5 @@ returns-2 c = fetch2 (c .before .before .before .before .before .pre) (search ne
 pub read-u16-spec : {M : Type 1} → statement M
 read-u16-spec =
     tie.close
-    (tie.spec
-    sub-if1
-    refuse-requires
-    returns
-    shared-slice-read-t10
-    add-t5
-    shared-slice-read-t12
-    le2-requires
-    cast-t14
-    add-t6
-    returns-2)
+    (tie.spec sub-if1 refuse-requires returns shared-slice-read-t10 add-t5 shared-slice-read-t12 le2-requires cast-t14
+    add-t6 returns-2)

@@ -49,18 +49,5 @@ returns-2 c = fetch4 (c .before .before .before .before .before .before .before 
 pub read-u32-spec : {M : Type 1} → statement M
 read-u32-spec =
     tie.close
-    (tie.spec
-    sub-if1
-    refuse-requires
-    returns
-    shared-slice-read-t10
-    add-t5
-    shared-slice-read-t12
-    add-t6
-    shared-slice-read-t14
-    add-t15
-    shared-slice-read-t17
-    le4-requires
-    cast-t19
-    add-t5-2
-    returns-2)
+    (tie.spec sub-if1 refuse-requires returns shared-slice-read-t10 add-t5 shared-slice-read-t12 add-t6
+    shared-slice-read-t14 add-t15 shared-slice-read-t17 le4-requires cast-t19 add-t5-2 returns-2)

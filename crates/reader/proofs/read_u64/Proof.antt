@@ -70,25 +70,6 @@ returns-2 c = fetch8 (c .before .before .before .before .before .before .before 
 pub read-u64-spec : {M : Type 1} → statement M
 read-u64-spec =
     tie.close
-    (tie.spec
-    sub-if1
-    refuse-requires
-    returns
-    shared-slice-read-t10
-    add-t5
-    shared-slice-read-t12
-    add-t6
-    shared-slice-read-t14
-    add-t15
-    shared-slice-read-t17
-    add-t18
-    shared-slice-read-t20
-    add-t21
-    shared-slice-read-t23
-    add-t24
-    shared-slice-read-t26
-    add-t27
-    shared-slice-read-t29
-    le8-requires
-    add-t5-2
-    returns-2)
+    (tie.spec sub-if1 refuse-requires returns shared-slice-read-t10 add-t5 shared-slice-read-t12 add-t6
+    shared-slice-read-t14 add-t15 shared-slice-read-t17 add-t18 shared-slice-read-t20 add-t21 shared-slice-read-t23
+    add-t24 shared-slice-read-t26 add-t27 shared-slice-read-t29 le8-requires add-t5-2 returns-2)

@@ -28,11 +28,4 @@ returns-2 c = fetch1 (c .before .before .before .before .pre) (search needs) ((c
 pub read-u8-spec : {M : Type 1} → statement M
 read-u8-spec =
     tie.close
-    (tie.spec
-    sub-if1
-    refuse-requires
-    returns
-    shared-slice-read-wide
-    wide-requires
-    add-t5
-    returns-2)
+    (tie.spec sub-if1 refuse-requires returns shared-slice-read-wide wide-requires add-t5 returns-2)

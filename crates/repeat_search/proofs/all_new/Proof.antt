@@ -38,14 +38,4 @@ returns-2 c = search (needs, scanning)
 pub all-new-spec : {M : Type 1} → statement M
 all-new-spec =
     tie.close
-    (tie.spec
-    Inv-loop
-    μ-loop
-    loop-holds
-    mark-requires
-    returns
-    past-item-requires
-    add-i
-    loop-less
-    loop-again
-    returns-2)
+    (tie.spec Inv-loop μ-loop loop-holds mark-requires returns past-item-requires add-i loop-less loop-again returns-2)

@@ -38,14 +38,4 @@ returns c = search needs
 pub clear-spec : {M : Type 1} → statement M
 clear-spec =
     tie.close
-    (tie.spec
-    Inv-loop
-    μ-loop
-    loop-holds
-    mul-filter
-    slice-write-filter
-    add-i
-    loop-less
-    loop-again
-    same-length
-    returns)
+    (tie.spec Inv-loop μ-loop loop-holds mul-filter slice-write-filter add-i loop-less loop-again same-length returns)

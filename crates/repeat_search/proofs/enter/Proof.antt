@@ -30,12 +30,4 @@ returns c = enters (c .before .mask .ensures) (c .before .before .before .pre)
 pub enter-spec : {M : Type 1} → statement M
 enter-spec =
     tie.close
-    (tie.spec
-    mask-requires
-    sub-k
-    mul-w
-    slice-read-w
-    mul-filter
-    slice-write-filter
-    same-length
-    returns)
+    (tie.spec mask-requires sub-k mul-w slice-read-w mul-filter slice-write-filter same-length returns)

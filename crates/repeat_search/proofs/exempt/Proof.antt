@@ -30,12 +30,4 @@ returns-3 c = search (needs, standing)
 pub exempt-spec : {M : Type 1} → statement M
 exempt-spec =
     tie.close
-    (tie.spec
-    enum-told
-    blank-requires
-    enum-told-2
-    enum-told-3
-    blank-requires-2
-    returns
-    returns-2
-    returns-3)
+    (tie.spec enum-told blank-requires enum-told-2 enum-told-3 blank-requires-2 returns returns-2 returns-3)

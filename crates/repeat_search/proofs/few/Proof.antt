@@ -16,8 +16,4 @@ returns : tie.Need-returns
 returns c = pass-first ((c .before .pass) .ensures)
 
 pub few-spec : {M : Type 1} → statement M
-few-spec = tie.close (tie.spec
-    slice-aggregate-pass
-    slice-aggregate-pass-2
-    pass-requires
-    returns)
+few-spec = tie.close (tie.spec slice-aggregate-pass slice-aggregate-pass-2 pass-requires returns)

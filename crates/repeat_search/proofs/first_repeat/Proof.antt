@@ -29,12 +29,5 @@ returns-4 c = search needs
 pub first-repeat-spec : {M : Type 1} → statement M
 first-repeat-spec =
     tie.close
-    (tie.spec
-    all-new-requires
-    returns
-    scan-requires
-    returns-2
-    searched-requires
-    returns-3
-    searched-requires-2
+    (tie.spec all-new-requires returns scan-requires returns-2 searched-requires returns-3 searched-requires-2
     returns-4)

@@ -27,11 +27,4 @@ returns-2 c = search needs
 pub fresh-seed-spec : {M : Type 1} → statement M
 fresh-seed-spec =
     tie.close
-    (tie.spec
-    past-items-requires
-    returns
-    sub-hash-bytes
-    hash-bytes-requires
-    mul-result
-    add-result
-    returns-2)
+    (tie.spec past-items-requires returns sub-hash-bytes hash-bytes-requires mul-result add-result returns-2)

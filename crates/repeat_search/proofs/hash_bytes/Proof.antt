@@ -27,11 +27,4 @@ returns-3 c = search (needs, hashing)
 pub hash-bytes-spec : {M : Type 1} → statement M
 hash-bytes-spec =
     tie.close
-    (tie.spec
-    hash-short-requires
-    returns
-    hash-long-requires
-    returns-2
-    add-join
-    join-requires
-    returns-3)
+    (tie.spec hash-short-requires returns hash-long-requires returns-2 add-join join-requires returns-3)

@@ -21,9 +21,4 @@ returns : tie.Need-returns
 returns c = search (needs, hashing)
 
 pub hash-key-spec : {M : Type 1} → statement M
-hash-key-spec = tie.close (tie.spec
-    hash-package-requires
-    hash-text-requires
-    mix-requires
-    mix-requires-2
-    returns)
+hash-key-spec = tie.close (tie.spec hash-package-requires hash-text-requires mix-requires mix-requires-2 returns)

@@ -69,25 +69,6 @@ returns c = search (needs, hashing)
 pub hash-long-spec : {M : Type 1} → statement M
 hash-long-spec =
     tie.close
-    (tie.spec
-    Inv-loop
-    μ-loop
-    second-seed-requires
-    loop-holds
-    word-at-requires
-    add-word-at
-    word-at-requires-2
-    add-word-at-2
-    word-at-requires-3
-    add-word-at-3
-    word-at-requires-4
-    fold-requires
-    fold-requires-2
-    add-p
-    sub-k
-    loop-less
-    loop-again
-    add-end
-    sub-join
-    join-requires
-    returns)
+    (tie.spec Inv-loop μ-loop second-seed-requires loop-holds word-at-requires add-word-at word-at-requires-2
+    add-word-at-2 word-at-requires-3 add-word-at-3 word-at-requires-4 fold-requires fold-requires-2 add-p sub-k
+    loop-less loop-again add-end sub-join join-requires returns)

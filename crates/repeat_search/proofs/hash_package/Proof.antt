@@ -30,12 +30,4 @@ returns-3 : tie.Need-returns-3
 returns-3 c = search (needs, hashing)
 
 pub hash-package-spec : {M : Type 1} → statement M
-hash-package-spec = tie.close (tie.spec
-    enum-told
-    enum-told-2
-    enum-told-3
-    package-at-requires
-    hash-text-requires
-    returns
-    returns-2
-    returns-3)
+hash-package-spec = tie.close (tie.spec enum-told enum-told-2 enum-told-3 package-at-requires hash-text-requires returns returns-2 returns-3)

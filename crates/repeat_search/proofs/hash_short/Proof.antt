@@ -63,23 +63,6 @@ returns-3 c = search (needs, hashing)
 pub hash-short-spec : {M : Type 1} → statement M
 hash-short-spec =
     tie.close
-    (tie.spec
-    returns
-    add-end
-    shared-slice-read-wide
-    wide-requires
-    add-wide
-    shared-slice-read-wide-2
-    wide-requires-2
-    mul-v
-    add-v
-    sub-wide
-    shared-slice-read-wide-3
-    wide-requires-3
-    fold-requires
-    returns-2
-    word-at-requires
-    sub-word-at
-    word-at-requires-2
-    fold-requires-2
-    returns-3)
+    (tie.spec returns add-end shared-slice-read-wide wide-requires add-wide shared-slice-read-wide-2 wide-requires-2
+    mul-v add-v sub-wide shared-slice-read-wide-3 wide-requires-3 fold-requires returns-2 word-at-requires sub-word-at
+    word-at-requires-2 fold-requires-2 returns-3)

@@ -19,9 +19,4 @@ returns : tie.Need-returns
 returns c = search (needs, hashing)
 
 pub hash-text-spec : {M : Type 1} → statement M
-hash-text-spec = tie.close (tie.spec
-    word-at-requires
-    add-hash-bytes
-    mix-requires
-    hash-bytes-requires
-    returns)
+hash-text-spec = tie.close (tie.spec word-at-requires add-hash-bytes mix-requires hash-bytes-requires returns)

@@ -39,15 +39,5 @@ returns c = joined (c .before .before .before .before .before .before .word-at .
 pub join-spec : {M : Type 1} → statement M
 join-spec =
     tie.close
-    (tie.spec
-    word-at-requires
-    add-word-at
-    word-at-requires-2
-    sub-word-at
-    word-at-requires-3
-    sub-word-at-2
-    word-at-requires-4
-    fold-requires
-    second-seed-requires
-    fold-requires-2
-    returns)
+    (tie.spec word-at-requires add-word-at word-at-requires-2 sub-word-at word-at-requires-3 sub-word-at-2
+    word-at-requires-4 fold-requires second-seed-requires fold-requires-2 returns)

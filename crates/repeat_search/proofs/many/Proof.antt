@@ -60,20 +60,5 @@ returns-3 c = search (needs, firsts)
 pub many-spec : {M : Type 1} → statement M
 many-spec =
     tie.close
-    (tie.spec
-    Inv-loop
-    μ-loop
-    middle-requires
-    returns
-    add-parts
-    div-classes
-    add-classes
-    loop-holds
-    add-hi
-    two-passes-requires
-    enum-known-q
-    enum-told
-    returns-2
-    loop-less
-    loop-again
-    returns-3)
+    (tie.spec Inv-loop μ-loop middle-requires returns add-parts div-classes add-classes loop-holds add-hi
+    two-passes-requires enum-known-q enum-told returns-2 loop-less loop-again returns-3)

@@ -30,12 +30,4 @@ returns c = search (needs, mark-is)
 pub mark-spec : {M : Type 1} → statement M
 mark-spec =
     tie.close
-    (tie.spec
-    word-at-requires
-    add-wide
-    add-wide-2
-    shared-slice-read-wide
-    wide-requires
-    add-result
-    shl-result
-    returns)
+    (tie.spec word-at-requires add-wide add-wide-2 shared-slice-read-wide wide-requires add-result shl-result returns)

@@ -17,8 +17,4 @@ returns c = pass-first ((c .before .pass) .ensures)
 
 pub middle-spec : {M : Type 1} → statement M
 middle-spec =
-    tie.close (tie.spec
-    slice-aggregate-pass
-    slice-aggregate-pass-2
-    pass-requires
-    returns)
+    tie.close (tie.spec slice-aggregate-pass slice-aggregate-pass-2 pass-requires returns)

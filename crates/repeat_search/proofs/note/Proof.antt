@@ -33,13 +33,5 @@ returns-3 c = search needs
 pub note-spec : {M : Type 1} → statement M
 note-spec =
     tie.close
-    (tie.spec
-    outside-requires
-    returns
-    enter-requires
-    same-length
-    returns-2
-    enter-requires-2
-    same-length-2
-    same-length-3
-    returns-3)
+    (tie.spec outside-requires returns enter-requires same-length returns-2 enter-requires-2 same-length-2
+    same-length-3 returns-3)

@@ -62,21 +62,5 @@ returns-3 c = search (needs, passing)
 pub pass-spec : {M : Type 1} → statement M
 pass-spec =
     tie.close
-    (tie.spec
-    Inv-loop
-    μ-loop
-    loop-holds
-    probed-requires
-    enum-told
-    same-length
-    returns
-    enum-told-2
-    same-length-2
-    returns-2
-    enum-known-l
-    past-item-requires
-    add-i
-    loop-less
-    loop-again
-    same-length-3
-    returns-3)
+    (tie.spec Inv-loop μ-loop loop-holds probed-requires enum-told same-length returns enum-told-2 same-length-2
+    returns-2 enum-known-l past-item-requires add-i loop-less loop-again same-length-3 returns-3)

@@ -64,23 +64,6 @@ returns-7 c = search (needs, probing)
 pub probed-spec : {M : Type 1} → statement M
 probed-spec =
     tie.close
-    (tie.spec
-    hash-key-requires
-    outside-requires
-    returns
-    lacks-requires
-    returns-2
-    enter-requires
-    same-length
-    returns-3
-    exempt-requires
-    same-length-2
-    returns-4
-    same-length-3
-    returns-5
-    seen-requires
-    same-length-4
-    returns-6
-    sub-t21
-    same-length-5
-    returns-7)
+    (tie.spec hash-key-requires outside-requires returns lacks-requires returns-2 enter-requires same-length returns-3
+    exempt-requires same-length-2 returns-4 same-length-3 returns-5 seen-requires same-length-4 returns-6 sub-t21
+    same-length-5 returns-7)

@@ -41,15 +41,5 @@ returns-2 c = search (needs, scanning)
 pub scan-spec : {M : Type 1} → statement M
 scan-spec =
     tie.close
-    (tie.spec
-    Inv-loop
-    μ-loop
-    loop-holds
-    mark-requires
-    repeats-one-requires
-    returns
-    past-item-requires
-    add-i
-    loop-less
-    loop-again
-    returns-2)
+    (tie.spec Inv-loop μ-loop loop-holds mark-requires repeats-one-requires returns past-item-requires add-i loop-less
+    loop-again returns-2)

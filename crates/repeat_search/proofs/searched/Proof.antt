@@ -82,29 +82,6 @@ returns-5 c = search (needs, firsts)
 pub searched-spec : {M : Type 1} → statement M
 searched-spec =
     tie.close
-    (tie.spec
-    Inv-loop
-    μ-loop
-    many-requires
-    enum-known-first
-    returns
-    enum-told
-    few-requires
-    enum-known-first-2
-    returns-2
-    enum-told-2
-    loop-holds
-    fresh-seed-requires
-    many-requires-2
-    enum-known-first-3
-    returns-3
-    enum-told-3
-    few-requires-2
-    enum-known-first-4
-    returns-4
-    enum-told-4
-    add-k
-    loop-less
-    loop-again
-    scan-requires
-    returns-5)
+    (tie.spec Inv-loop μ-loop many-requires enum-known-first returns enum-told few-requires enum-known-first-2
+    returns-2 enum-told-2 loop-holds fresh-seed-requires many-requires-2 enum-known-first-3 returns-3 enum-told-3
+    few-requires-2 enum-known-first-4 returns-4 enum-told-4 add-k loop-less loop-again scan-requires returns-5)

@@ -46,16 +46,5 @@ returns c = search (needs, suspecting)
 pub suspect-spec : {M : Type 1} → statement M
 suspect-spec =
     tie.close
-    (tie.spec
-    Inv-loop
-    μ-loop
-    loop-holds
-    hash-key-requires
-    note-requires
-    past-item-requires
-    add-i
-    loop-less
-    loop-again
-    same-length
-    same-length-2
-    returns)
+    (tie.spec Inv-loop μ-loop loop-holds hash-key-requires note-requires past-item-requires add-i loop-less loop-again
+    same-length same-length-2 returns)

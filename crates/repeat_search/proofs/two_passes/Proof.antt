@@ -34,13 +34,5 @@ returns c = suspects-first ((c .before .before .before .before .before .before .
 pub two-passes-spec : {M : Type 1} → statement M
 two-passes-spec =
     tie.close
-    (tie.spec
-    slice-aggregate-suspect
-    slice-aggregate-suspect-2
-    suspect-requires
-    slice-aggregate-clear
-    clear-requires
-    slice-aggregate-pass
-    slice-aggregate-pass-2
-    pass-requires
-    returns)
+    (tie.spec slice-aggregate-suspect slice-aggregate-suspect-2 suspect-requires slice-aggregate-clear clear-requires
+    slice-aggregate-pass slice-aggregate-pass-2 pass-requires returns)

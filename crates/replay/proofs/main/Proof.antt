@@ -33,13 +33,4 @@ returns c = search needs
 pub main-spec : {M : Type 1} → statement M
 main-spec =
     tie.close
-    (tie.spec
-    Inv-loop
-    μ-loop
-    arg-count-requires
-    loop-holds
-    replay-argument-requires
-    add-i
-    loop-less
-    loop-again
-    returns)
+    (tie.spec Inv-loop μ-loop arg-count-requires loop-holds replay-argument-requires add-i loop-less loop-again returns)

@@ -70,25 +70,6 @@ returns-2 c = search needs
 pub replay-list-spec : {M : Type 1} → statement M
 replay-list-spec =
     tie.close
-    (tie.spec
-    Inv-loop
-    μ-loop
-    first-tally-requires
-    loop-holds
-    next-record-requires
-    same-length
-    same-length-2
-    same-length-3
-    same-length-4
-    same-length-5
-    returns
-    replay-record-requires
-    sub-turns
-    loop-less
-    loop-again
-    same-length-6
-    same-length-7
-    same-length-8
-    same-length-9
-    same-length-10
-    returns-2)
+    (tie.spec Inv-loop μ-loop first-tally-requires loop-holds next-record-requires same-length same-length-2
+    same-length-3 same-length-4 same-length-5 returns replay-record-requires sub-turns loop-less loop-again
+    same-length-6 same-length-7 same-length-8 same-length-9 same-length-10 returns-2)

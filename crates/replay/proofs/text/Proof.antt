@@ -48,18 +48,6 @@ returns-3 c = search needs
 pub text-spec : {M : Type 1} → statement M
 text-spec =
     tie.close
-    (tie.spec
-    long-requires
-    long-requires-2
-    opening-requires
-    enum-known-opened
-    hold-refusal-requires
-    enum-known-opened-2
-    read-string-requires
-    enum-known-start
-    hold-text-requires
-    enum-known-r
-    hold-refusal-requires-2
-    returns
-    returns-2
-    returns-3)
+    (tie.spec long-requires long-requires-2 opening-requires enum-known-opened hold-refusal-requires
+    enum-known-opened-2 read-string-requires enum-known-start hold-text-requires enum-known-r hold-refusal-requires-2
+    returns returns-2 returns-3)

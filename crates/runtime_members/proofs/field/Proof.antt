@@ -29,11 +29,5 @@ returns c = search (needs, reading)
 pub field-spec : {M : Type 1} → statement M
 field-spec =
     tie.close
-    (tie.spec
-    field-member-name-requires
-    field-value-rttid-requires
-    field-str-requires
-    field-bool-requires
-    field-str-requires-2
-    same-length
-    returns)
+    (tie.spec field-member-name-requires field-value-rttid-requires field-str-requires field-bool-requires
+    field-str-requires-2 same-length returns)

@@ -69,24 +69,6 @@ returns-3 c = numberedDone ((c .before .before .before .before .q) .given .1) ((
 pub number-methods-spec : {M : Type 1} → statement M
 number-methods-spec =
     tie.close
-    (tie.spec
-    Inv-loop
-    μ-loop
-    number-count-requires
-    enum-known-q
-    enum-told
-    same-length
-    returns
-    loop-holds
-    method-requires
-    enum-told-2
-    enum-told-3
-    number-of-requires
-    same-length-2
-    returns-2
-    sub-k
-    loop-less
-    loop-again
-    number-of-requires-2
-    same-length-3
-    returns-3)
+    (tie.spec Inv-loop μ-loop number-count-requires enum-known-q enum-told same-length returns loop-holds
+    method-requires enum-told-2 enum-told-3 number-of-requires same-length-2 returns-2 sub-k loop-less loop-again
+    number-of-requires-2 same-length-3 returns-3)

@@ -58,20 +58,6 @@ returns-3 c = lastTwo ((c .before .before .before .before .before .before .befor
 pub array-spec : {M : Type 1} → statement M
 array-spec =
     tie.close
-    (tie.spec
-    number-u64-requires
-    enum-known-q1
-    enum-told
-    type-refusal-requires
-    same-length
-    returns
-    number-value-rttid-requires
-    enum-known-q2
-    enum-told-2
-    type-refusal-requires-2
-    same-length-2
-    returns-2
-    cast-t15
-    bare-requires
-    same-length-3
-    returns-3)
+    (tie.spec number-u64-requires enum-known-q1 enum-told type-refusal-requires same-length returns
+    number-value-rttid-requires enum-known-q2 enum-told-2 type-refusal-requires-2 same-length-2 returns-2 cast-t15
+    bare-requires same-length-3 returns-3)

@@ -80,26 +80,7 @@ returns-4 c = lastThree ((c .before .before .before .before .before .before .bef
 pub func-spec : {M : Type 1} → statement M
 func-spec =
     tie.close
-    (tie.spec
-    number-bool-requires
-    enum-known-q1
-    enum-told
-    type-refusal-requires
-    same-length
-    returns
-    number-rttids-requires
-    enum-known-q2
-    enum-told-2
-    type-refusal-requires-2
-    same-length-2
-    returns-2
-    number-rttids-requires-2
-    enum-known-q3
-    enum-told-3
-    type-refusal-requires-3
-    same-length-3
-    returns-3
-    list-at-requires
-    list-at-requires-2
-    same-length-4
-    returns-4)
+    (tie.spec number-bool-requires enum-known-q1 enum-told type-refusal-requires same-length returns
+    number-rttids-requires enum-known-q2 enum-told-2 type-refusal-requires-2 same-length-2 returns-2
+    number-rttids-requires-2 enum-known-q3 enum-told-3 type-refusal-requires-3 same-length-3 returns-3 list-at-requires
+    list-at-requires-2 same-length-4 returns-4)

@@ -61,21 +61,6 @@ returns-3 c = lastTwo ((c .before .before .before .before .before .before .befor
 pub named-spec : {M : Type 1} → statement M
 named-spec =
     tie.close
-    (tie.spec
-    number-u32-requires
-    enum-known-q1
-    enum-told
-    type-refusal-requires
-    same-length
-    returns
-    number-optional-id-requires
-    enum-known-q2
-    enum-told-2
-    type-refusal-requires-2
-    same-length-2
-    returns-2
-    cast-t15
-    optional-id-requires
-    bare-requires
-    same-length-3
-    returns-3)
+    (tie.spec number-u32-requires enum-known-q1 enum-told type-refusal-requires same-length returns
+    number-optional-id-requires enum-known-q2 enum-told-2 type-refusal-requires-2 same-length-2 returns-2 cast-t15
+    optional-id-requires bare-requires same-length-3 returns-3)

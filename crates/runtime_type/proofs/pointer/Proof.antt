@@ -40,14 +40,5 @@ returns-2 c = recordedLast ((c .before .before .q) .given .1) ((c .before .befor
 pub pointer-spec : {M : Type 1} → statement M
 pointer-spec =
     tie.close
-    (tie.spec
-    number-value-rttid-requires
-    enum-known-q
-    enum-told
-    type-refusal-requires
-    same-length
-    returns
-    cast-t10
-    bare-requires
-    same-length-2
-    returns-2)
+    (tie.spec number-value-rttid-requires enum-known-q enum-told type-refusal-requires same-length returns cast-t10
+    bare-requires same-length-2 returns-2)

@@ -168,49 +168,9 @@ returns-14 c = variantAt (runtimeVariants (settingsOf (now (c .before .before .b
 pub runtime-type-spec : {M : Type 1} → statement M
 runtime-type-spec =
     tie.close
-    (tie.spec
-    number-runtime-tag-requires
-    enum-known-q
-    enum-told
-    type-refusal-requires
-    same-length
-    returns
-    basic-requires
-    named-requires
-    pointer-requires
-    array-requires
-    slice-requires
-    map-requires
-    chan-requires
-    func-requires
-    struct-type-requires
-    interface-requires
-    tuple-requires
-    port-requires
-    bare-requires
-    same-length-2
-    returns-2
-    same-length-3
-    returns-3
-    same-length-4
-    returns-4
-    same-length-5
-    returns-5
-    same-length-6
-    returns-6
-    same-length-7
-    returns-7
-    same-length-8
-    returns-8
-    same-length-9
-    returns-9
-    same-length-10
-    returns-10
-    same-length-11
-    returns-11
-    same-length-12
-    returns-12
-    same-length-13
-    returns-13
-    same-length-14
-    returns-14)
+    (tie.spec number-runtime-tag-requires enum-known-q enum-told type-refusal-requires same-length returns
+    basic-requires named-requires pointer-requires array-requires slice-requires map-requires chan-requires
+    func-requires struct-type-requires interface-requires tuple-requires port-requires bare-requires same-length-2
+    returns-2 same-length-3 returns-3 same-length-4 returns-4 same-length-5 returns-5 same-length-6 returns-6
+    same-length-7 returns-7 same-length-8 returns-8 same-length-9 returns-9 same-length-10 returns-10 same-length-11
+    returns-11 same-length-12 returns-12 same-length-13 returns-13 same-length-14 returns-14)

@@ -84,27 +84,6 @@ returns-4 c = list-done ((c .before .before .before .before .before .before .bef
 pub runtime-types-spec : {M : Type 1} → statement M
 runtime-types-spec =
     tie.close
-    (tie.spec
-    Inv-loop
-    μ-loop
-    enum-known-r
-    enum-told
-    returns
-    number-count-requires
-    enum-known-q
-    enum-told-2
-    step-of-requires
-    same-length
-    returns-2
-    loop-holds
-    runtime-type-requires
-    enum-known-item
-    enum-told-3
-    type-step-requires
-    same-length-2
-    returns-3
-    sub-k
-    loop-less
-    loop-again
-    same-length-3
-    returns-4)
+    (tie.spec Inv-loop μ-loop enum-known-r enum-told returns number-count-requires enum-known-q enum-told-2
+    step-of-requires same-length returns-2 loop-holds runtime-type-requires enum-known-item enum-told-3
+    type-step-requires same-length-2 returns-3 sub-k loop-less loop-again same-length-3 returns-4)

@@ -38,13 +38,5 @@ returns-2 c = recordedLast ((c .before .before .q) .given .1) ((c .before .befor
 pub tuple-spec : {M : Type 1} → statement M
 tuple-spec =
     tie.close
-    (tie.spec
-    number-rttids-requires
-    enum-known-q
-    enum-told
-    type-refusal-requires
-    same-length
-    returns
-    list-at-requires
-    same-length-2
-    returns-2)
+    (tie.spec number-rttids-requires enum-known-q enum-told type-refusal-requires same-length returns list-at-requires
+    same-length-2 returns-2)

@@ -49,16 +49,5 @@ returns-2 c = section-taken settings (functionsOf ((c .before .before .before .b
 pub read-section-spec : {M : Type 1} → statement M
 read-section-spec =
     tie.close
-    (tie.spec
-    opening-requires
-    slice-relend-prefix-section
-    slice-aggregate-section
-    section-requires
-    closed-requires
-    enum-told
-    enum-told-2
-    same-length
-    returns
-    section-requires-2
-    same-length-2
-    returns-2)
+    (tie.spec opening-requires slice-relend-prefix-section slice-aggregate-section section-requires closed-requires
+    enum-told enum-told-2 same-length returns section-requires-2 same-length-2 returns-2)

@@ -69,23 +69,6 @@ returns-3 c = numberedDone ((c .before .before .before .q) .given .1) ((c .befor
 pub number-select-cases-spec : {M : Type 1} → statement M
 number-select-cases-spec =
     tie.close
-    (tie.spec
-    Inv-loop
-    μ-loop
-    number-count-requires
-    enum-known-q
-    enum-told
-    same-length
-    returns
-    loop-holds
-    select-case-requires
-    enum-known-item
-    enum-told-2
-    number-refusal-requires
-    same-length-2
-    returns-2
-    sub-k
-    loop-less
-    loop-again
-    same-length-3
-    returns-3)
+    (tie.spec Inv-loop μ-loop number-count-requires enum-known-q enum-told same-length returns loop-holds
+    select-case-requires enum-known-item enum-told-2 number-refusal-requires same-length-2 returns-2 sub-k loop-less
+    loop-again same-length-3 returns-3)

@@ -99,33 +99,8 @@ returns-5 c = lastFour ((c .before .before .before .before .before .before .befo
 pub recv-spec : {M : Type 1} → statement M
 recv-spec =
     tie.close
-    (tie.spec
-    number-u16-requires
-    enum-known-q1
-    enum-told
-    select-refusal-requires
-    same-length
-    returns
-    number-u16-requires-2
-    enum-known-q2
-    enum-told-2
-    select-refusal-requires-2
-    same-length-2
-    returns-2
-    number-u16-requires-3
-    enum-known-q3
-    enum-told-3
-    select-refusal-requires-3
-    same-length-3
-    returns-3
-    number-bool-requires
-    enum-known-q4
-    enum-told-4
-    select-refusal-requires-4
-    same-length-4
-    returns-4
-    cast-t24
-    cast-t25
-    cast-t26
-    same-length-5
-    returns-5)
+    (tie.spec number-u16-requires enum-known-q1 enum-told select-refusal-requires same-length returns
+    number-u16-requires-2 enum-known-q2 enum-told-2 select-refusal-requires-2 same-length-2 returns-2
+    number-u16-requires-3 enum-known-q3 enum-told-3 select-refusal-requires-3 same-length-3 returns-3
+    number-bool-requires enum-known-q4 enum-told-4 select-refusal-requires-4 same-length-4 returns-4 cast-t24 cast-t25
+    cast-t26 same-length-5 returns-5)

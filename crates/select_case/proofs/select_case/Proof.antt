@@ -46,16 +46,5 @@ returns-3 c = selectAt 1 ((c .before .before .before .before .before .before .q)
 pub select-case-spec : {M : Type 1} → statement M
 select-case-spec =
     tie.close
-    (tie.spec
-    number-select-tag-requires
-    enum-known-q
-    enum-told
-    select-refusal-requires
-    same-length
-    returns
-    send-requires
-    same-length-2
-    returns-2
-    recv-requires
-    same-length-3
-    returns-3)
+    (tie.spec number-select-tag-requires enum-known-q enum-told select-refusal-requires same-length returns
+    send-requires same-length-2 returns-2 recv-requires same-length-3 returns-3)

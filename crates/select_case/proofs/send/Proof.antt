@@ -80,27 +80,7 @@ returns-4 c = lastThree ((c .before .before .before .before .before .before .bef
 pub send-spec : {M : Type 1} → statement M
 send-spec =
     tie.close
-    (tie.spec
-    number-u16-requires
-    enum-known-q1
-    enum-told
-    select-refusal-requires
-    same-length
-    returns
-    number-u16-requires-2
-    enum-known-q2
-    enum-told-2
-    select-refusal-requires-2
-    same-length-2
-    returns-2
-    number-u16-requires-3
-    enum-known-q3
-    enum-told-3
-    select-refusal-requires-3
-    same-length-3
-    returns-3
-    cast-t19
-    cast-t20
-    cast-t21
-    same-length-4
-    returns-4)
+    (tie.spec number-u16-requires enum-known-q1 enum-told select-refusal-requires same-length returns
+    number-u16-requires-2 enum-known-q2 enum-told-2 select-refusal-requires-2 same-length-2 returns-2
+    number-u16-requires-3 enum-known-q3 enum-told-3 select-refusal-requires-3 same-length-3 returns-3 cast-t19 cast-t20
+    cast-t21 same-length-4 returns-4)

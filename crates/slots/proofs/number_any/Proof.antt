@@ -49,17 +49,5 @@ returns-3 c = numberedItems ((c .before .before .before .before .before .before 
 pub number-any-spec : {M : Type 1} → statement M
 number-any-spec =
     tie.close
-    (tie.spec
-    number-count-requires
-    enum-known-q
-    enum-told
-    same-length
-    returns
-    slot-types-requires
-    enum-known-r
-    enum-told-2
-    number-of-requires
-    same-length-2
-    returns-2
-    same-length-3
-    returns-3)
+    (tie.spec number-count-requires enum-known-q enum-told same-length returns slot-types-requires enum-known-r
+    enum-told-2 number-of-requires same-length-2 returns-2 same-length-3 returns-3)

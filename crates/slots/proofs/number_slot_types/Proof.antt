@@ -51,18 +51,5 @@ returns-2 c = rw (⊎-elim (λ w. w .6 ∙ keeps-other (w .5 .left) (w .2 .ensur
 pub number-slot-types-spec : {M : Type 1} → statement M
 number-slot-types-spec =
     tie.close
-    (tie.spec
-    size-requires
-    mul-if1
-    short-requires
-    add-t19
-    add-t20
-    mul-t22
-    sub-t23
-    add-t24
-    add-t25
-    same-length
-    returns
-    number-any-requires
-    same-length-2
-    returns-2)
+    (tie.spec size-requires mul-if1 short-requires add-t19 add-t20 mul-t22 sub-t23 add-t24 add-t25 same-length returns
+    number-any-requires same-length-2 returns-2)

@@ -203,69 +203,12 @@ returns-10 c = other
 pub short-spec : {M : Type 1} → statement M
 short-spec =
     tie.close
-    (tie.spec
-    sub-if1
-    returns
-    shared-slice-read-first
-    add-fourth
-    shared-slice-read-fourth
-    add-t11
-    shared-slice-read-t18
-    add-third
-    shared-slice-read-third
-    le4-requires
-    add-first
-    shared-slice-read-first-2
-    returns-2
-    put-requires
-    add-put
-    wide-requires
-    put-requires-2
-    same-length
-    returns-3
-    add-second
-    shared-slice-read-second
-    returns-4
-    put-requires-3
-    add-put-2
-    wide-requires-2
-    put-requires-4
-    add-put-3
-    wide-requires-3
-    put-requires-5
-    same-length-2
-    returns-5
-    add-third-2
-    shared-slice-read-third-2
-    returns-6
-    put-requires-6
-    add-put-4
-    wide-requires-4
-    put-requires-7
-    add-put-5
-    wide-requires-5
-    put-requires-8
-    add-put-6
-    wide-requires-6
-    put-requires-9
-    same-length-3
-    returns-7
-    add-fourth-2
-    shared-slice-read-fourth-2
-    returns-8
-    put-requires-10
-    add-put-7
-    wide-requires-7
-    put-requires-11
-    add-put-8
-    wide-requires-8
-    put-requires-12
-    add-put-9
-    wide-requires-9
-    put-requires-13
-    add-put-10
-    wide-requires-10
-    put-requires-14
-    same-length-4
-    returns-9
-    returns-10)
+    (tie.spec sub-if1 returns shared-slice-read-first add-fourth shared-slice-read-fourth add-t11 shared-slice-read-t18
+    add-third shared-slice-read-third le4-requires add-first shared-slice-read-first-2 returns-2 put-requires add-put
+    wide-requires put-requires-2 same-length returns-3 add-second shared-slice-read-second returns-4 put-requires-3
+    add-put-2 wide-requires-2 put-requires-4 add-put-3 wide-requires-3 put-requires-5 same-length-2 returns-5
+    add-third-2 shared-slice-read-third-2 returns-6 put-requires-6 add-put-4 wide-requires-4 put-requires-7 add-put-5
+    wide-requires-5 put-requires-8 add-put-6 wide-requires-6 put-requires-9 same-length-3 returns-7 add-fourth-2
+    shared-slice-read-fourth-2 returns-8 put-requires-10 add-put-7 wide-requires-7 put-requires-11 add-put-8
+    wide-requires-8 put-requires-12 add-put-9 wide-requires-9 put-requires-13 add-put-10 wide-requires-10
+    put-requires-14 same-length-4 returns-9 returns-10)

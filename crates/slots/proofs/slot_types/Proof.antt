@@ -65,22 +65,5 @@ returns-3 c = at-step ((c .before .before .before .before .before .before .befor
 pub slot-types-spec : {M : Type 1} → statement M
 slot-types-spec =
     tie.close
-    (tie.spec
-    enum-known-r
-    enum-told
-    returns
-    size-requires
-    mul-if1
-    short-requires
-    add-t19
-    add-t20
-    mul-t22
-    sub-t23
-    add-t24
-    add-t25
-    same-length
-    returns-2
-    number-any-requires
-    step-of-requires
-    same-length-2
-    returns-3)
+    (tie.spec enum-known-r enum-told returns size-requires mul-if1 short-requires add-t19 add-t20 mul-t22 sub-t23
+    add-t24 add-t25 same-length returns-2 number-any-requires step-of-requires same-length-2 returns-3)

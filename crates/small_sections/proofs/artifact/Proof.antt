@@ -23,9 +23,4 @@ returns c = search (needs, reading)
 pub artifact-spec : {M : Type 1} → statement M
 artifact-spec =
     tie.close
-    (tie.spec
-    field-artifact-name-requires
-    field-u32-requires
-    field-artifact-payload-requires
-    same-length
-    returns)
+    (tie.spec field-artifact-name-requires field-u32-requires field-artifact-payload-requires same-length returns)

@@ -51,19 +51,5 @@ returns-4 c = search (needs, reading)
 pub error-field-offsets-spec : {M : Type 1} → statement M
 error-field-offsets-spec =
     tie.close
-    (tie.spec
-    enum-known-r
-    enum-told
-    returns
-    number-bool-requires
-    enum-known-q
-    enum-told-2
-    step-of-requires
-    same-length
-    returns-2
-    same-length-2
-    returns-3
-    field-u16-requires
-    field-u16-requires-2
-    same-length-3
-    returns-4)
+    (tie.spec enum-known-r enum-told returns number-bool-requires enum-known-q enum-told-2 step-of-requires same-length
+    returns-2 same-length-2 returns-3 field-u16-requires field-u16-requires-2 same-length-3 returns-4)

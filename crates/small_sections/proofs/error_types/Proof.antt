@@ -29,11 +29,5 @@ returns c = search (needs, reading)
 pub error-types-spec : {M : Type 1} → statement M
 error-types-spec =
     tie.close
-    (tie.spec
-    field-optional-id-requires
-    field-optional-id-requires-2
-    field-optional-id-requires-3
-    field-optional-id-requires-4
-    error-field-offsets-requires
-    same-length
-    returns)
+    (tie.spec field-optional-id-requires field-optional-id-requires-2 field-optional-id-requires-3
+    field-optional-id-requires-4 error-field-offsets-requires same-length returns)

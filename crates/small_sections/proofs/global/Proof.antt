@@ -29,11 +29,5 @@ returns c = search (needs, reading)
 pub global-spec : {M : Type 1} → statement M
 global-spec =
     tie.close
-    (tie.spec
-    field-str-requires
-    field-u16-requires
-    field-value-kind-requires
-    field-u32-requires
-    slot-types-requires
-    same-length
-    returns)
+    (tie.spec field-str-requires field-u16-requires field-value-kind-requires field-u32-requires slot-types-requires
+    same-length returns)

@@ -29,11 +29,5 @@ returns c = search (needs, reading)
 pub object-interfaces-spec : {M : Type 1} → statement M
 object-interfaces-spec =
     tie.close
-    (tie.spec
-    field-optional-id-requires
-    field-optional-id-requires-2
-    field-optional-id-requires-3
-    field-optional-id-requires-4
-    field-optional-id-requires-5
-    same-length
-    returns)
+    (tie.spec field-optional-id-requires field-optional-id-requires-2 field-optional-id-requires-3
+    field-optional-id-requires-4 field-optional-id-requires-5 same-length returns)

@@ -41,15 +41,5 @@ returns c = search needs
 pub fill-spec : {M : Type 1} → statement M
 fill-spec =
     tie.close
-    (tie.spec
-    Inv-loop
-    μ-loop
-    loop-holds
-    wrapping-add-u32-requires
-    mul-tape
-    slice-write-tape
-    add-i
-    loop-less
-    loop-again
-    same-length
-    returns)
+    (tie.spec Inv-loop μ-loop loop-holds wrapping-add-u32-requires mul-tape slice-write-tape add-i loop-less loop-again
+    same-length returns)

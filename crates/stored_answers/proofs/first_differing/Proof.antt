@@ -40,15 +40,5 @@ returns-3 c = search needs
 pub first-differing-spec : {M : Type 1} → statement M
 first-differing-spec =
     tie.close
-    (tie.spec
-    Inv-loop
-    μ-loop
-    loop-holds
-    returns
-    shared-slice-read-if2
-    shared-slice-read-if2-2
-    returns-2
-    add-i
-    loop-less
-    loop-again
-    returns-3)
+    (tie.spec Inv-loop μ-loop loop-holds returns shared-slice-read-if2 shared-slice-read-if2-2 returns-2 add-i
+    loop-less loop-again returns-3)

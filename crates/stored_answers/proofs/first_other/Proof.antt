@@ -46,17 +46,5 @@ returns-2 c = search needs
 pub first-other-spec : {M : Type 1} → statement M
 first-other-spec =
     tie.close
-    (tie.spec
-    Inv-loop
-    μ-loop
-    loop-holds
-    mul-word
-    shared-slice-read-word
-    word-requires
-    mul-number
-    number-requires
-    returns
-    add-i
-    loop-less
-    loop-again
-    returns-2)
+    (tie.spec Inv-loop μ-loop loop-holds mul-word shared-slice-read-word word-requires mul-number number-requires
+    returns add-i loop-less loop-again returns-2)

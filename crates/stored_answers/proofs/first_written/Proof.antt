@@ -40,15 +40,5 @@ returns-2 c = search needs
 pub first-written-spec : {M : Type 1} → statement M
 first-written-spec =
     tie.close
-    (tie.spec
-    Inv-loop
-    μ-loop
-    loop-holds
-    wrapping-add-u32-requires
-    mul-if1
-    shared-slice-read-if1
-    returns
-    add-i
-    loop-less
-    loop-again
-    returns-2)
+    (tie.spec Inv-loop μ-loop loop-holds wrapping-add-u32-requires mul-if1 shared-slice-read-if1 returns add-i
+    loop-less loop-again returns-2)

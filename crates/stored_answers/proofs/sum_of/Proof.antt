@@ -40,15 +40,5 @@ returns c = search needs
 pub sum-of-spec : {M : Type 1} → statement M
 sum-of-spec =
     tie.close
-    (tie.spec
-    Inv-loop
-    μ-loop
-    loop-holds
-    wrapping-sub-u32-requires
-    mul-wrapping-add-u32
-    shared-slice-read-wrapping-add-u32
-    wrapping-add-u32-requires
-    add-i
-    loop-less
-    loop-again
-    returns)
+    (tie.spec Inv-loop μ-loop loop-holds wrapping-sub-u32-requires mul-wrapping-add-u32
+    shared-slice-read-wrapping-add-u32 wrapping-add-u32-requires add-i loop-less loop-again returns)

@@ -32,12 +32,5 @@ returns c = search (needs, reading)
 pub struct-field-spec : {M : Type 1} → statement M
 struct-field-spec =
     tie.close
-    (tie.spec
-    field-member-name-requires
-    field-u16-requires
-    field-u16-requires-2
-    field-value-rttid-requires
-    field-bool-requires
-    field-optional-str-requires
-    same-length
-    returns)
+    (tie.spec field-member-name-requires field-u16-requires field-u16-requires-2 field-value-rttid-requires
+    field-bool-requires field-optional-str-requires same-length returns)

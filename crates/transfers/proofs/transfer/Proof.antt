@@ -40,15 +40,5 @@ returns-3 c = transfer-meta ((c .before .before .before .before .before .pre) .h
 pub transfer-spec : {M : Type 1} → statement M
 transfer-spec =
     tie.close
-    (tie.spec
-    word-at-requires
-    packed-ok-requires
-    add-word-at
-    word-at-requires-2
-    packed-ok-requires-2
-    returns
-    add-bad-word
-    bad-word-requires
-    returns-2
-    bad-word-requires-2
-    returns-3)
+    (tie.spec word-at-requires packed-ok-requires add-word-at word-at-requires-2 packed-ok-requires-2 returns
+    add-bad-word bad-word-requires returns-2 bad-word-requires-2 returns-3)

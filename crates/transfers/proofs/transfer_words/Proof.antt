@@ -38,14 +38,5 @@ returns-3 c = list-asked ((c .before .before .before .r) .given .1) ((c .before 
 pub transfer-words-spec : {M : Type 1} → statement M
 transfer-words-spec =
     tie.close
-    (tie.spec
-    enum-known-r1
-    enum-told
-    returns
-    enum-known-r
-    enum-told-2
-    returns-2
-    word-at-requires
-    add-transfers
-    transfers-requires
-    returns-3)
+    (tie.spec enum-known-r1 enum-told returns enum-known-r enum-told-2 returns-2 word-at-requires add-transfers
+    transfers-requires returns-3)

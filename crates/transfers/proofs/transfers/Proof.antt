@@ -48,16 +48,5 @@ returns-2 c = search (needs, asking)
 pub transfers-spec : {M : Type 1} → statement M
 transfers-spec =
     tie.close
-    (tie.spec
-    Inv-loop
-    μ-loop
-    loop-holds
-    transfer-requires
-    enum-known-step
-    enum-told
-    returns
-    add-p
-    add-i
-    loop-less
-    loop-again
-    returns-2)
+    (tie.spec Inv-loop μ-loop loop-holds transfer-requires enum-known-step enum-told returns add-p add-i loop-less
+    loop-again returns-2)

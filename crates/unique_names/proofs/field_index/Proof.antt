@@ -61,21 +61,6 @@ returns-4 c = list-asked ((c .before .before .before .before .before .before .be
 pub field-index-spec : {M : Type 1} → statement M
 field-index-spec =
     tie.close
-    (tie.spec
-    enum-known-r1
-    enum-told
-    returns
-    enum-known-r
-    enum-told-2
-    returns-2
-    word-at-requires
-    add-from
-    named-requires
-    size-requires
-    mul-size
-    charge-allocation-requires
-    enum-known-paid
-    enum-told-3
-    returns-3
-    distinct-requires
-    returns-4)
+    (tie.spec enum-known-r1 enum-told returns enum-known-r enum-told-2 returns-2 word-at-requires add-from
+    named-requires size-requires mul-size charge-allocation-requires enum-known-paid enum-told-3 returns-3
+    distinct-requires returns-4)

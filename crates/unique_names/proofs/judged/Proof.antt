@@ -47,4 +47,5 @@ returns-3 : tie.Need-returns-3 Inv-loop μ-loop
 returns-3 c = search (needs, judging)
 
 pub judged-spec : {M : Type 1} → statement M
-judged-spec = tie.close (tie.spec Inv-loop μ-loop loop-holds charge-key-requires enum-known-paid enum-told returns refuse-repeat-requires returns-2 past-item-requires add-i loop-less loop-again returns-3)
+judged-spec = tie.close (tie.spec Inv-loop μ-loop loop-holds charge-key-requires enum-known-paid enum-told returns refuse-repeat-requires
+    returns-2 past-item-requires add-i loop-less loop-again returns-3)

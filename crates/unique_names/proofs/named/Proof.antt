@@ -50,18 +50,5 @@ returns c = search (needs, counting)
 pub named-spec : {M : Type 1} → statement M
 named-spec =
     tie.close
-    (tie.spec
-    Inv-loop
-    μ-loop
-    loop-holds
-    blank-requires
-    unless-requires
-    add-names
-    word-at-requires
-    unless-requires-2
-    add-bytes
-    past-requires
-    sub-k
-    loop-less
-    loop-again
-    returns)
+    (tie.spec Inv-loop μ-loop loop-holds blank-requires unless-requires add-names word-at-requires unless-requires-2
+    add-bytes past-requires sub-k loop-less loop-again returns)

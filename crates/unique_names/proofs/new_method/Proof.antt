@@ -38,14 +38,5 @@ returns-4 c = method-new ((c .before .before .before .r) .given .1) ((c .before 
 pub new-method-spec : {M : Type 1} → statement M
 new-method-spec =
     tie.close
-    (tie.spec
-    enum-known-r1
-    enum-told
-    returns
-    enum-known-r
-    enum-told-2
-    returns-2
-    seen-requires
-    repeated-requires
-    returns-3
-    returns-4)
+    (tie.spec enum-known-r1 enum-told returns enum-known-r enum-told-2 returns-2 seen-requires repeated-requires
+    returns-3 returns-4)

@@ -43,15 +43,5 @@ returns-3 c = search (needs, answering)
 pub refuse-repeat-spec : {M : Type 1} → statement M
 refuse-repeat-spec =
     tie.close
-    (tie.spec
-    enum-told
-    repeated-requires
-    enum-told-2
-    repeated-requires-2
-    enum-told-3
-    package-at-requires
-    add-repeated
-    repeated-requires-3
-    returns
-    returns-2
-    returns-3)
+    (tie.spec enum-told repeated-requires enum-told-2 repeated-requires-2 enum-told-3 package-at-requires add-repeated
+    repeated-requires-3 returns returns-2 returns-3)

@@ -40,15 +40,5 @@ returns c = search (needs, oring)
 pub ascii-spec : {M : Type 1} → statement M
 ascii-spec =
     tie.close
-    (tie.spec
-    Inv-loop
-    μ-loop
-    loop-holds
-    add-m
-    shared-slice-read-m
-    add-m-2
-    shared-slice-read-m-2
-    add-k
-    loop-less
-    loop-again
-    returns)
+    (tie.spec Inv-loop μ-loop loop-holds add-m shared-slice-read-m add-m-2 shared-slice-read-m-2 add-k loop-less
+    loop-again returns)

@@ -63,23 +63,5 @@ returns-5 c = search (needs, charing)
 pub char-spec : {M : Type 1} → statement M
 char-spec =
     tie.close
-    (tie.spec
-    Inv-loop
-    μ-loop
-    shared-slice-read-lead
-    lead-requires
-    enum-known-m
-    enum-told
-    returns
-    add-i
-    loop-holds
-    returns-2
-    shared-slice-read-b
-    returns-3
-    returns-4
-    sub-more
-    add-i-2
-    loop-less
-    loop-again
-    add-t19
-    returns-5)
+    (tie.spec Inv-loop μ-loop shared-slice-read-lead lead-requires enum-known-m enum-told returns add-i loop-holds
+    returns-2 shared-slice-read-b returns-3 returns-4 sub-more add-i-2 loop-less loop-again add-t19 returns-5)

@@ -37,14 +37,5 @@ returns c = search (needs, rising)
 pub largest-spec : {M : Type 1} → statement M
 largest-spec =
     tie.close
-    (tie.spec
-    Inv-loop
-    μ-loop
-    loop-holds
-    add-larger
-    shared-slice-read-larger
-    larger-requires
-    add-k
-    loop-less
-    loop-again
+    (tie.spec Inv-loop μ-loop loop-holds add-larger shared-slice-read-larger larger-requires add-k loop-less loop-again
     returns)

@@ -40,15 +40,5 @@ returns-11 c = let b = c .before .before .before .before .before .before .before
 pub lead-spec : {M : Type 1} → statement M
 lead-spec =
     tie.close
-    (tie.spec
-    returns
-    returns-2
-    returns-3
-    returns-4
-    returns-5
-    returns-6
-    returns-7
-    returns-8
-    returns-9
-    returns-10
+    (tie.spec returns returns-2 returns-3 returns-4 returns-5 returns-6 returns-7 returns-8 returns-9 returns-10
     returns-11)

@@ -50,18 +50,5 @@ returns c = lows-done (omega arith) (omega arith) (omega arith) (c .before .loop
 pub low-sixteen-spec : {M : Type 1} → statement M
 low-sixteen-spec =
     tie.close
-    (tie.spec
-    Inv-loop
-    μ-loop
-    cast-x
-    add-x
-    sub-from
-    loop-holds
-    add-kept
-    shared-slice-read-kept
-    kept-requires
-    add-x-2
-    add-k
-    loop-less
-    loop-again
-    returns)
+    (tie.spec Inv-loop μ-loop cast-x add-x sub-from loop-holds add-kept shared-slice-read-kept kept-requires add-x-2
+    add-k loop-less loop-again returns)

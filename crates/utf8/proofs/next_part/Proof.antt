@@ -71,25 +71,7 @@ returns-5 c = part-sixteen (omega arith) (c .sixteen .ensures .0) (c .sixteen .e
 pub next-part-spec : {M : Type 1} → statement M
 next-part-spec =
     tie.close
-    (tie.spec
-    sub-if1
-    largest-requires
-    sub-larger
-    shared-slice-read-larger
-    larger-requires
-    sub-larger-2
-    shared-slice-read-larger-2
-    sub-larger-3
-    shared-slice-read-larger-3
-    larger-requires-2
-    larger-requires-3
-    returns
-    part-two-requires
-    returns-2
-    part-three-requires
-    returns-3
-    part-four-requires
-    returns-4
-    add-sixteen
-    sixteen-requires
+    (tie.spec sub-if1 largest-requires sub-larger shared-slice-read-larger larger-requires sub-larger-2
+    shared-slice-read-larger-2 sub-larger-3 shared-slice-read-larger-3 larger-requires-2 larger-requires-3 returns
+    part-two-requires returns-2 part-three-requires returns-3 part-four-requires returns-4 add-sixteen sixteen-requires
     returns-5)

@@ -65,23 +65,6 @@ returns c = search (needs, testing)
 pub part-four-spec : {M : Type 1} → statement M
 part-four-spec =
     tie.close
-    (tie.spec
-    Inv-loop
-    μ-loop
-    loop-holds
-    add-i
-    sub-wrong-four
-    shared-slice-read-wrong-four
-    sub-wrong-four-2
-    shared-slice-read-wrong-four-2
-    sub-wrong-four-3
-    shared-slice-read-wrong-four-3
-    shared-slice-read-wrong-four-4
-    wrong-four-requires
-    shared-slice-read-trailing
-    trailing-requires
-    add-n
-    add-k
-    loop-less
-    loop-again
-    returns)
+    (tie.spec Inv-loop μ-loop loop-holds add-i sub-wrong-four shared-slice-read-wrong-four sub-wrong-four-2
+    shared-slice-read-wrong-four-2 sub-wrong-four-3 shared-slice-read-wrong-four-3 shared-slice-read-wrong-four-4
+    wrong-four-requires shared-slice-read-trailing trailing-requires add-n add-k loop-less loop-again returns)

@@ -59,21 +59,6 @@ returns c = search (needs, testing)
 pub part-three-spec : {M : Type 1} → statement M
 part-three-spec =
     tie.close
-    (tie.spec
-    Inv-loop
-    μ-loop
-    loop-holds
-    add-i
-    sub-wrong-three
-    shared-slice-read-wrong-three
-    sub-wrong-three-2
-    shared-slice-read-wrong-three-2
-    shared-slice-read-wrong-three-3
-    wrong-three-requires
-    shared-slice-read-trailing
-    trailing-requires
-    add-n
-    add-k
-    loop-less
-    loop-again
-    returns)
+    (tie.spec Inv-loop μ-loop loop-holds add-i sub-wrong-three shared-slice-read-wrong-three sub-wrong-three-2
+    shared-slice-read-wrong-three-2 shared-slice-read-wrong-three-3 wrong-three-requires shared-slice-read-trailing
+    trailing-requires add-n add-k loop-less loop-again returns)

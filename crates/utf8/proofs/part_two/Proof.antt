@@ -54,19 +54,5 @@ returns c = search (needs, testing)
 pub part-two-spec : {M : Type 1} → statement M
 part-two-spec =
     tie.close
-    (tie.spec
-    Inv-loop
-    μ-loop
-    loop-holds
-    add-i
-    sub-wrong-two
-    shared-slice-read-wrong-two
-    shared-slice-read-wrong-two-2
-    wrong-two-requires
-    shared-slice-read-trailing
-    trailing-requires
-    add-n
-    add-k
-    loop-less
-    loop-again
-    returns)
+    (tie.spec Inv-loop μ-loop loop-holds add-i sub-wrong-two shared-slice-read-wrong-two shared-slice-read-wrong-two-2
+    wrong-two-requires shared-slice-read-trailing trailing-requires add-n add-k loop-less loop-again returns)

@@ -66,23 +66,5 @@ sixteen-requires c κs = search needs
 pub parts-spec : {M : Type 1} → statement M
 parts-spec =
     tie.close
-    (tie.spec
-    Inv-loop
-    μ-loop
-    loop-holds
-    sub-loop
-    next-part-requires
-    returns
-    cast-m
-    sub-m
-    add-m
-    add-at
-    loop-less
-    loop-again
-    sub-r
-    sixteen-requires
-    returns-2
-    cast-t14
-    sub-t15
-    add-t16
-    returns-3)
+    (tie.spec Inv-loop μ-loop loop-holds sub-loop next-part-requires returns cast-m sub-m add-m add-at loop-less
+    loop-again sub-r sixteen-requires returns-2 cast-t14 sub-t15 add-t16 returns-3)

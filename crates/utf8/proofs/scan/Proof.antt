@@ -38,14 +38,4 @@ loop-again c = search (needs, going)
 pub scan-spec : {M : Type 1} → statement M
 scan-spec =
     tie.close
-    (tie.spec
-    Inv-loop
-    μ-loop
-    loop-holds
-    char-requires
-    enum-known-j
-    enum-told
-    returns
-    loop-less
-    loop-again
-    returns-2)
+    (tie.spec Inv-loop μ-loop loop-holds char-requires enum-known-j enum-told returns loop-less loop-again returns-2)

@@ -43,16 +43,5 @@ returns-3 c = text-slice (c .before .before .before .before .before .before .bef
 pub scan-at-spec : {M : Type 1} → statement M
 scan-at-spec =
     tie.close
-    (tie.spec
-    ascii-requires
-    returns
-    add-end
-    try-at-requires
-    enum-known-tried
-    returns-2
-    enum-told
-    sub-scan
-    part-scan-start
-    part-scan-end
-    scan-requires
-    returns-3)
+    (tie.spec ascii-requires returns add-end try-at-requires enum-known-tried returns-2 enum-told sub-scan
+    part-scan-start part-scan-end scan-requires returns-3)

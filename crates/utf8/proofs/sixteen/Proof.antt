@@ -84,29 +84,7 @@ returns c = (masked-done (omega arith) (omega arith) (omega arith) (c .before .l
 pub sixteen-spec : {M : Type 1} → statement M
 sixteen-spec =
     tie.close
-    (tie.spec
-    Inv-loop
-    μ-loop
-    cast-x
-    add-x
-    sub-from
-    loop-holds
-    add-i
-    sub-wrong
-    shared-slice-read-wrong
-    sub-wrong-2
-    shared-slice-read-wrong-2
-    sub-wrong-3
-    shared-slice-read-wrong-3
-    shared-slice-read-wrong-4
-    wrong-requires
-    kept-requires
-    shared-slice-read-trailing
-    trailing-requires
-    counted-requires
-    add-n
-    add-x-2
-    add-k
-    loop-less
-    loop-again
-    returns)
+    (tie.spec Inv-loop μ-loop cast-x add-x sub-from loop-holds add-i sub-wrong shared-slice-read-wrong sub-wrong-2
+    shared-slice-read-wrong-2 sub-wrong-3 shared-slice-read-wrong-3 shared-slice-read-wrong-4 wrong-requires
+    kept-requires shared-slice-read-trailing trailing-requires counted-requires add-n add-x-2 add-k loop-less
+    loop-again returns)

@@ -33,13 +33,5 @@ returns-3 c = starts-if (c .before .before .before .if1 .left) (c .before .if2 .
 pub starts-spec : {M : Type 1} → statement M
 starts-spec =
     tie.close
-    (tie.spec
-    sub-if1
-    shared-slice-read-if1
-    returns
-    sub-if2
-    shared-slice-read-if2
-    returns-2
-    sub-result
-    shared-slice-read-result
-    returns-3)
+    (tie.spec sub-if1 shared-slice-read-if1 returns sub-if2 shared-slice-read-if2 returns-2 sub-result
+    shared-slice-read-result returns-3)

@@ -62,21 +62,5 @@ returns-6 c = untold
 pub try-at-spec : {M : Type 1} → statement M
 try-at-spec =
     tie.close
-    (tie.spec
-    Inv-loop
-    μ-loop
-    returns
-    returns-2
-    starts-requires
-    returns-3
-    loop-holds
-    starts-requires-2
-    parts-requires
-    returns-4
-    char-requires
-    enum-known-j
-    enum-told
-    returns-5
-    loop-less
-    loop-again
-    returns-6)
+    (tie.spec Inv-loop μ-loop returns returns-2 starts-requires returns-3 loop-holds starts-requires-2 parts-requires
+    returns-4 char-requires enum-known-j enum-told returns-5 loop-less loop-again returns-6)

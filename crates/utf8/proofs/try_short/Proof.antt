@@ -66,23 +66,6 @@ returns-10 c = known (text-part (omega arith) (omega arith) (c .before .before .
 pub try-short-spec : {M : Type 1} → statement M
 try-short-spec =
     tie.close
-    (tie.spec
-    add-end
-    returns
-    sub-ascii
-    ascii-requires
-    returns-2
-    returns-3
-    returns-4
-    returns-5
-    low-sixteen-requires
-    returns-6
-    starts-requires
-    returns-7
-    starts-requires-2
-    returns-8
-    sixteen-requires
-    returns-9
-    cast-t13
-    sub-t14
+    (tie.spec add-end returns sub-ascii ascii-requires returns-2 returns-3 returns-4 returns-5 low-sixteen-requires
+    returns-6 starts-requires returns-7 starts-requires-2 returns-8 sixteen-requires returns-9 cast-t13 sub-t14
     returns-10)

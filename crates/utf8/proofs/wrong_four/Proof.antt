@@ -33,13 +33,5 @@ returns c = near-four (c .before .before .before .before .before .before .over .
 pub wrong-four-spec : {M : Type 1} → statement M
 wrong-four-spec =
     tie.close
-    (tie.spec
-    over-requires
-    over-requires-2
-    over-requires-3
-    flipped-requires
-    pair-requires
-    over-requires-4
-    sub-only
-    only-requires
-    returns)
+    (tie.spec over-requires over-requires-2 over-requires-3 flipped-requires pair-requires over-requires-4 sub-only
+    only-requires returns)

@@ -28,11 +28,4 @@ returns c = search needs
 pub inline-records-spec : {M : Type 1} → statement M
 inline-records-spec =
     tie.close
-    (tie.spec
-    element-copy-out-wide
-    wide-requires
-    element-copy-out-wide-2
-    wide-requires-2
-    mul-result
-    add-result
-    returns)
+    (tie.spec element-copy-out-wide wide-requires element-copy-out-wide-2 wide-requires-2 mul-result add-result returns)

@@ -65,20 +65,5 @@ returns-16 c = let e : c .before .args .i ≡ 15 = omega (arith, not-below (c .b
 pub section-at-spec : {M : Type 1} → statement M
 section-at-spec =
     tie.close
-    (tie.spec
-    returns
-    returns-2
-    returns-3
-    returns-4
-    returns-5
-    returns-6
-    returns-7
-    returns-8
-    returns-9
-    returns-10
-    returns-11
-    returns-12
-    returns-13
-    returns-14
-    returns-15
-    returns-16)
+    (tie.spec returns returns-2 returns-3 returns-4 returns-5 returns-6 returns-7 returns-8 returns-9 returns-10
+    returns-11 returns-12 returns-13 returns-14 returns-15 returns-16)
