@@ -26,8 +26,8 @@ abbrev pub Kept : Answer → List ℕ → List ℕ → Type 0
 Kept (Taken w n c l) t t′ = (length t′ ≡ length t) × (drop w t′ ≡ drop w t)
 Kept (Refused x p l) t t′ = t′ ≡ t
 
-abbrev pub Accepted : Answer → Type 0
-Accepted q = (w n c l : ℕ) × (q ≡ Taken w n c l)
+abbrev pub AnswersTaken : Answer → Type 0
+AnswersTaken q = (w n c l : ℕ) × (q ≡ Taken w n c l)
 
 -- The bytes taken from the place a on, or the place shown, lie before e.
 abbrev pub StaysWithin : ℕ → ℕ → Answer → Type 0
@@ -144,7 +144,7 @@ module _ {f : Format} {tr : Trace Value} {a b : ℕ} {t : List ℕ} {q : Answer}
   module _ {s : List ℕ} (reads : Reads f tr s a) {cost : Value → ℕ} (costs : Costs f cost) where
     -- taken exactly where the list ends with a value of the kind that the file may hold, and budget and tape reach
     pub taken-where : (Lays : Value → Type 0) → ((v : Value) (p : ℕ) → Ends tr v p → Lays v) → ((v : Value) → Lays v → (p : ℕ) × Ends tr v p)
-        → Accepted q ↔ ((v : Value) × Lays v × (cost v ≤ b) × (length (words f v) ≤ length t))
+        → AnswersTaken q ↔ ((v : Value) × Lays v × (cost v ≤ b) × (length (words f v) ≤ length t))
     taken-where Lays to from = (
       λ h. let k = only (h .4) in (k .value, to (k .value) (k .place) (k .ends), omega (arith, ends-cost reads costs (k .ends), k .reaches), omega (arith, k .counts, k .room)),
       λ h. let e = from (h .0) (h .1) in let r = taken-at (e .1) (omega (arith, ends-cost reads costs (e .1))) (h .3) in (_, _, _, _, r .0),

@@ -23,7 +23,7 @@ use Rattle.calls.specs.declared.Answer.{Answer}
 use Rattle.position.specs.Moving.{positionOf}
 use Rattle.position.specs.Contract.{LentCall}
 use Rattle.position.specs.declared.Position.{Position}
-use Rattle.promises.specs.Common.{Kept, StaysWithin, Accepted}
+use Rattle.promises.specs.Common.{Kept, StaysWithin, AnswersTaken}
 use Rattle.promises.specs.Section as alone
 use Rattle.promises.specs.Section.{charges, LaysOut}
 
@@ -83,7 +83,7 @@ module _ {m : ℕ} {x : Section} {s : List ℕ} {at : Position} {t : List ℕ} {
 
   -- "Layout ..: given budget and tape enough, what they admit is taken, nothing else." `Bytes s` holds of any caller's slice of bytes.
   pub layout : Bytes s
-      → Accepted (answerOf q)
+      → AnswersTaken (answerOf q)
       ↔ ((v : Value) × LaysOut settings m x s (at .place) v × (sectionCost settings x v ≤ at .budget) × (length (words (section settings m x) v) ≤ length t))
   layout = alone.layout by-section
 
@@ -160,7 +160,7 @@ read-again call e call₂ room =
 -- section, from this place on, under one of 64 bits.
 pub some-budget : (m : ℕ) (x : Section) (s : List ℕ) (a : ℕ) → Bytes s
     → ((b : ℕ) × (t : List ℕ) × (q : Answer) × (at′ : Position) × (t′ : List ℕ)
-    × (b < 2 ^ 64) × LentCall m x s (record { place = a; budget = b }) t q at′ t′ × Accepted (answerOf q))
+    × (b < 2 ^ 64) × LentCall m x s (record { place = a; budget = b }) t q at′ t′ × AnswersTaken (answerOf q))
     ↔ ((v : Value) × (p : ℕ) × Ends (charges settings m x s a) v p)
 some-budget m x s a bs = (
   λ h. alone.some-budget settings settings-licensed m x s a bs .0 (h .0, h .1, h .2, h .4, h .5, by-section (h .6), h .7),

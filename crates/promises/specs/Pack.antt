@@ -23,7 +23,7 @@ use Rattle.vob24.specs.RefusalNumbers.{Answered, read-numbered, whole-listed}
 use Rattle.calls.specs.Contract.{answerOf, ReadCall}
 use Rattle.calls.specs.declared.Answer.{Answer}
 use Rattle.promises.specs.Common as common
-use Rattle.promises.specs.Common.{Kept, StaysWithin, Accepted, Call}
+use Rattle.promises.specs.Common.{Kept, StaysWithin, AnswersTaken, Call}
 
 -- The file's charge list, and how it ends.
 abbrev pub charges : Settings → List ℕ → Trace Value
@@ -57,7 +57,7 @@ module _ {set : Settings} {s : List ℕ} {b : ℕ} {t : List ℕ} {q : Answer} {
 
   -- "Layout ..: given budget and tape enough, what they admit is taken, nothing else." Budget enough is the value's cost, tape enough the
   -- words of its record. `Bytes s`, each element below 256, holds of any caller's slice of bytes.
-  pub layout : Bytes s → Accepted (answerOf q) ↔ ((v : Value) × LaysOut set s v × (packCost set v ≤ b) × (length (words (pack set) v) ≤ length t))
+  pub layout : Bytes s → AnswersTaken (answerOf q) ↔ ((v : Value) × LaysOut set s v × (packCost set v ≤ b) × (length (words (pack set) v) ≤ length t))
   layout bs =
       common.taken-where (called call) (spec.whole-reads set s) (pack-costs set) (LaysOut set s)
       (λ v p h. let r = spec.whole-layout set s v p bs .0 h in (r .0, r .1, r .2))
@@ -129,7 +129,7 @@ module _ {set : Settings} {s : List ℕ} {b : ℕ} {t : List ℕ} {q : Answer} {
 -- "Exactly the files whose charge list ends with the pack, not at a question, are taken under some starting budget with tape enough": one of
 -- 64 bits.
 pub some-budget : (set : Settings) → Licensed set → (s : List ℕ) → Bytes s
-    → ((b : ℕ) × (t : List ℕ) × (q : Answer) × (t′ : List ℕ) × (b < 2 ^ 64) × ReadCall set s b t q t′ × Accepted (answerOf q))
+    → ((b : ℕ) × (t : List ℕ) × (q : Answer) × (t′ : List ℕ) × (b < 2 ^ 64) × ReadCall set s b t q t′ × AnswersTaken (answerOf q))
     ↔ ((v : Value) × (p : ℕ) × Ends (charges set s) v p)
 unfolding vob.readOutcome
 some-budget set licensed s bs = (

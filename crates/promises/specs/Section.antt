@@ -25,7 +25,7 @@ use Rattle.vob24.specs.RefusalNumbers.{Answered, section-numbered, section-list
 use Rattle.calls.specs.Contract.{answerOf, SectionCall}
 use Rattle.calls.specs.declared.Answer.{Answer}
 use Rattle.promises.specs.Common as common
-use Rattle.promises.specs.Common.{Kept, StaysWithin, Accepted, Call}
+use Rattle.promises.specs.Common.{Kept, StaysWithin, AnswersTaken, Call}
 
 -- "A section call's list is that of its own questions, from its given place to the section's end."
 abbrev pub charges : Settings → ℕ → Section → List ℕ → ℕ → Trace Value
@@ -59,7 +59,7 @@ module _ {set : Settings} {m : ℕ} {x : Section} {s : List ℕ} {a b : ℕ} {t 
 
   -- "Layout ..: given budget and tape enough, what they admit is taken, nothing else." `Bytes s` holds of any caller's slice of bytes.
   pub layout : Bytes s
-      → Accepted (answerOf q) ↔ ((v : Value) × LaysOut set m x s a v × (sectionCost set x v ≤ b) × (length (words (section set m x) v) ≤ length t))
+      → AnswersTaken (answerOf q) ↔ ((v : Value) × LaysOut set m x s a v × (sectionCost set x v ≤ b) × (length (words (section set m x) v) ≤ length t))
   layout bs =
       common.taken-where (called call) (spec.section-reads set m x s a) (section-costs set m x) (LaysOut set m x s a)
       (λ v p h. let r = spec.section-layout set m x s a v p bs .0 h in (r .0, r .1, r .2, r .3))
@@ -131,7 +131,7 @@ module _ {set : Settings} {m : ℕ} {x : Section} {s : List ℕ} {a b : ℕ} {t 
 -- "Exactly the files whose charge list ends with the pack, not at a question, are taken under some starting budget with tape enough": with the
 -- section, from this place on, under one of 64 bits.
 pub some-budget : (set : Settings) → Licensed set → (m : ℕ) (x : Section) (s : List ℕ) (a : ℕ) → Bytes s
-    → ((b : ℕ) × (t : List ℕ) × (q : Answer) × (t′ : List ℕ) × (b < 2 ^ 64) × SectionCall set m x s a b t q t′ × Accepted (answerOf q))
+    → ((b : ℕ) × (t : List ℕ) × (q : Answer) × (t′ : List ℕ) × (b < 2 ^ 64) × SectionCall set m x s a b t q t′ × AnswersTaken (answerOf q))
     ↔ ((v : Value) × (p : ℕ) × Ends (charges set m x s a) v p)
 unfolding vob.sectionOutcome
 some-budget set licensed m x s a bs = (
