@@ -10,16 +10,19 @@ use Rattle.lookup.specs.declared.Found.{Found}
 use Rattle.c_answers.specs.Numbers.{numbersOf, foundNumbers}
 use Rattle.c_answers.specs.declared.VobAnswer.{VobAnswer}
 
-pub taken-numbers : {a : Answer} {w n c l : ℕ} → a ≡ Answer.Taken w n c l → numbersOf (vob.Taken w n c l) ≡ numbersOf (answerOf a)
+pub taken-numbers : {a : Answer} {w n c l : ℕ} → a ≡ Answer.Taken w n c l
+    → numbersOf (vob.Taken w n c l) ≡ numbersOf (answerOf a)
 taken-numbers e = rw e
 
-pub refused-numbers : {a : Answer} {x : Refusal} {q : VobAnswer} → a ≡ Answer.Refused x → q ≡ numbersOf (answerOf (Answer.Refused x)) → q ≡ numbersOf (answerOf a)
+pub refused-numbers : {a : Answer} {x : Refusal} {q : VobAnswer} → a ≡ Answer.Refused x
+    → q ≡ numbersOf (answerOf (Answer.Refused x)) → q ≡ numbersOf (answerOf a)
 refused-numbers e h = rw e h
 
 pub at-numbers : {a : Found} {p n : ℕ} → a ≡ Found.At p n → foundNumbers (vob.At p n) ≡ foundNumbers (foundOf a)
 at-numbers e = rw e
 
-pub not-numbers : {a : Found} {x : Refusal} {q : VobAnswer} → a ≡ Found.Not x → q ≡ numbersOf (answerOf (Answer.Refused x)) → q ≡ foundNumbers (foundOf a)
+pub not-numbers : {a : Found} {x : Refusal} {q : VobAnswer} → a ≡ Found.Not x
+    → q ≡ numbersOf (answerOf (Answer.Refused x)) → q ≡ foundNumbers (foundOf a)
 not-numbers e h = rw e h
 
 pub ruleset numbers = (taken-numbers, refused-numbers, at-numbers, not-numbers)

@@ -21,13 +21,15 @@ abbrev pub foundNumbers : vob.Found → VobAnswer
 foundNumbers (vob.At p n) = record { number = 0; value1 = p; value2 = n; value3 = 0; value4 = 0; value5 = 0 }
 foundNumbers (vob.Not w p l) = refusedNumbers w p l
 
--- THE contract of an exported call that is lent a tape: the numbers returned and the tape at exit are those of its outcome.
+-- THE contract of an exported call that is lent a tape: the numbers returned and the tape at exit are those of its
+-- outcome.
 pub record Shows (o : vob.Outcome) (q : VobAnswer) (t′ : List ℕ) : Type 0 where
   pub answer : q ≡ numbersOf (o .answer)
   pub tape : t′ ≡ o .tape
 
 -- 0 says taken or found, and nothing else: no refusal has that number (vob24, Numbered).
-pub zero-taken : {a : vob.Answer} → Answered a → numbersOf a .number ≡ 0 → (w : ℕ) × (n : ℕ) × (c : ℕ) × (l : ℕ) × (a ≡ vob.Taken w n c l)
+pub zero-taken : {a : vob.Answer} → Answered a → numbersOf a .number ≡ 0
+    → (w : ℕ) × (n : ℕ) × (c : ℕ) × (l : ℕ) × (a ≡ vob.Taken w n c l)
 zero-taken (taken {w = w} {n = n} {c = c} {l = l}) e = (w, n, c, l, refl)
 zero-taken (refused h) e = absurd (omega (arith, h .least, e))
 

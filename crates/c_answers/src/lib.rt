@@ -8,8 +8,8 @@ use calls::Answer;
 use lookup::Found;
 use reader::Refusal;
 
-// Taken: number 0, then words, bytes taken, charged, left, 0; found: 0, start, length, and zeros. Refused: the number, then
-// c, d1, d2, place, left.
+// Taken: number 0, then words, bytes taken, charged, left, 0; found: 0, start, length, and zeros. Refused: the number,
+// then c, d1, d2, place, left.
 #[repr(C)]
 pub struct VobAnswer {
     pub number: u64,

@@ -37,7 +37,8 @@ module _ {s : List ℕ} {p b : ℕ} where
   unfolding opened pick
   opens-long h = record { is = rw (lt-leb _ _ h); ready = tt }
 
-  pub opens-past : length s ≤ maxPackBytes → length s < p → Opens s p b (Refused (refusal (wrong Refusals.unexpectedEof 0) p b))
+  pub opens-past : length s ≤ maxPackBytes → length s < p
+      → Opens s p b (Refused (refusal (wrong Refusals.unexpectedEof 0) p b))
   unfolding opened pick
   opens-past h i = record { is = rw (le-leb _ _ h, lt-leb _ _ i); ready = tt }
 
@@ -53,7 +54,8 @@ module _ {n : ℕ} {r : Step} where
   unfolding pick
   ends-at {c} e h = record { is = rw (e, eq-eqb (c .place) n h) }
 
-  pub ends-past : {c : Cursor} → r ≡ Taken c → (c .place ≡ n → ⊥) → Ends n r (Refused (refusal (wrong Refusals.trailingBytes (n - c .place)) (c .place) (c .left)))
+  pub ends-past : {c : Cursor} → r ≡ Taken c → (c .place ≡ n → ⊥)
+      → Ends n r (Refused (refusal (wrong Refusals.trailingBytes (n - c .place)) (c .place) (c .left)))
   unfolding pick
   ends-past {c} e h = record { is = rw (e, ne-eqb (c .place) n h) }
 
@@ -61,11 +63,13 @@ module _ {p b room : ℕ} {r : Step} where
   pub closes-refused : {x : Refusal} → r ≡ Refused x → Closes p b room r (Answer.Refused x)
   closes-refused e = record { is = rw e }
 
-  pub closes-short : {c : Cursor} → r ≡ Taken c → room < c .at → Closes p b room r (Answer.Refused (refusal (vob.noRoomFor (c .at) room) (c .place) (c .left)))
+  pub closes-short : {c : Cursor} → r ≡ Taken c → room < c .at
+      → Closes p b room r (Answer.Refused (refusal (vob.noRoomFor (c .at) room) (c .place) (c .left)))
   unfolding pick
   closes-short e h = record { is = rw (e, lt-leb _ _ h) }
 
-  pub closes-taken : {c : Cursor} → r ≡ Taken c → c .at ≤ room → Closes p b room r (Answer.Taken (c .at) (c .place - p) (b - c .left) (c .left))
+  pub closes-taken : {c : Cursor} → r ≡ Taken c → c .at ≤ room
+      → Closes p b room r (Answer.Taken (c .at) (c .place - p) (b - c .left) (c .left))
   unfolding pick
   closes-taken e h = record { is = rw (e, le-leb _ _ h) }
 
@@ -82,7 +86,9 @@ pub ruleset questions = (opens-long, opens-past, opens-at, ends-refused, ends-at
 
 -- What a first pass has come to: the budget settles the call's charge list so.
 pub data Passed (f : Format) (t : Trace Value) (s : List ℕ) (p b : ℕ) (start : Step) : Step → Type 0 where
-  passed : {v : Value} {c : Cursor} → start ≡ Taken (from p b) → settle b t ≡ taken v (c .place) (c .left) → settle b (trace f s p) ≡ taken v (c .place) (c .left) → c .at ≡ length (words f v) → Passed f t s p b start (Taken c)
+  passed : {v : Value} {c : Cursor} → start ≡ Taken (from p b) → settle b t ≡ taken v (c .place) (c .left)
+      → settle b (trace f s p) ≡ taken v (c .place) (c .left) → c .at ≡ length (words f v)
+      → Passed f t s p b start (Taken c)
   denied : {x : Refusal} → settle b t ≡ refused (wrongOf x) (x .place) (x .left) → Passed f t s p b start (Refused x)
 
 -- how a call opened
@@ -95,25 +101,30 @@ opened-as : (s : List ℕ) (p b : ℕ) → Opened s p b (opened s p b)
 unfolding opened pick
 opened-as s p b = go (leb (length s) maxPackBytes) (leb→le _ _) (nleb→lt _ _) (leb p (length s)) (leb→le _ _) (nleb→lt _ _)
   where
-    go : (d : Bool) → (T d → length s ≤ maxPackBytes) → (T (not d) → maxPackBytes < length s) → (e : Bool) → (T e → p ≤ length s) → (T (not e) → length s < p)
+    go : (d : Bool) → (T d → length s ≤ maxPackBytes) → (T (not d) → maxPackBytes < length s) → (e : Bool)
+        → (T e → p ≤ length s) → (T (not e) → length s < p)
         → Opened s p b (pick d (pick e (Taken (from p b)) (Refused (refusal (wrong Refusals.unexpectedEof 0) p b))) (Refused (refusal (vob.tooLarge (length s)) p b)))
     go true x y true z w = at (x tt) (z tt)
     go true x y false z w = past (x tt) (w tt)
     go false x y e z w = long (y tt)
 
 module _ (set : Settings) (n : ℕ) (x : Section) (s : List ℕ) (p b : ℕ) where
-  section-long : maxPackBytes < length s → settle b (vob.sectionTrace set n x s p) ≡ refused (vob.tooLarge (length s)) p b
+  section-long : maxPackBytes < length s
+      → settle b (vob.sectionTrace set n x s p) ≡ refused (vob.tooLarge (length s)) p b
   unfolding vob.sectionTrace guard settle
   section-long h = rw (lt-leb _ _ h)
 
-  section-past : length s ≤ maxPackBytes → length s < p → settle b (vob.sectionTrace set n x s p) ≡ refused (wrong Refusals.unexpectedEof 0) p b
+  section-past : length s ≤ maxPackBytes → length s < p
+      → settle b (vob.sectionTrace set n x s p) ≡ refused (wrong Refusals.unexpectedEof 0) p b
   unfolding vob.sectionTrace guard settle
   section-past h i = rw (le-leb _ _ h, lt-leb _ _ i)
 
-  section-at : length s ≤ maxPackBytes → p ≤ length s → settle b (vob.sectionTrace set n x s p) ≡ settle b (trace (section set n x) s p)
+  section-at : length s ≤ maxPackBytes → p ≤ length s
+      → settle b (vob.sectionTrace set n x s p) ≡ settle b (trace (section set n x) s p)
   section-at h i = ap (settle b) (section-alone set n x s p h i)
 
-  section-cases : {r₀ r : Step} {t e : List ℕ} → Opened s p b r₀ → Reads (section set n x) s r₀ t r e → Passed (section set n x) (vob.sectionTrace set n x s p) s p b r₀ r
+  section-cases : {r₀ r : Step} {t e : List ℕ} → Opened s p b r₀ → Reads (section set n x) s r₀ t r e
+      → Passed (section set n x) (vob.sectionTrace set n x s p) s p b r₀ r
   section-cases (long h) skips = denied (section-long h)
   section-cases (past h i) skips = denied (section-past h i)
   section-cases (at h i) (takes k) = passed refl (section-at h i ∙ k .settles) (k .settles) (k .moves ∙ zero-add _)
@@ -125,13 +136,15 @@ module _ (set : Settings) (s : List ℕ) (b : ℕ) where
   whole-long h = rw (lt-leb _ _ h)
 
   -- the whole pack, with the question after it
-  judged : {t : List ℕ} {v : Value} {c : Cursor} {e : List ℕ} → length s ≤ maxPackBytes → Takes (pack set) s (from 0 b) t v c e → (d : Bool) → eqb (c .place) (length s) ≡ d
+  judged : {t : List ℕ} {v : Value} {c : Cursor} {e : List ℕ} → length s ≤ maxPackBytes
+      → Takes (pack set) s (from 0 b) t v c e → (d : Bool) → eqb (c .place) (length s) ≡ d
       → Passed (pack set) (vob.wholeTrace set s) s 0 b (Taken (from 0 b)) (pick d (Taken c) (Refused (refusal (wrong Refusals.trailingBytes (length s - c .place)) (c .place) (c .left))))
   unfolding pick thenS guard settle
   judged {v = v} {c = c} h k true i = passed {v = v} {c = c} refl (whole-settled set s b h ∙ rw (k .settles, i)) (k .settles) (k .moves ∙ zero-add _)
   judged {c = c} h k false i = denied {x = refusal (wrong Refusals.trailingBytes (length s - c .place)) (c .place) (c .left)} (whole-settled set s b h ∙ rw (k .settles, i))
 
-  whole-cases : {r₀ r : Step} {t e : List ℕ} → Opened s 0 b r₀ → Reads (pack set) s r₀ t r e → Passed (pack set) (vob.wholeTrace set s) s 0 b r₀ (ended (length s) r)
+  whole-cases : {r₀ r : Step} {t e : List ℕ} → Opened s 0 b r₀ → Reads (pack set) s r₀ t r e
+      → Passed (pack set) (vob.wholeTrace set s) s 0 b r₀ (ended (length s) r)
   unfolding thenS
   whole-cases (long h) skips = denied (whole-long h)
   whole-cases (past h i) skips = absurd (omega arith)
@@ -161,12 +174,15 @@ closed-as : (p b room : ℕ) (c : Cursor) → Closed p b room c (closed p b room
 unfolding pick
 closed-as p b room c = go (leb (c .at) room) (leb→le _ _) (nleb→lt _ _)
   where
-    go : (d : Bool) → (T d → c .at ≤ room) → (T (not d) → room < c .at) → Closed p b room c (pick d (Answer.Taken (c .at) (c .place - p) (b - c .left) (c .left)) (Answer.Refused (refusal (vob.noRoomFor (c .at) room) (c .place) (c .left))))
+    go : (d : Bool) → (T d → c .at ≤ room) → (T (not d) → room < c .at)
+        → Closed p b room c (pick d (Answer.Taken (c .at) (c .place - p) (b - c .left) (c .left)) (Answer.Refused (refusal (vob.noRoomFor (c .at) room) (c .place) (c .left))))
     go true x y = fits (x tt)
     go false x y = short (y tt)
 
 -- a pass over a tape that has the room writes the record
-written : {f : Format} {s : List ℕ} {p b : ℕ} {tape : List ℕ} {v : Value} {q l : ℕ} {r : Step} {t₂ : List ℕ} → settle b (trace f s p) ≡ taken v q l → length (words f v) ≤ length tape → Reads f s (Taken (from p b)) tape r t₂ → t₂ ≡ words f v ++ drop (length (words f v)) tape
+written : {f : Format} {s : List ℕ} {p b : ℕ} {tape : List ℕ} {v : Value} {q l : ℕ} {r : Step} {t₂ : List ℕ}
+    → settle b (trace f s p) ≡ taken v q l → length (words f v) ≤ length tape → Reads f s (Taken (from p b)) tape r t₂
+    → t₂ ≡ words f v ++ drop (length (words f v)) tape
 written {f} {tape = tape} {v = v} i h (takes {v = u} k) =
     let e : v ≡ u = cc (i, k .settles) in
     let m : 0 + length (words f v) ≤ length tape = omega arith in
@@ -175,7 +191,8 @@ written i h (refuses k) = let z : _≡_ {A = ℕ} 0 1 = cc (i, k .settles) in ab
 
 -- What a call that takes w words leaves on the tape: they are the record's.
 record Recorded (f : Format) (s : List ℕ) (p b : ℕ) (r₀ : Step) (tape : List ℕ) (w : ℕ) (t₂ : List ℕ) : Type 0 where
-  is : (v : Value) (k o : ℕ) → r₀ ≡ Taken (from p b) → settle b (trace f s p) ≡ taken v k o → length (words f v) ≤ length tape → w ≡ length (words f v) → t₂ ≡ words f v ++ drop (length (words f v)) tape
+  is : (v : Value) (k o : ℕ) → r₀ ≡ Taken (from p b) → settle b (trace f s p) ≡ taken v k o
+      → length (words f v) ≤ length tape → w ≡ length (words f v) → t₂ ≡ words f v ++ drop (length (words f v)) tape
 
 module _ {f : Format} {s : List ℕ} {p b : ℕ} {r₀ r : Step} {tape t₂ : List ℕ} {w : ℕ} where
   -- two passes: the second writes the record
@@ -193,43 +210,57 @@ module _ {f : Format} {s : List ℕ} {p b : ℕ} {r₀ r : Step} {tape t₂ : Li
             y ∙ rw (u, j, take-append-seam, zero-add);
       }
 
-closed-taken : (p b room : ℕ) (r : Step) {q : Answer} {w i n l : ℕ} → q ≡ closed p b room r → q ≡ Answer.Taken w i n l → (c : Cursor) × (r ≡ Taken c) × (w ≡ c .at) × (c .at ≤ room)
+closed-taken : (p b room : ℕ) (r : Step) {q : Answer} {w i n l : ℕ} → q ≡ closed p b room r → q ≡ Answer.Taken w i n l
+    → (c : Cursor) × (r ≡ Taken c) × (w ≡ c .at) × (c .at ≤ room)
 closed-taken p b room (Refused x) e j = let no : _≡_ {A = ℕ} 0 1 = cc in absurd (omega arith)
 closed-taken p b room (Taken c) {w = w} e j = go (closed-as p b room c) (sym e ∙ j)
   where
-    go : {a : Answer} {i n l : ℕ} → Closed p b room c a → a ≡ Answer.Taken w i n l → (d : Cursor) × (Taken c ≡ Taken d) × (w ≡ d .at) × (d .at ≤ room)
+    go : {a : Answer} {i n l : ℕ} → Closed p b room c a → a ≡ Answer.Taken w i n l
+        → (d : Cursor) × (Taken c ≡ Taken d) × (w ≡ d .at) × (d .at ≤ room)
     go (fits h) j = (c, refl, cc, h)
     go (short h) j = let no : _≡_ {A = ℕ} 0 1 = cc in absurd (omega arith)
 
 module _ (f : Format) (t : Trace Value) (p b : ℕ) (tape : List ℕ) where
-  closing-denied : {x : Refusal} → settle b t ≡ refused (wrongOf x) (x .place) (x .left) → vob.closing f p b tape (settle b t) ≡ record { answer = answerOf (Answer.Refused x); tape = tape }
+  closing-denied : {x : Refusal} → settle b t ≡ refused (wrongOf x) (x .place) (x .left)
+      → vob.closing f p b tape (settle b t) ≡ record { answer = answerOf (Answer.Refused x); tape = tape }
   closing-denied i = ap (vob.closing f p b tape) i
 
-  closing-short : {v : Value} {c : Cursor} → settle b t ≡ taken v (c .place) (c .left) → c .at ≡ length (words f v) → length tape < c .at
+  closing-short : {v : Value} {c : Cursor} → settle b t ≡ taken v (c .place) (c .left) → c .at ≡ length (words f v)
+      → length tape < c .at
       → vob.closing f p b tape (settle b t) ≡ record { answer = answerOf (Answer.Refused (refusal (vob.noRoomFor (c .at) (length tape)) (c .place) (c .left))); tape = tape }
   unfolding pick
   closing-short {v} {c} i m h = let h′ : length tape < length (words f v) = omega arith in ap (vob.closing f p b tape) i ∙ rw (lt-leb _ _ h′, m)
 
-  closing-fits : {v : Value} {c : Cursor} → settle b t ≡ taken v (c .place) (c .left) → c .at ≡ length (words f v) → c .at ≤ length tape
+  closing-fits : {v : Value} {c : Cursor} → settle b t ≡ taken v (c .place) (c .left) → c .at ≡ length (words f v)
+      → c .at ≤ length tape
       → vob.closing f p b tape (settle b t) ≡ record { answer = answerOf (Answer.Taken (c .at) (c .place - p) (b - c .left) (c .left)); tape = words f v ++ drop (length (words f v)) tape }
   unfolding pick
   closing-fits {v} {c} i m h = let h′ : length (words f v) ≤ length tape = omega arith in ap (vob.closing f p b tape) i ∙ rw (le-leb _ _ h′, m)
 
   -- refused: the tape is as it was
-  short-so : {v : Value} {c : Cursor} {q : Answer} {x : Refusal} → settle b t ≡ taken v (c .place) (c .left) → c .at ≡ length (words f v) → Closed p b (length tape) c q → q ≡ Answer.Refused x → vob.closing f p b tape (settle b t) ≡ record { answer = answerOf q; tape = tape }
+  short-so : {v : Value} {c : Cursor} {q : Answer} {x : Refusal} → settle b t ≡ taken v (c .place) (c .left)
+      → c .at ≡ length (words f v) → Closed p b (length tape) c q → q ≡ Answer.Refused x
+      → vob.closing f p b tape (settle b t) ≡ record { answer = answerOf q; tape = tape }
   short-so i m (fits h) e = let z : _≡_ {A = ℕ} 0 1 = cc in absurd (omega arith)
   short-so i m (short h) e = closing-short i m h
 
-  refused-so : {s : List ℕ} {r₀ r : Step} {q : Answer} {x : Refusal} → Passed f t s p b r₀ r → q ≡ closed p b (length tape) r → q ≡ Answer.Refused x → vob.closing f p b tape (settle b t) ≡ record { answer = answerOf q; tape = tape }
+  refused-so : {s : List ℕ} {r₀ r : Step} {q : Answer} {x : Refusal} → Passed f t s p b r₀ r
+      → q ≡ closed p b (length tape) r → q ≡ Answer.Refused x
+      → vob.closing f p b tape (settle b t) ≡ record { answer = answerOf q; tape = tape }
   refused-so (denied {x = y} i) e j = closing-denied i ∙ rw e
   refused-so (passed {c = c} o i k m) e j = rw e (short-so i m (closed-as p b (length tape) c) (sym e ∙ j))
 
-  fits-so : {v : Value} {c : Cursor} {q : Answer} {t₂ : List ℕ} {w n m l : ℕ} → settle b t ≡ taken v (c .place) (c .left) → c .at ≡ length (words f v) → Closed p b (length tape) c q → q ≡ Answer.Taken w n m l
-      → (length (words f v) ≤ length tape → w ≡ length (words f v) → t₂ ≡ words f v ++ drop (length (words f v)) tape) → vob.closing f p b tape (settle b t) ≡ record { answer = answerOf q; tape = t₂ }
+  fits-so : {v : Value} {c : Cursor} {q : Answer} {t₂ : List ℕ} {w n m l : ℕ}
+      → settle b t ≡ taken v (c .place) (c .left) → c .at ≡ length (words f v) → Closed p b (length tape) c q
+      → q ≡ Answer.Taken w n m l
+      → (length (words f v) ≤ length tape → w ≡ length (words f v) → t₂ ≡ words f v ++ drop (length (words f v)) tape)
+      → vob.closing f p b tape (settle b t) ≡ record { answer = answerOf q; tape = t₂ }
   fits-so i j (short h) e z = let no : _≡_ {A = ℕ} 0 1 = cc in absurd (omega arith)
   fits-so i j (fits h) e z = closing-fits i j h ∙ rw (z (omega arith) (cc))
 
-  taken-so : {s : List ℕ} {r₀ r : Step} {q : Answer} {t₂ : List ℕ} {w n m l : ℕ} → Passed f t s p b r₀ r → q ≡ closed p b (length tape) r → q ≡ Answer.Taken w n m l → Recorded f s p b r₀ tape w t₂ → vob.closing f p b tape (settle b t) ≡ record { answer = answerOf q; tape = t₂ }
+  taken-so : {s : List ℕ} {r₀ r : Step} {q : Answer} {t₂ : List ℕ} {w n m l : ℕ} → Passed f t s p b r₀ r
+      → q ≡ closed p b (length tape) r → q ≡ Answer.Taken w n m l → Recorded f s p b r₀ tape w t₂
+      → vob.closing f p b tape (settle b t) ≡ record { answer = answerOf q; tape = t₂ }
   taken-so (denied i) e j z = let no : _≡_ {A = ℕ} 0 1 = cc in absurd (omega arith)
   taken-so (passed {c = c} o i k m) e j z = rw e (fits-so i m (closed-as p b (length tape) c) (sym e ∙ j) (z .is _ _ _ o k))
 
@@ -246,7 +277,8 @@ module _ (set : Settings) (n : ℕ) (x : Section) {s : List ℕ} {p b : ℕ} {r�
   pub section-since : Since p b r
   section-since = passed-since section-passed
 
-  pub section-accepted : {g : Bool} {room : ℕ} {q : Answer} {w i c l : ℕ} → Closes p b room r q → q ≡ Answer.Taken w i c l → Accepted g (section set n x) s r₀
+  pub section-accepted : {g : Bool} {room : ℕ} {q : Answer} {w i c l : ℕ} → Closes p b room r q
+      → q ≡ Answer.Taken w i c l → Accepted g (section set n x) s r₀
   section-accepted {room = room} m j = passed-accepted section-passed (closed-taken p b room r (m .is) j .1)
 
   module _ {t : List ℕ} {q : Answer} (z : length e ≡ 0) (m : Closes p b (length (e ++ t)) r q) where
@@ -254,7 +286,8 @@ module _ (set : Settings) (n : ℕ) (x : Section) {s : List ℕ} {p b : ℕ} {r�
     unfolding vob.sectionOutcome
     section-refused j = let i = nil e z in record { is = rw i (refused-so _ _ p b t section-passed (m .is ∙ rw i) j) }
 
-    pub section-taken : {w i c l : ℕ} {r₂ : Step} {t₂ : List ℕ} → q ≡ Answer.Taken w i c l → Reader (section set n x) s r₀ (e ++ t) r₂ t₂ → SectionCall set n x s p b t q t₂
+    pub section-taken : {w i c l : ℕ} {r₂ : Step} {t₂ : List ℕ} → q ≡ Answer.Taken w i c l
+        → Reader (section set n x) s r₀ (e ++ t) r₂ t₂ → SectionCall set n x s p b t q t₂
     unfolding vob.sectionOutcome
     section-taken j k₂ = let i = nil e z in record { is = taken-so _ _ p b t section-passed (m .is ∙ rw i) j (twice (rw i at (k₂ .reads))) }
 
@@ -278,7 +311,8 @@ module _ (set : Settings) {s : List ℕ} {b : ℕ} {r₀ r : Step} {t₀ e : Lis
     unfolding vob.readOutcome
     read-refused j = let i = nil e z in record { is = rw i (refused-so _ _ 0 b t whole-passed (m .is ∙ rw i) j) }
 
-    pub read-taken : {w i c l : ℕ} {r₂ : Step} {t₂ : List ℕ} → q ≡ Answer.Taken w i c l → Reader (pack set) s r₀ (e ++ t) r₂ t₂ → ReadCall set s b t q t₂
+    pub read-taken : {w i c l : ℕ} {r₂ : Step} {t₂ : List ℕ} → q ≡ Answer.Taken w i c l
+        → Reader (pack set) s r₀ (e ++ t) r₂ t₂ → ReadCall set s b t q t₂
     unfolding vob.readOutcome
     read-taken j k₂ = let i = nil e z in record { is = taken-so _ _ 0 b t whole-passed (m .is ∙ rw i) j (twice (rw i at (k₂ .reads))) }
 
@@ -296,11 +330,13 @@ module _ (set : Settings) {s : List ℕ} {b : ℕ} {r₀ r : Step} {t₀ e : Lis
     unfolding vob.readOutcome
     small-refused j = record { is = refused-so _ _ 0 b t whole-passed (m .is) j }
 
-    pub small-taken : {w i c l : ℕ} {t₂ : List ℕ} → w ≤ length t₀ → q ≡ Answer.Taken w i c l → t₂ ≡ paste t 0 e w → ReadCall set s b t (Answer.Taken w i c l) t₂
+    pub small-taken : {w i c l : ℕ} {t₂ : List ℕ} → w ≤ length t₀ → q ≡ Answer.Taken w i c l → t₂ ≡ paste t 0 e w
+        → ReadCall set s b t (Answer.Taken w i c l) t₂
     unfolding vob.readOutcome
     small-taken {t₂ = t₂} h j y = let a : ReadCall set s b t q t₂ = record { is = taken-so _ _ 0 b t whole-passed (m .is) j (once h (k .reads) y) } in rw j at a
 
     -- and a second time, where its record is longer than that
-    pub small-again : {w i c l : ℕ} {r₂ : Step} {t₂ : List ℕ} → q ≡ Answer.Taken w i c l → Reader (pack set) s r₀ t r₂ t₂ → ReadCall set s b t (Answer.Taken w i c l) t₂
+    pub small-again : {w i c l : ℕ} {r₂ : Step} {t₂ : List ℕ} → q ≡ Answer.Taken w i c l
+        → Reader (pack set) s r₀ t r₂ t₂ → ReadCall set s b t (Answer.Taken w i c l) t₂
     unfolding vob.readOutcome
     small-again {t₂ = t₂} j k₂ = let a : ReadCall set s b t q t₂ = record { is = taken-so _ _ 0 b t whole-passed (m .is) j (twice (k₂ .reads)) } in rw j at a

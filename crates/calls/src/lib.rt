@@ -1,5 +1,6 @@
 // What the public calls share: the questions before a first pass, the question of room after it, and their contracts.
-// A call reads twice by the same code: first with an empty tape, which counts the words, then, where there is room, with the tape.
+// A call reads twice by the same code: first with an empty tape, which counts the words, then, where there is room,
+// with the tape.
 ghost use mathlib.Core.Path.{_≡_};
 ghost use Prim.Native.Nat.{_≤_};
 ghost use lib.ListN.{length};

@@ -41,7 +41,8 @@ fn constant_refusal(r: Step) -> ConstantRead
 
 fn constant_bool(s: &[u8], c: Cursor, tape: &mut [u32]) -> ConstantRead
     requires { ⌜ ReadyAt (now s) c ⌝ }
-    ensures { λ q. ⌜ Recorded bool (λ p v. boolOf v) (now (s .entry)) c (now (tape .entry)) (stepOfConstant q) (recordOfConstant q) (now (tape .exit)) ⌝ }
+    ensures { λ q. ⌜ Recorded bool (λ p v. boolOf v) (now (s .entry)) c (now (tape .entry)) (stepOfConstant q)
+        (recordOfConstant q) (now (tape .exit)) ⌝ }
 {
     let q = fields::number_bool(s, c, tape);
     let Number::Got(n, d) = q else {
@@ -53,7 +54,8 @@ fn constant_bool(s: &[u8], c: Cursor, tape: &mut [u32]) -> ConstantRead
 // The words of an Int or a Float are those of its bits.
 fn constant_int(s: &[u8], c: Cursor, tape: &mut [u32]) -> ConstantRead
     requires { ⌜ ReadyAt (now s) c ⌝ }
-    ensures { λ q. ⌜ Recorded u64 (λ p v. intOf v) (now (s .entry)) c (now (tape .entry)) (stepOfConstant q) (recordOfConstant q) (now (tape .exit)) ⌝ }
+    ensures { λ q. ⌜ Recorded u64 (λ p v. intOf v) (now (s .entry)) c (now (tape .entry)) (stepOfConstant q)
+        (recordOfConstant q) (now (tape .exit)) ⌝ }
 {
     let q = reader::read_i64(s, c);
     let Signed::Got(value, bits, d) = q else {
@@ -67,7 +69,8 @@ fn constant_int(s: &[u8], c: Cursor, tape: &mut [u32]) -> ConstantRead
 
 fn constant_float(s: &[u8], c: Cursor, tape: &mut [u32]) -> ConstantRead
     requires { ⌜ ReadyAt (now s) c ⌝ }
-    ensures { λ q. ⌜ Recorded u64 (λ p v. floatOf v) (now (s .entry)) c (now (tape .entry)) (stepOfConstant q) (recordOfConstant q) (now (tape .exit)) ⌝ }
+    ensures { λ q. ⌜ Recorded u64 (λ p v. floatOf v) (now (s .entry)) c (now (tape .entry)) (stepOfConstant q)
+        (recordOfConstant q) (now (tape .exit)) ⌝ }
 {
     let q = reader::read_f64(s, c);
     let Float::Got(value, bits, d) = q else {
@@ -81,7 +84,8 @@ fn constant_float(s: &[u8], c: Cursor, tape: &mut [u32]) -> ConstantRead
 
 fn constant_text(s: &[u8], c: Cursor, tape: &mut [u32]) -> ConstantRead
     requires { ⌜ ReadyAt (now s) c ⌝ }
-    ensures { λ q. ⌜ Recorded str (λ p v. textOf v) (now (s .entry)) c (now (tape .entry)) (stepOfConstant q) (recordOfConstant q) (now (tape .exit)) ⌝ }
+    ensures { λ q. ⌜ Recorded str (λ p v. textOf v) (now (s .entry)) c (now (tape .entry)) (stepOfConstant q)
+        (recordOfConstant q) (now (tape .exit)) ⌝ }
 {
     let q = fields::span_str(s, c, tape);
     let Payload::Got(start, length, d) = q else {
@@ -92,7 +96,8 @@ fn constant_text(s: &[u8], c: Cursor, tape: &mut [u32]) -> ConstantRead
 
 pub fn constant(s: &[u8], c: Cursor, tape: &mut [u32]) -> ConstantRead
     requires { ⌜ ReadyAt (now s) c ⌝ }
-    ensures { λ q. ⌜ Recorded constantFormat constantOf (now (s .entry)) c (now (tape .entry)) (stepOfConstant q) (recordOfConstant q) (now (tape .exit)) ⌝ }
+    ensures { λ q. ⌜ Recorded constantFormat constantOf (now (s .entry)) c (now (tape .entry)) (stepOfConstant q)
+        (recordOfConstant q) (now (tape .exit)) ⌝ }
 {
     let q = fields::number_constant_tag(s, c, tape);
     let Number::Got(tag, d) = q else {
@@ -120,7 +125,8 @@ fn constant_field(s: &[u8], r: Step, tape: &mut [u32]) -> Step
 
 pub fn constants(s: &[u8], set: &Settings, r: Step, tape: &mut [u32]) -> Step
     requires { ⌜ Ready (now s) r ⌝ }
-    ensures { λ q. ⌜ Reader (constantList (settingsOf (now (set .entry)))) (now (s .entry)) r (now (tape .entry)) q (now (tape .exit)) ⌝ }
+    ensures { λ q. ⌜ Reader (constantList (settingsOf (now (set .entry)))) (now (s .entry)) r (now (tape .entry)) q
+        (now (tape .exit)) ⌝ }
 {
     let Step::Taken(c) = r else {
         return r;

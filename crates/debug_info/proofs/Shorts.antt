@@ -40,7 +40,8 @@ above : (x b r : ℕ) → b < 256 → x ≡ b + 256 * r → x / 256 ≡ r
 above x b r h e = omega arith
 
 -- x is the number of the w bytes from p on
-packs-settles : {k m x v j : ℕ} (w : ℕ) (s : List ℕ) (p : ℕ) → Packs k m x v j → j ≤ w → p + w ≤ length s → Bytes (read w s p) → x ≡ little (read w s p) → (b : ℕ) → settle b (tracePacked k m s p) ≡ taken v (p + j) b
+packs-settles : {k m x v j : ℕ} (w : ℕ) (s : List ℕ) (p : ℕ) → Packs k m x v j → j ≤ w → p + w ≤ length s
+    → Bytes (read w s p) → x ≡ little (read w s p) → (b : ℕ) → settle b (tracePacked k m s p) ≡ taken v (p + j) b
 unfolding tracePacked packedStep settle thenS little
 packs-settles zero s p (last h l) i r y e b = absurd (omega arith)
 packs-settles zero s p (more h k) i r y e b = absurd (omega arith)
@@ -53,7 +54,8 @@ packs-settles (suc w) s p (more {k = k} {x = x} {v = v} {j = j} h a) i r y e b =
     let o : p + 1 + j ≡ p + suc j = omega arith in
     field-yes b 1 s p _ (omega arith) ∙ rw (f, le-ltb _ _ h) (settle-bind b (tracePacked k 1 s (p + 1)) _ ∙ rw (g, o))
 
-source-settles : {x v j : ℕ} (w : ℕ) (s : List ℕ) (p : ℕ) → Packs 4 0 x v j → j ≤ w → p + w ≤ length s → Bytes (read w s p) → x ≡ little (read w s p) → (b : ℕ) → settle b (trace sourceU32 s p) ≡ taken (num v) (p + j) b
+source-settles : {x v j : ℕ} (w : ℕ) (s : List ℕ) (p : ℕ) → Packs 4 0 x v j → j ≤ w → p + w ≤ length s
+    → Bytes (read w s p) → x ≡ little (read w s p) → (b : ℕ) → settle b (trace sourceU32 s p) ≡ taken (num v) (p + j) b
 unfolding trace traceLeaf settle thenS
 source-settles w s p a i r y e b = settle-bind b (tracePacked 4 0 s p) (λ n q. end (num n) q) ∙ rw (packs-settles w s p a i r y e b)
 
@@ -77,7 +79,8 @@ split-and b r h k =
     rw (e, f) (and-block 8 r h b 128 k (omega arith))
 
 -- a number without them has small bytes only
-none-high : (w : ℕ) (s : List ℕ) (p : ℕ) → Bytes (read w s p) → bitAnd (little (read w s p)) (highs w) ≡ 0 → (i : ℕ) → p ≤ i → i < p + w → getD s i 0 < 128
+none-high : (w : ℕ) (s : List ℕ) (p : ℕ) → Bytes (read w s p) → bitAnd (little (read w s p)) (highs w) ≡ 0 → (i : ℕ)
+    → p ≤ i → i < p + w → getD s i 0 < 128
 unfolding little
 none-high zero s p y e i h k = absurd (omega arith)
 none-high (suc w) s p y e i h k = go (λ o. none-high w s (p + 1) (y .1) (omega (arith, both)) i (omega (arith, o)) (omega arith)) (ltb p i) refl
@@ -115,7 +118,8 @@ begins-past : {s : List ℕ} {p w x : ℕ} → Begins s p (suc w) x → Begins s
 unfolding little
 begins-past {s} {p} {w} {x} k = record { room = omega (arith, k .room); bytes = k .bytes .1; is = above x (getD s p 0) (little (read w s (p + 1))) (k .bytes .0) (k .is) }
 
-runs-begun : {s : List ℕ} {c : Cursor} {w x v j n : ℕ} {t : List ℕ} → Begins s (c .place) w x → ReadyAt s c → 0 < n → j ≤ w → Packs 4 0 x v j → Runs sourceU32 s c t n (record { items = n - 1; at = advanced c j 1 }) (set t (c .at) v)
+runs-begun : {s : List ℕ} {c : Cursor} {w x v j n : ℕ} {t : List ℕ} → Begins s (c .place) w x → ReadyAt s c → 0 < n
+    → j ≤ w → Packs 4 0 x v j → Runs sourceU32 s c t n (record { items = n - 1; at = advanced c j 1 }) (set t (c .at) v)
 unfolding words wordsLeaf
 runs-begun {s} {c} {w} {v = v} k r h i a =
     runs-one {v = num v} h r
@@ -128,17 +132,21 @@ runs-begun {s} {c} {w} {v = v} k r h i a =
 
 -- the eight bytes were there
 module _ {s : List ℕ} {c d : Cursor} {x : ℕ} {q : Number} (g : q ≡ Got x d) (f : Fetches 8 s c q) (r : ReadyAt s c) {n : ℕ} {t t′ : List ℕ} {z : Rest} where
-  pub runs-eight : 8 ≤ n → bitAnd x 9259542123273814144 ≡ 0 → Copied (1 ∷ []) 8 s (c .place) t (c .at) t′ → z ≡ record { items = n - 8; at = advanced c 8 8 } → Runs sourceU32 s c t n z t′
+  pub runs-eight : 8 ≤ n → bitAnd x 9259542123273814144 ≡ 0 → Copied (1 ∷ []) 8 s (c .place) t (c .at) t′
+      → z ≡ record { items = n - 8; at = advanced c 8 8 } → Runs sourceU32 s c t n z t′
   runs-eight h o a e =
       let k = begins (fetched g f) in
       let low = none-high 8 s (c .place) (k .bytes) (rw (k .is) at o) in
       runs-of {ws = 1 ∷ []} {m = 8} r h (omega (arith, k .room)) (omega arith) (λ p i l. one-byte s p (omega (arith, k .room)) (low p i (omega arith))) a (omega arith) (omega arith) e
 
-  pub runs-short : {v j : ℕ} → 0 < n → j ≤ 4 → Packs 4 0 x v j → t′ ≡ set t (c .at) v → z ≡ record { items = n - 1; at = advanced c j 1 } → Runs sourceU32 s c t n z t′
+  pub runs-short : {v j : ℕ} → 0 < n → j ≤ 4 → Packs 4 0 x v j → t′ ≡ set t (c .at) v
+      → z ≡ record { items = n - 1; at = advanced c j 1 } → Runs sourceU32 s c t n z t′
   runs-short h i a w e = rw (w, e) (runs-begun (begins (fetched g f)) r h (omega arith) a)
 
   -- a number of one byte, and a second one
-  pub runs-pair : {v j u i : ℕ} {t₁ : List ℕ} → 2 ≤ n → j ≡ 1 → Packs 4 0 x v j → t₁ ≡ set t (c .at) v → i ≤ 4 → Packs 4 0 (x / 256) u i → t′ ≡ set t₁ (c .at + 1) u → z ≡ record { items = n - 2; at = advanced c (1 + i) 2 } → Runs sourceU32 s c t n z t′
+  pub runs-pair : {v j u i : ℕ} {t₁ : List ℕ} → 2 ≤ n → j ≡ 1 → Packs 4 0 x v j → t₁ ≡ set t (c .at) v → i ≤ 4
+      → Packs 4 0 (x / 256) u i → t′ ≡ set t₁ (c .at + 1) u → z ≡ record { items = n - 2; at = advanced c (1 + i) 2 }
+      → Runs sourceU32 s c t n z t′
   runs-pair {v} {j} {u} {i} h o a w k b y e =
       let m = begins (fetched g f) in
       let l = runs-begun {n = n} {t = t} m r (omega arith) (omega arith) (rw o at a) in

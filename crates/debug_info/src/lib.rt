@@ -1,5 +1,6 @@
 // The debug information: source files, the locations of each function's code, and the sources of inlined code.
-// Ports what Module::deserialize and read_inline_sources of serialize.rs read into the records of debug_info.rs and debug_info/inline.rs.
+// Ports what Module::deserialize and read_inline_sources of serialize.rs read into the records of debug_info.rs and
+// debug_info/inline.rs.
 ghost use mathlib.Core.Path.{_≡_};
 ghost use Prim.Native.Nat.{_+_, _*_, _%_, _≤_, _<_, min};
 ghost use Rattle.format.specs.Format.{times};
@@ -19,7 +20,8 @@ use vob24::Settings;
 
 pub fn files(s: &[u8], set: &Settings, r: Step, tape: &mut [u32]) -> Step
     requires { ⌜ Ready (now s) r ⌝ }
-    ensures { λ q. ⌜ Reader (fileList (settingsOf (now (set .entry)))) (now (s .entry)) r (now (tape .entry)) q (now (tape .exit)) ⌝ }
+    ensures { λ q. ⌜ Reader (fileList (settingsOf (now (set .entry)))) (now (s .entry)) r (now (tape .entry)) q
+        (now (tape .exit)) ⌝ }
 {
     let Step::Taken(c) = r else {
         return r;
@@ -103,8 +105,8 @@ fn short_number(x: u64) -> Short
     none
 }
 
-// From the next eight bytes: eight numbers of one byte each; else one of 1 to 4 bytes and, if it took one byte, a second; else none. Where
-// eight bytes are not there it reads none, and the leaf asks for its bytes.
+// From the next eight bytes: eight numbers of one byte each; else one of 1 to 4 bytes and, if it took one byte, a
+// second; else none. Where eight bytes are not there it reads none, and the leaf asks for its bytes.
 fn short_numbers(s: &[u8], c: Cursor, n: u64, tape: &mut [u32]) -> Rest
     requires { ⌜ ReadyAt (now s) c × (0 < n) ⌝ }
     ensures { λ q. ⌜ Runs sourceU32 (now (s .entry)) c (now (tape .entry)) n q (now (tape .exit)) × (q .items ≤ n) ⌝ }
@@ -190,10 +192,12 @@ fn source_numbers(s: &[u8], r: Step, n: u64, tape: &mut [u32]) -> Step
     here
 }
 
-// One function's: pc, file_id, line, col and len of each, all packed. They are read as one run of numbers, which keeps the loop tight.
+// One function's: pc, file_id, line, col and len of each, all packed. They are read as one run of numbers, which keeps
+// the loop tight.
 fn locations(s: &[u8], set: &Settings, r: Step, tape: &mut [u32]) -> Step
     requires { ⌜ Ready (now s) r ⌝ }
-    ensures { λ q. ⌜ Reader (locationList (settingsOf (now (set .entry)))) (now (s .entry)) r (now (tape .entry)) q (now (tape .exit)) ⌝ }
+    ensures { λ q. ⌜ Reader (locationList (settingsOf (now (set .entry)))) (now (s .entry)) r (now (tape .entry)) q
+        (now (tape .exit)) ⌝ }
 {
     let Step::Taken(c) = r else {
         return r;
@@ -207,7 +211,8 @@ fn locations(s: &[u8], set: &Settings, r: Step, tape: &mut [u32]) -> Step
 
 pub fn function_locations(s: &[u8], set: &Settings, r: Step, tape: &mut [u32]) -> Step
     requires { ⌜ Ready (now s) r ⌝ }
-    ensures { λ q. ⌜ Reader (functionLocations (settingsOf (now (set .entry)))) (now (s .entry)) r (now (tape .entry)) q (now (tape .exit)) ⌝ }
+    ensures { λ q. ⌜ Reader (functionLocations (settingsOf (now (set .entry)))) (now (s .entry)) r (now (tape .entry))
+        q (now (tape .exit)) ⌝ }
 {
     let Step::Taken(c) = r else {
         return r;
@@ -269,7 +274,8 @@ fn inline_frame(s: &[u8], r: Step, tape: &mut [u32]) -> Step
 
 fn inline_frames(s: &[u8], set: &Settings, r: Step, tape: &mut [u32]) -> Step
     requires { ⌜ Ready (now s) r ⌝ }
-    ensures { λ q. ⌜ Reader (frameList (settingsOf (now (set .entry)))) (now (s .entry)) r (now (tape .entry)) q (now (tape .exit)) ⌝ }
+    ensures { λ q. ⌜ Reader (frameList (settingsOf (now (set .entry)))) (now (s .entry)) r (now (tape .entry)) q
+        (now (tape .exit)) ⌝ }
 {
     let Step::Taken(c) = r else {
         return r;
@@ -310,7 +316,8 @@ fn inline_entry(s: &[u8], r: Step, tape: &mut [u32]) -> Step
 // A function with at most `left` entries. Also returns their count.
 fn inline_function(s: &[u8], set: &Settings, c: Cursor, left: u64, tape: &mut [u32]) -> Number
     requires { ⌜ ReadyAt (now s) c ⌝ }
-    ensures { λ q. ⌜ NumberOf (functionFormat (settingsOf (now (set .entry))) left) entriesOf (now (s .entry)) c (now (tape .entry)) q (now (tape .exit)) ⌝ }
+    ensures { λ q. ⌜ NumberOf (functionFormat (settingsOf (now (set .entry))) left) entriesOf (now (s .entry)) c
+        (now (tape .entry)) q (now (tape .exit)) ⌝ }
 {
     let p = fields::number_u32(s, c, tape);
     let Number::Got(_, d) = p else {
@@ -349,7 +356,8 @@ fn smaller(a: u64, b: u64) -> u64
 // The limit of the frames is also that of the functions, and of all their entries together.
 fn inline_functions(s: &[u8], set: &Settings, r: Step, functions: u64, tape: &mut [u32]) -> Step
     requires { ⌜ Ready (now s) r ⌝ }
-    ensures { λ q. ⌜ Reader (functionList (settingsOf (now (set .entry))) functions) (now (s .entry)) r (now (tape .entry)) q (now (tape .exit)) ⌝ }
+    ensures { λ q. ⌜ Reader (functionList (settingsOf (now (set .entry))) functions) (now (s .entry)) r
+        (now (tape .entry)) q (now (tape .exit)) ⌝ }
 {
     let Step::Taken(c) = r else {
         return r;
@@ -385,7 +393,8 @@ fn inline_functions(s: &[u8], set: &Settings, r: Step, functions: u64, tape: &mu
 
 pub fn inline_sources(s: &[u8], set: &Settings, r: Step, functions: u64, tape: &mut [u32]) -> Step
     requires { ⌜ Ready (now s) r ⌝ }
-    ensures { λ q. ⌜ Reader (inlineFormat (settingsOf (now (set .entry))) functions) (now (s .entry)) r (now (tape .entry)) q (now (tape .exit)) ⌝ }
+    ensures { λ q. ⌜ Reader (inlineFormat (settingsOf (now (set .entry))) functions) (now (s .entry)) r
+        (now (tape .entry)) q (now (tape .exit)) ⌝ }
 {
     let frames = inline_frames(s, set, r, tape);
     inline_functions(s, set, frames, functions, tape)

@@ -55,7 +55,8 @@ after-second (suc i) v = after-second i (second v)
 
 -- THE invariant of the road: from r, where the sections begin, i of them have been read
 pub record Along (set : Settings) (i : ℕ) (s : List ℕ) (r r′ : Step) : Type 0 where
-  pub on : (v : Value) (q l : ℕ) → On (sections set) s v q l r → On (fromNumber set (functionsBefore i v) i) s (after i v) q l r′
+  pub on : (v : Value) (q l : ℕ) → On (sections set) s v q l r
+      → On (fromNumber set (functionsBefore i v) i) s (after i v) q l r′
   pub accepted : Accepted true (sections set) s r
   pub ready : Ready s r′
 
@@ -65,7 +66,8 @@ module _ {set : Settings} {s : List ℕ} {r : Step} where
   along-start g h = record { on = λ v q l o. o; accepted = g; ready = h }
 
   module _ {i : ℕ} {r₁ : Step} (x : Section) (h : i < 16) (a : Along set i s r r₁) (e : (sectionOf x ≡ getD allSections i inlineSources) × (functionsOf x ≡ 0)) where
-    here : (v : Value) (q l : ℕ) → On (sections set) s v q l r → On (seq (formatOf set x) (λ w. fromNumber set (functionsBy (functionsBefore i v) (getD allSections i inlineSources) w) (suc i))) s (after i v) q l r₁
+    here : (v : Value) (q l : ℕ) → On (sections set) s v q l r
+        → On (seq (formatOf set x) (λ w. fromNumber set (functionsBy (functionsBefore i v) (getD allSections i inlineSources) w) (suc i))) s (after i v) q l r₁
     here v q l o = rw (e .1, e .0, ← (section-first set (functionsBefore i v) allSections i (omega arith))) (a .on v q l o)
 
     pub along-accepted : Accepted true (formatOf set x) s r₁
@@ -84,7 +86,9 @@ module _ (set : Settings) {s : List ℕ} {r r₁ r₂ : Step} {t t₁ t₂ : Lis
   along-reaches e k = rw (← e) (record { on = λ v q l o. k .on (after 2 v) q l (on-next (on-next o a) b); ready = k .ready })
 
 -- a list that stands first: its entries are what stands there
-pub on-list : {ρ : Rule} {m k z : ℕ} {f : Format} {g : Value → Format} {s : List ℕ} {v : Value} {q l : ℕ} {r : Step} → On (seq (seq (leaf (count ρ m k z)) (λ v. times f (number v))) g) s v q l r → Ready s r → ListStands f (entries (first v)) s r
+pub on-list : {ρ : Rule} {m k z : ℕ} {f : Format} {g : Value → Format} {s : List ℕ} {v : Value} {q l : ℕ} {r : Step}
+    → On (seq (seq (leaf (count ρ m k z)) (λ v. times f (number v))) g) s v q l r → Ready s r
+    → ListStands f (entries (first v)) s r
 on-list {ρ} {m} {k} {z} {f} {g} {s} {v} {q} {l} {r} o y =
     let c = o .cursor in
     let e = settle-taken (c .left) (trace (seq (seq (leaf (count ρ m k z)) (λ v. times f (number v))) g) s (c .place)) v q l .0 (o .settles) .0 in

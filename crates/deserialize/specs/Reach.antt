@@ -16,9 +16,11 @@ use Rattle.in_place.specs.Contract.{Items}
 use Rattle.in_place.specs.Walk.{itemsAt}
 use Rattle.deserialize.specs.Parts.{fromNumber, functionsBefore}
 
--- In a pack that the reading from r takes, r′ stands at the section numbered i. Magic and version are no part of the sections' value.
+-- In a pack that the reading from r takes, r′ stands at the section numbered i. Magic and version are no part of the
+-- sections' value.
 pub record Reaches (set : Settings) (i : ℕ) (s : List ℕ) (r r′ : Step) : Type 0 where
-  pub on : (v : Value) (q l : ℕ) → On (pack set) s v q l r → On (fromNumber set (functionsBefore i (after 2 v)) i) s (after i (after 2 v)) q l r′
+  pub on : (v : Value) (q l : ℕ) → On (pack set) s v q l r
+      → On (fromNumber set (functionsBefore i (after 2 v)) i) s (after i (after 2 v)) q l r′
   pub ready : Ready s r′
 
 -- Where r stands there is a list of f, with these entries: a count, and as many items behind it.

@@ -16,7 +16,8 @@ use vob24::Settings;
 // The artifacts and the debug information: five lists, which are empty in a small pack.
 fn artifacts_on(s: &[u8], set: &Settings, r: Step, functions: u64, tape: &mut [u32]) -> Step
     requires { ⌜ Ready (now s) r ⌝ }
-    ensures { λ q. ⌜ Reader (fromSection (settingsOf (now (set .entry))) functions vob.artifacts) (now (s .entry)) r (now (tape .entry)) q (now (tape .exit)) ⌝ }
+    ensures { λ q. ⌜ Reader (fromSection (settingsOf (now (set .entry))) functions vob.artifacts) (now (s .entry)) r
+        (now (tape .entry)) q (now (tape .exit)) ⌝ }
 {
     let Step::Taken(c) = r else {
         return r;
@@ -33,7 +34,8 @@ fn artifacts_on(s: &[u8], set: &Settings, r: Step, functions: u64, tape: &mut [u
 // The sections after the functions, by the number of functions.
 fn after_functions(s: &[u8], set: &Settings, r: Step, functions: u64, tape: &mut [u32]) -> Step
     requires { ⌜ Ready (now s) r ⌝ }
-    ensures { λ q. ⌜ Reader (fromSection (settingsOf (now (set .entry))) functions vob.externs) (now (s .entry)) r (now (tape .entry)) q (now (tape .exit)) ⌝ }
+    ensures { λ q. ⌜ Reader (fromSection (settingsOf (now (set .entry))) functions vob.externs) (now (s .entry)) r
+        (now (tape .entry)) q (now (tape .exit)) ⌝ }
 {
     let r1 = small_sections::externs(s, r, tape);
     let r2 = small_sections::entry(s, r1, tape);
@@ -44,7 +46,8 @@ fn after_functions(s: &[u8], set: &Settings, r: Step, functions: u64, tape: &mut
 // The functions, and the sections after them.
 fn functions_on(s: &[u8], set: &Settings, r: Step, tape: &mut [u32]) -> Step
     requires { ⌜ Ready (now s) r ⌝ }
-    ensures { λ q. ⌜ Reader (fromSection (settingsOf (now (set .entry))) 0 vob.functions) (now (s .entry)) r (now (tape .entry)) q (now (tape .exit)) ⌝ }
+    ensures { λ q. ⌜ Reader (fromSection (settingsOf (now (set .entry))) 0 vob.functions) (now (s .entry)) r
+        (now (tape .entry)) q (now (tape .exit)) ⌝ }
 {
     let Step::Taken(c) = r else {
         return r;
@@ -59,7 +62,9 @@ fn functions_on(s: &[u8], set: &Settings, r: Step, tape: &mut [u32]) -> Step
 // The types: five lists, which are empty in a small pack.
 fn types(s: &[u8], set: &Settings, r: Step, again: bool, tape: &mut [u32]) -> Step
     requires { ⌜ (Ready (now s) r) × (Accepted again (fromSection (settingsOf (now set)) 0 vob.structs) (now s) r) ⌝ }
-    ensures { λ q. ⌜ ComesTo (fromSection (settingsOf (now (set .entry))) 0 vob.structs) (fromSection (settingsOf (now (set .entry))) 0 vob.wellKnown) (now (s .entry)) r (now (tape .entry)) q (now (tape .exit)) ⌝ }
+    ensures { λ q. ⌜ ComesTo (fromSection (settingsOf (now (set .entry))) 0 vob.structs)
+        (fromSection (settingsOf (now (set .entry))) 0 vob.wellKnown) (now (s .entry)) r (now (tape .entry)) q
+        (now (tape .exit)) ⌝ }
 {
     let Step::Taken(c) = r else {
         return r;
@@ -77,7 +82,8 @@ fn types(s: &[u8], set: &Settings, r: Step, again: bool, tape: &mut [u32]) -> St
 // The whole pack, up to the question of what comes after it. A second pass leaves out the search for repeated names.
 pub fn deserialize(s: &[u8], set: &Settings, r: Step, again: bool, tape: &mut [u32]) -> Step
     requires { ⌜ (Ready (now s) r) × (Accepted again (vob.pack (settingsOf (now set))) (now s) r) ⌝ }
-    ensures { λ q. ⌜ Reader (vob.pack (settingsOf (now (set .entry)))) (now (s .entry)) r (now (tape .entry)) q (now (tape .exit)) ⌝ }
+    ensures { λ q. ⌜ Reader (vob.pack (settingsOf (now (set .entry)))) (now (s .entry)) r (now (tape .entry)) q
+        (now (tape .exit)) ⌝ }
 {
     let r1 = fields::field_magic(s, r, tape);
     let r2 = fields::field_version(s, r1, tape);
@@ -99,7 +105,8 @@ pub fn section(
     tape: &mut [u32],
 ) -> Step
     requires { ⌜ (Ready (now s) r) × (Accepted again (formatOf (settingsOf (now set)) section) (now s) r) ⌝ }
-    ensures { λ q. ⌜ Reader (formatOf (settingsOf (now (set .entry))) section) (now (s .entry)) r (now (tape .entry)) q (now (tape .exit)) ⌝ }
+    ensures { λ q. ⌜ Reader (formatOf (settingsOf (now (set .entry))) section) (now (s .entry)) r (now (tape .entry)) q
+        (now (tape .exit)) ⌝ }
 {
     match section {
         Section::Name => fields::field_str(s, r, tape),

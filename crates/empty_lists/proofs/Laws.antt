@@ -18,7 +18,8 @@ use Rattle.in_place.specs.Contract.{WordIs}
 use Rattle.empty_lists.specs.Empty.{Zero, Five, PastEmpty, PastFive}
 
 -- the answers of `five_at` and `past`
-pub five-of : {s : List ℕ} {p a b c d e : ℕ} → p ≤ length s → 20 ≤ length s - p → WordIs s p a → WordIs s (p + 4) b → WordIs s (p + 8) c → WordIs s (p + 12) d → WordIs s (p + 16) e → a + b + c + d + e ≡ 0 → Five s p
+pub five-of : {s : List ℕ} {p a b c d e : ℕ} → p ≤ length s → 20 ≤ length s - p → WordIs s p a → WordIs s (p + 4) b
+    → WordIs s (p + 8) c → WordIs s (p + 12) d → WordIs s (p + 16) e → a + b + c + d + e ≡ 0 → Five s p
 five-of {s} {p} {a} {b} {c} {d} {e} y h i j k l m n =
     let x₃ : p + 8 ≡ p + 4 + 4 = omega arith in
     let x₄ : p + 12 ≡ p + 4 + 4 + 4 = omega arith in
@@ -34,12 +35,14 @@ five-of {s} {p} {a} {b} {c} {d} {e} y h i j k l m n =
       fifth = record { room = omega arith; is = omega (arith, m′) };
     }
 
-pub past-of : {c d : Cursor} {t t′ : List ℕ} → Kept c 0 t d t′ → PastEmpty c t (record { place = c .place + 4; left = c .left; at = d .at }) t′
+pub past-of : {c d : Cursor} {t t′ : List ℕ} → Kept c 0 t d t′
+    → PastEmpty c t (record { place = c .place + 4; left = c .left; at = d .at }) t′
 past-of {c} {d} k = let e : d .at ≡ c .at + 1 = ap (λ (x : Cursor). x .at) (k .is) in record { is = rw e; writes = k .writes }
 
 -- ---- an empty list
 
-zero-settles : (ρ : Rule) (m k z : ℕ) (s : List ℕ) (p b : ℕ) → Zero s p → ρ .test 0 ≡ true → settle b (traceLeaf (count ρ m k z) s p) ≡ taken (num 0) (p + 4) b
+zero-settles : (ρ : Rule) (m k z : ℕ) (s : List ℕ) (p b : ℕ) → Zero s p → ρ .test 0 ≡ true
+    → settle b (traceLeaf (count ρ m k z) s p) ≡ taken (num 0) (p + 4) b
 unfolding traceLeaf settle
 zero-settles ρ m k z s p b o i =
     let x : 0 * z ≤ b = omega arith in
@@ -55,13 +58,15 @@ module _ {s : List ℕ} {c d : Cursor} {t t′ : List ℕ} (r : ReadyAt s c) (o 
   past-ready = rw (p .is) (record { small = r .small; within = o .room; behind = omega (arith, r .behind) })
 
   -- a list whose items go by a state
-  emptyChain : {S : Type 0} (f : S → Format) (u : S → Value → S) (x : S) {ρ : Rule} {m k z : ℕ} → ρ .test 0 ≡ true → Reader (seq (leaf (count ρ m k z)) (λ v. chain f u x (number v))) s (Taken c) t (Taken d) t′
+  emptyChain : {S : Type 0} (f : S → Format) (u : S → Value → S) (x : S) {ρ : Rule} {m k z : ℕ} → ρ .test 0 ≡ true
+      → Reader (seq (leaf (count ρ m k z)) (λ v. chain f u x (number v))) s (Taken c) t (Taken d) t′
   emptyChain f u x {ρ} {m} {k} {z} i =
       let h : Reader (chain f u x 0) s (Taken d) t′ (Taken d) t′ = chained-done (omega arith) (chained-start past-ready) in
       record { reads = thenReads (zero-takes ρ m k z i) (h .reads); ready = past-ready }
 
   -- a list of like items
-  emptyRead : (f : Format) {ρ : Rule} {m k z : ℕ} → ρ .test 0 ≡ true → Reader (seq (leaf (count ρ m k z)) (λ v. times f (number v))) s (Taken c) t (Taken d) t′
+  emptyRead : (f : Format) {ρ : Rule} {m k z : ℕ} → ρ .test 0 ≡ true
+      → Reader (seq (leaf (count ρ m k z)) (λ v. times f (number v))) s (Taken c) t (Taken d) t′
   emptyRead f i = emptyChain {S = Unit {0}} (λ _. f) (λ _ _. tt) tt i
 
 -- five of them, one after the other
@@ -95,17 +100,22 @@ module _ {s : List ℕ} {c : Cursor} {t : List ℕ} (r : ReadyAt s c) (o : Five 
 
 -- each of the five, as a reader of a list
 module _ {s : List ℕ} {c d : Cursor} {t t′ : List ℕ} (r : ReadyAt s c) (o : Five s (c .place)) (p : PastFive c t d t′) where
-  pub emptyFirst : (f : Format) {ρ : Rule} {m k z : ℕ} → ρ .test 0 ≡ true → Reader (seq (leaf (count ρ m k z)) (λ v. times f (number v))) s (Taken c) t (Taken (p .c₁)) (p .t₁)
+  pub emptyFirst : (f : Format) {ρ : Rule} {m k z : ℕ} → ρ .test 0 ≡ true
+      → Reader (seq (leaf (count ρ m k z)) (λ v. times f (number v))) s (Taken c) t (Taken (p .c₁)) (p .t₁)
   emptyFirst f i = emptyRead r (o .first) (p .first) f i
 
-  pub emptySecond : (f : Format) {ρ : Rule} {m k z : ℕ} → ρ .test 0 ≡ true → Reader (seq (leaf (count ρ m k z)) (λ v. times f (number v))) s (Taken (p .c₁)) (p .t₁) (Taken (p .c₂)) (p .t₂)
+  pub emptySecond : (f : Format) {ρ : Rule} {m k z : ℕ} → ρ .test 0 ≡ true
+      → Reader (seq (leaf (count ρ m k z)) (λ v. times f (number v))) s (Taken (p .c₁)) (p .t₁) (Taken (p .c₂)) (p .t₂)
   emptySecond f i = emptyRead (ready-1 r o (p .first)) (zero-1 r o (p .first)) (p .second) f i
 
-  pub emptyThird : (f : Format) {ρ : Rule} {m k z : ℕ} → ρ .test 0 ≡ true → Reader (seq (leaf (count ρ m k z)) (λ v. times f (number v))) s (Taken (p .c₂)) (p .t₂) (Taken (p .c₃)) (p .t₃)
+  pub emptyThird : (f : Format) {ρ : Rule} {m k z : ℕ} → ρ .test 0 ≡ true
+      → Reader (seq (leaf (count ρ m k z)) (λ v. times f (number v))) s (Taken (p .c₂)) (p .t₂) (Taken (p .c₃)) (p .t₃)
   emptyThird f i = emptyRead (ready-2 r o (p .first) (p .second)) (zero-2 r o (p .first) (p .second)) (p .third) f i
 
-  pub emptyFourth : (f : Format) {ρ : Rule} {m k z : ℕ} → ρ .test 0 ≡ true → Reader (seq (leaf (count ρ m k z)) (λ v. times f (number v))) s (Taken (p .c₃)) (p .t₃) (Taken (p .c₄)) (p .t₄)
+  pub emptyFourth : (f : Format) {ρ : Rule} {m k z : ℕ} → ρ .test 0 ≡ true
+      → Reader (seq (leaf (count ρ m k z)) (λ v. times f (number v))) s (Taken (p .c₃)) (p .t₃) (Taken (p .c₄)) (p .t₄)
   emptyFourth f i = emptyRead (ready-3 r o (p .first) (p .second) (p .third)) (zero-3 r o (p .first) (p .second) (p .third)) (p .fourth) f i
 
-  pub emptyFifth : {S : Type 0} (f : S → Format) (u : S → Value → S) (x : S) {ρ : Rule} {m k z : ℕ} → ρ .test 0 ≡ true → Reader (seq (leaf (count ρ m k z)) (λ v. chain f u x (number v))) s (Taken (p .c₄)) (p .t₄) (Taken d) t′
+  pub emptyFifth : {S : Type 0} (f : S → Format) (u : S → Value → S) (x : S) {ρ : Rule} {m k z : ℕ} → ρ .test 0 ≡ true
+      → Reader (seq (leaf (count ρ m k z)) (λ v. chain f u x (number v))) s (Taken (p .c₄)) (p .t₄) (Taken d) t′
   emptyFifth f u x i = emptyChain (ready-4 r o (p .first) (p .second) (p .third) (p .fourth)) (zero-4 r o (p .first) (p .second) (p .third) (p .fourth)) (p .fifth) f u x i

@@ -12,15 +12,19 @@ use Rattle.lookup.specs.declared.Found.{Found}
 use Rattle.c_answers.specs.Numbers.{numbersOf, foundNumbers, Shows}
 use Rattle.c_answers.specs.declared.VobAnswer.{VobAnswer}
 
-shows : {o : vob.Outcome} (a : Answer) {q : VobAnswer} {t′ : List ℕ} → o ≡ record { answer = answerOf a; tape = t′ } → q ≡ numbersOf (answerOf a) → Shows o q t′
+shows : {o : vob.Outcome} (a : Answer) {q : VobAnswer} {t′ : List ℕ} → o ≡ record { answer = answerOf a; tape = t′ }
+    → q ≡ numbersOf (answerOf a) → Shows o q t′
 shows a e h = record { answer = h ∙ ap (λ o. numbersOf (o .answer)) (sym e); tape = ap (λ o. o .tape) (sym e) }
 
 module _ {s : List ℕ} {b : ℕ} {t : List ℕ} {a : Answer} {q : VobAnswer} {t′ : List ℕ} where
-  pub shows-read : ReadCall settings s b t a t′ → q ≡ numbersOf (answerOf a) → Shows (vob.readOutcome settings s b t) q t′
+  pub shows-read : ReadCall settings s b t a t′ → q ≡ numbersOf (answerOf a)
+      → Shows (vob.readOutcome settings s b t) q t′
   shows-read call = shows a (call .is)
 
-  pub shows-section : {n : ℕ} {x : Section} {p : ℕ} → SectionCall settings n x s p b t a t′ → q ≡ numbersOf (answerOf a) → Shows (vob.sectionOutcome settings n x s p b t) q t′
+  pub shows-section : {n : ℕ} {x : Section} {p : ℕ} → SectionCall settings n x s p b t a t′ → q ≡ numbersOf (answerOf a)
+      → Shows (vob.sectionOutcome settings n x s p b t) q t′
   shows-section call = shows a (call .is)
 
-pub shows-found : {s name : List ℕ} {a : Found} {q : VobAnswer} → LocateCall settings s name a → q ≡ foundNumbers (foundOf a) → q ≡ foundNumbers (vob.findOutcome settings s name)
+pub shows-found : {s name : List ℕ} {a : Found} {q : VobAnswer} → LocateCall settings s name a
+    → q ≡ foundNumbers (foundOf a) → q ≡ foundNumbers (vob.findOutcome settings s name)
 shows-found call h = h ∙ ap foundNumbers (call .is)

@@ -1,5 +1,6 @@
-// The calls for programs in C or Rust to link (rt staticlib exports): whole pack, sections, lookup and the table of sizes, over the C ABI.
-// The Rust has none of these; bindings/c/vob.h declares them. An answer is returned by value, so a refusal changes no lent memory.
+// The calls for programs in C or Rust to link (rt staticlib exports): whole pack, sections, lookup and the table of
+// sizes, over the C ABI. The Rust has none of these; bindings/c/vob.h declares them. An answer is returned by value, so
+// a refusal changes no lent memory.
 ghost use mathlib.Core.Path.{_≡_};
 ghost use Rattle.vob24.specs.Settings.{settings, sizeOf};
 ghost use Rattle.vob24.specs.Grammar as vob;
@@ -10,7 +11,8 @@ use vob24::Section;
 
 #[no_mangle]
 pub extern "C" fn vob_read(pack: &[u8], budget: u64, tape: &mut [u32]) -> VobAnswer
-    ensures { λ q. ⌜ Shows (readOutcome settings (now (pack .entry)) budget (now (tape .entry))) q (now (tape .exit)) ⌝ }
+    ensures { λ q. ⌜ Shows (readOutcome settings (now (pack .entry)) budget (now (tape .entry))) q
+        (now (tape .exit)) ⌝ }
 {
     c_answers::shown(pack::read(pack, budget, tape))
 }
@@ -34,14 +36,16 @@ pub extern "C" fn vob_charge_size(index: u64) -> u64
 
 #[no_mangle]
 pub extern "C" fn vob_name(pack: &[u8], place: u64, budget: u64, tape: &mut [u32]) -> VobAnswer
-    ensures { λ q. ⌜ Shows (sectionOutcome settings 0 vob.name (now (pack .entry)) place budget (now (tape .entry))) q (now (tape .exit)) ⌝ }
+    ensures { λ q. ⌜ Shows (sectionOutcome settings 0 vob.name (now (pack .entry)) place budget (now (tape .entry))) q
+        (now (tape .exit)) ⌝ }
 {
     c_answers::shown(sections::read_section(pack, Section::Name, place as usize, budget, tape))
 }
 
 #[no_mangle]
 pub extern "C" fn vob_structs(pack: &[u8], place: u64, budget: u64, tape: &mut [u32]) -> VobAnswer
-    ensures { λ q. ⌜ Shows (sectionOutcome settings 0 vob.structs (now (pack .entry)) place budget (now (tape .entry))) q (now (tape .exit)) ⌝ }
+    ensures { λ q. ⌜ Shows (sectionOutcome settings 0 vob.structs (now (pack .entry)) place budget (now (tape .entry)))
+        q (now (tape .exit)) ⌝ }
 {
     c_answers::shown(sections::read_section(pack, Section::Structs, place as usize, budget, tape))
 }
@@ -53,7 +57,9 @@ pub extern "C" fn vob_interfaces(
     budget: u64,
     tape: &mut [u32],
 ) -> VobAnswer
-    ensures { λ q. ⌜ Shows (sectionOutcome settings 0 vob.interfaces (now (pack .entry)) place budget (now (tape .entry))) q (now (tape .exit)) ⌝ }
+    ensures { λ q. ⌜ Shows
+        (sectionOutcome settings 0 vob.interfaces (now (pack .entry)) place budget (now (tape .entry))) q
+        (now (tape .exit)) ⌝ }
 {
     c_answers::shown(sections::read_section(
         pack,
@@ -71,7 +77,9 @@ pub extern "C" fn vob_named_types(
     budget: u64,
     tape: &mut [u32],
 ) -> VobAnswer
-    ensures { λ q. ⌜ Shows (sectionOutcome settings 0 vob.namedTypes (now (pack .entry)) place budget (now (tape .entry))) q (now (tape .exit)) ⌝ }
+    ensures { λ q. ⌜ Shows
+        (sectionOutcome settings 0 vob.namedTypes (now (pack .entry)) place budget (now (tape .entry))) q
+        (now (tape .exit)) ⌝ }
 {
     c_answers::shown(sections::read_section(
         pack,
@@ -84,7 +92,8 @@ pub extern "C" fn vob_named_types(
 
 #[no_mangle]
 pub extern "C" fn vob_itabs(pack: &[u8], place: u64, budget: u64, tape: &mut [u32]) -> VobAnswer
-    ensures { λ q. ⌜ Shows (sectionOutcome settings 0 vob.itabs (now (pack .entry)) place budget (now (tape .entry))) q (now (tape .exit)) ⌝ }
+    ensures { λ q. ⌜ Shows (sectionOutcome settings 0 vob.itabs (now (pack .entry)) place budget (now (tape .entry))) q
+        (now (tape .exit)) ⌝ }
 {
     c_answers::shown(sections::read_section(pack, Section::Itabs, place as usize, budget, tape))
 }
@@ -96,7 +105,9 @@ pub extern "C" fn vob_runtime_types(
     budget: u64,
     tape: &mut [u32],
 ) -> VobAnswer
-    ensures { λ q. ⌜ Shows (sectionOutcome settings 0 vob.runtimeTypes (now (pack .entry)) place budget (now (tape .entry))) q (now (tape .exit)) ⌝ }
+    ensures { λ q. ⌜ Shows
+        (sectionOutcome settings 0 vob.runtimeTypes (now (pack .entry)) place budget (now (tape .entry))) q
+        (now (tape .exit)) ⌝ }
 {
     c_answers::shown(sections::read_section(
         pack,
@@ -114,42 +125,51 @@ pub extern "C" fn vob_well_known(
     budget: u64,
     tape: &mut [u32],
 ) -> VobAnswer
-    ensures { λ q. ⌜ Shows (sectionOutcome settings 0 vob.wellKnown (now (pack .entry)) place budget (now (tape .entry))) q (now (tape .exit)) ⌝ }
+    ensures { λ q. ⌜ Shows
+        (sectionOutcome settings 0 vob.wellKnown (now (pack .entry)) place budget (now (tape .entry))) q
+        (now (tape .exit)) ⌝ }
 {
     c_answers::shown(sections::read_section(pack, Section::WellKnown, place as usize, budget, tape))
 }
 
 #[no_mangle]
 pub extern "C" fn vob_constants(pack: &[u8], place: u64, budget: u64, tape: &mut [u32]) -> VobAnswer
-    ensures { λ q. ⌜ Shows (sectionOutcome settings 0 vob.constants (now (pack .entry)) place budget (now (tape .entry))) q (now (tape .exit)) ⌝ }
+    ensures { λ q. ⌜ Shows
+        (sectionOutcome settings 0 vob.constants (now (pack .entry)) place budget (now (tape .entry))) q
+        (now (tape .exit)) ⌝ }
 {
     c_answers::shown(sections::read_section(pack, Section::Constants, place as usize, budget, tape))
 }
 
 #[no_mangle]
 pub extern "C" fn vob_globals(pack: &[u8], place: u64, budget: u64, tape: &mut [u32]) -> VobAnswer
-    ensures { λ q. ⌜ Shows (sectionOutcome settings 0 vob.globals (now (pack .entry)) place budget (now (tape .entry))) q (now (tape .exit)) ⌝ }
+    ensures { λ q. ⌜ Shows (sectionOutcome settings 0 vob.globals (now (pack .entry)) place budget (now (tape .entry)))
+        q (now (tape .exit)) ⌝ }
 {
     c_answers::shown(sections::read_section(pack, Section::Globals, place as usize, budget, tape))
 }
 
 #[no_mangle]
 pub extern "C" fn vob_functions(pack: &[u8], place: u64, budget: u64, tape: &mut [u32]) -> VobAnswer
-    ensures { λ q. ⌜ Shows (sectionOutcome settings 0 vob.functions (now (pack .entry)) place budget (now (tape .entry))) q (now (tape .exit)) ⌝ }
+    ensures { λ q. ⌜ Shows
+        (sectionOutcome settings 0 vob.functions (now (pack .entry)) place budget (now (tape .entry))) q
+        (now (tape .exit)) ⌝ }
 {
     c_answers::shown(sections::read_section(pack, Section::Functions, place as usize, budget, tape))
 }
 
 #[no_mangle]
 pub extern "C" fn vob_externs(pack: &[u8], place: u64, budget: u64, tape: &mut [u32]) -> VobAnswer
-    ensures { λ q. ⌜ Shows (sectionOutcome settings 0 vob.externs (now (pack .entry)) place budget (now (tape .entry))) q (now (tape .exit)) ⌝ }
+    ensures { λ q. ⌜ Shows (sectionOutcome settings 0 vob.externs (now (pack .entry)) place budget (now (tape .entry)))
+        q (now (tape .exit)) ⌝ }
 {
     c_answers::shown(sections::read_section(pack, Section::Externs, place as usize, budget, tape))
 }
 
 #[no_mangle]
 pub extern "C" fn vob_entry(pack: &[u8], place: u64, budget: u64, tape: &mut [u32]) -> VobAnswer
-    ensures { λ q. ⌜ Shows (sectionOutcome settings 0 vob.entry (now (pack .entry)) place budget (now (tape .entry))) q (now (tape .exit)) ⌝ }
+    ensures { λ q. ⌜ Shows (sectionOutcome settings 0 vob.entry (now (pack .entry)) place budget (now (tape .entry))) q
+        (now (tape .exit)) ⌝ }
 {
     c_answers::shown(sections::read_section(pack, Section::Entry, place as usize, budget, tape))
 }
@@ -161,7 +181,9 @@ pub extern "C" fn vob_island_init(
     budget: u64,
     tape: &mut [u32],
 ) -> VobAnswer
-    ensures { λ q. ⌜ Shows (sectionOutcome settings 0 vob.islandInit (now (pack .entry)) place budget (now (tape .entry))) q (now (tape .exit)) ⌝ }
+    ensures { λ q. ⌜ Shows
+        (sectionOutcome settings 0 vob.islandInit (now (pack .entry)) place budget (now (tape .entry))) q
+        (now (tape .exit)) ⌝ }
 {
     c_answers::shown(sections::read_section(
         pack,
@@ -174,14 +196,17 @@ pub extern "C" fn vob_island_init(
 
 #[no_mangle]
 pub extern "C" fn vob_artifacts(pack: &[u8], place: u64, budget: u64, tape: &mut [u32]) -> VobAnswer
-    ensures { λ q. ⌜ Shows (sectionOutcome settings 0 vob.artifacts (now (pack .entry)) place budget (now (tape .entry))) q (now (tape .exit)) ⌝ }
+    ensures { λ q. ⌜ Shows
+        (sectionOutcome settings 0 vob.artifacts (now (pack .entry)) place budget (now (tape .entry))) q
+        (now (tape .exit)) ⌝ }
 {
     c_answers::shown(sections::read_section(pack, Section::Artifacts, place as usize, budget, tape))
 }
 
 #[no_mangle]
 pub extern "C" fn vob_files(pack: &[u8], place: u64, budget: u64, tape: &mut [u32]) -> VobAnswer
-    ensures { λ q. ⌜ Shows (sectionOutcome settings 0 vob.files (now (pack .entry)) place budget (now (tape .entry))) q (now (tape .exit)) ⌝ }
+    ensures { λ q. ⌜ Shows (sectionOutcome settings 0 vob.files (now (pack .entry)) place budget (now (tape .entry))) q
+        (now (tape .exit)) ⌝ }
 {
     c_answers::shown(sections::read_section(pack, Section::Files, place as usize, budget, tape))
 }
@@ -193,7 +218,9 @@ pub extern "C" fn vob_function_locations(
     budget: u64,
     tape: &mut [u32],
 ) -> VobAnswer
-    ensures { λ q. ⌜ Shows (sectionOutcome settings 0 vob.functionLocations (now (pack .entry)) place budget (now (tape .entry))) q (now (tape .exit)) ⌝ }
+    ensures { λ q. ⌜ Shows
+        (sectionOutcome settings 0 vob.functionLocations (now (pack .entry)) place budget (now (tape .entry))) q
+        (now (tape .exit)) ⌝ }
 {
     c_answers::shown(sections::read_section(
         pack,
@@ -212,7 +239,9 @@ pub extern "C" fn vob_inline_sources(
     functions: u64,
     tape: &mut [u32],
 ) -> VobAnswer
-    ensures { λ q. ⌜ Shows (sectionOutcome settings functions vob.inlineSources (now (pack .entry)) place budget (now (tape .entry))) q (now (tape .exit)) ⌝ }
+    ensures { λ q. ⌜ Shows
+        (sectionOutcome settings functions vob.inlineSources (now (pack .entry)) place budget (now (tape .entry))) q
+        (now (tape .exit)) ⌝ }
 {
     c_answers::shown(sections::read_section(
         pack,

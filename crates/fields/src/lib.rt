@@ -1,6 +1,7 @@
-// The field readers: a leaf, and its words on the tape. Each opens a leaf's answer by `let .. else` and passes the refusal up.
-// `field_` readers take the answer so far and give the next; `number_` and `span_` readers start at a cursor and also return
-// the number, or the start and length, that they read. Ports the read_ functions of serialize.rs on one field.
+// The field readers: a leaf, and its words on the tape. Each opens a leaf's answer by `let .. else` and passes the
+// refusal up. `field_` readers take the answer so far and give the next; `number_` and `span_` readers start at a
+// cursor and also return the number, or the start and length, that they read. Ports the read_ functions of serialize.rs
+// on one field.
 ghost use Rattle.format.specs.Format.{number};
 ghost use Rattle.vob24.specs.Settings.{settingsOf};
 ghost use Rattle.vob24.specs.Leaves.{u8, u16, u32, u64, optionalId, bool, slotType, valueKind, direction, valueMeta, valueRttid, sourceU32, str, memberName, optional};
@@ -332,7 +333,8 @@ pub fn number_metadata_tag(s: &[u8], c: Cursor, tape: &mut [u32]) -> Number
 // The count of a list of entries whose size is numbered `entry`, as reader::sizes has them.
 pub fn number_count(s: &[u8], set: &Settings, c: Cursor, entry: usize, tape: &mut [u32]) -> Number
     requires { ⌜ ReadyAt (now s) c ⌝ }
-    ensures { λ q. ⌜ NumberOf (listCount (settingsOf (now (set .entry))) entry) number (now (s .entry)) c (now (tape .entry)) q (now (tape .exit)) ⌝ }
+    ensures { λ q. ⌜ NumberOf (listCount (settingsOf (now (set .entry))) entry) number (now (s .entry)) c
+        (now (tape .entry)) q (now (tape .exit)) ⌝ }
 {
     let q = length_leaves::read_count(s, set, c, entry);
     let Number::Got(n, d) = q else {
@@ -351,7 +353,8 @@ pub fn number_debug_count(
     tape: &mut [u32],
 ) -> Number
     requires { ⌜ ReadyAt (now s) c ⌝ }
-    ensures { λ q. ⌜ NumberOf (debugCount (settingsOf (now (set .entry))) context most entry) number (now (s .entry)) c (now (tape .entry)) q (now (tape .exit)) ⌝ }
+    ensures { λ q. ⌜ NumberOf (debugCount (settingsOf (now (set .entry))) context most entry) number (now (s .entry)) c
+        (now (tape .entry)) q (now (tape .exit)) ⌝ }
 {
     let q = length_leaves::read_debug_count(s, set, c, context, most, entry);
     let Number::Got(n, d) = q else {
@@ -362,7 +365,8 @@ pub fn number_debug_count(
 
 pub fn number_artifact_count(s: &[u8], set: &Settings, c: Cursor, tape: &mut [u32]) -> Number
     requires { ⌜ ReadyAt (now s) c ⌝ }
-    ensures { λ q. ⌜ NumberOf (artifactCount (settingsOf (now (set .entry)))) number (now (s .entry)) c (now (tape .entry)) q (now (tape .exit)) ⌝ }
+    ensures { λ q. ⌜ NumberOf (artifactCount (settingsOf (now (set .entry)))) number (now (s .entry)) c
+        (now (tape .entry)) q (now (tape .exit)) ⌝ }
 {
     let q = length_leaves::read_artifact_count(s, set, c);
     let Number::Got(n, d) = q else {
@@ -373,7 +377,8 @@ pub fn number_artifact_count(s: &[u8], set: &Settings, c: Cursor, tape: &mut [u3
 
 pub fn number_method_count(s: &[u8], set: &Settings, c: Cursor, tape: &mut [u32]) -> Number
     requires { ⌜ ReadyAt (now s) c ⌝ }
-    ensures { λ q. ⌜ NumberOf (methodCount (settingsOf (now (set .entry)))) number (now (s .entry)) c (now (tape .entry)) q (now (tape .exit)) ⌝ }
+    ensures { λ q. ⌜ NumberOf (methodCount (settingsOf (now (set .entry)))) number (now (s .entry)) c
+        (now (tape .entry)) q (now (tape .exit)) ⌝ }
 {
     let q = length_leaves::read_method_count(s, set, c);
     let Number::Got(n, d) = q else {
@@ -426,7 +431,8 @@ pub fn field_optional_str(s: &[u8], r: Step, tape: &mut [u32]) -> Step
 
 pub fn field_artifact_name(s: &[u8], set: &Settings, r: Step, tape: &mut [u32]) -> Step
     requires { ⌜ Ready (now s) r ⌝ }
-    ensures { λ q. ⌜ Reader (artifactName (settingsOf (now (set .entry)))) (now (s .entry)) r (now (tape .entry)) q (now (tape .exit)) ⌝ }
+    ensures { λ q. ⌜ Reader (artifactName (settingsOf (now (set .entry)))) (now (s .entry)) r (now (tape .entry)) q
+        (now (tape .exit)) ⌝ }
 {
     let Step::Taken(c) = r else {
         return r;
@@ -445,7 +451,8 @@ pub fn field_artifact_name(s: &[u8], set: &Settings, r: Step, tape: &mut [u32]) 
 
 pub fn field_artifact_payload(s: &[u8], set: &Settings, r: Step, tape: &mut [u32]) -> Step
     requires { ⌜ Ready (now s) r ⌝ }
-    ensures { λ q. ⌜ Reader (artifactPayload (settingsOf (now (set .entry)))) (now (s .entry)) r (now (tape .entry)) q (now (tape .exit)) ⌝ }
+    ensures { λ q. ⌜ Reader (artifactPayload (settingsOf (now (set .entry)))) (now (s .entry)) r (now (tape .entry)) q
+        (now (tape .exit)) ⌝ }
 {
     let Step::Taken(c) = r else {
         return r;

@@ -36,7 +36,8 @@ unfolding guard amounts sum
 free-guard true w p t h = h
 free-guard false w p t h = refl
 
-pub free-bind : {A B : Type 0} (t : Trace A) (k : A → ℕ → Trace B) → total t ≡ 0 → ((v : A) (q : ℕ) → total (k v q) ≡ 0) → total (bind t k) ≡ 0
+pub free-bind : {A B : Type 0} (t : Trace A) (k : A → ℕ → Trace B) → total t ≡ 0 → ((v : A) (q : ℕ) → total (k v q) ≡ 0)
+    → total (bind t k) ≡ 0
 unfolding bind amounts sum
 free-bind (stop w p) k h g = refl
 free-bind (end a p) k h g = g a p
@@ -59,7 +60,8 @@ ask-charges [] p h = refl
 ask-charges (pay c n ∷ l) p h = omega (arith, ask-charges l p h)
 ask-charges (deny w ∷ l) p h = let z : _≡_ {A = ℕ} 0 1 = cc in absurd (omega arith)
 
-leaf-charges : (l : Leaf) (s : List ℕ) (p : ℕ) {v : Value} {q : ℕ} → Ends (traceLeaf l s p) v q → total (traceLeaf l s p) ≡ chargesLeaf l v
+leaf-charges : (l : Leaf) (s : List ℕ) (p : ℕ) {v : Value} {q : ℕ} → Ends (traceLeaf l s p) v q
+    → total (traceLeaf l s p) ≡ chargesLeaf l v
 unfolding traceLeaf chargesLeaf out amounts sum
 leaf-charges (fixed w r) s p h =
     let a = field-ends _ s p _ h in
@@ -90,7 +92,8 @@ leaf-charges (count r m c z) s p {v} h =
 leaf-charges (ask l) s p h = ask-charges l p h
 
 -- The charge list of a reading that ends sums up to the charges put to its value.
-pub trace-charges : (f : Format) (s : List ℕ) (p : ℕ) {v : Value} {q : ℕ} → Ends (trace f s p) v q → total (trace f s p) ≡ charges f v
+pub trace-charges : (f : Format) (s : List ℕ) (p : ℕ) {v : Value} {q : ℕ} → Ends (trace f s p) v q
+    → total (trace f s p) ≡ charges f v
 unfolding trace charges amounts sum
 trace-charges empty s p h = refl
 trace-charges (leaf l) s p h = leaf-charges l s p h

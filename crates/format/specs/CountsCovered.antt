@@ -1,4 +1,5 @@
--- Formats whose counts ask for nothing that their items do not hold: what they ask against the bytes left is implied by the layout.
+-- Formats whose counts ask for nothing that their items do not hold: what they ask against the bytes left is implied by
+-- the layout.
 use Prim.Native.Nat.{ℕ, suc, zero, _+_, _-_, _*_, _/_, _%_, _≤_}
 use mathlib.Core.Path.{_≡_, refl, ap, sym, _∙_}
 use mathlib.Core.Logic.{_↔_}
@@ -57,7 +58,8 @@ least-packed v p h = go (groups-cons 4 (number v))
     go : {bs : List ℕ} → (b : ℕ) × (rest : List ℕ) × (bs ≡ b ∷ rest) → 1 ≤ length bs
     go r = rw (r .2) (omega arith)
 
-pub least-seq : (a b : ℕ) (f : Format) (g : Value → Format) → AtLeast a f → ((v : Value) → AtLeast b (g v)) → AtLeast (a + b) (seq f g)
+pub least-seq : (a b : ℕ) (f : Format) (g : Value → Format) → AtLeast a f → ((v : Value) → AtLeast b (g v))
+    → AtLeast (a + b) (seq f g)
 unfolding AtLeast bytes Valid
 least-seq a b f g x y v p h = rw length-append (omega (arith, x (first v) p (h .1), y (first v) (second v) _ (h .2)))
 
@@ -114,18 +116,22 @@ pub closed-seq : (f : Format) (g : Value → Format) → Closed f → ((v : Valu
 unfolding Closed ahead Valid
 closed-seq f g x y v p h = omega (arith, x (first v) p (h .1), y (first v) (second v) _ (h .2))
 
-closed-chain : {S : Type 0} (f : S → Format) (u : S → Value → S) → ((x : S) → Closed (f x)) → (n : ℕ) (x : S) → Closed (chain f u x n)
+closed-chain : {S : Type 0} (f : S → Format) (u : S → Value → S) → ((x : S) → Closed (f x)) → (n : ℕ) (x : S)
+    → Closed (chain f u x n)
 unfolding chain
 closed-chain f u h zero x = closed-empty
 closed-chain f u h (suc n) x = closed-seq (f x) _ (h x) (λ v. closed-chain f u h n (u x v))
 
-pub least-chain : {S : Type 0} (m : ℕ) (f : S → Format) (u : S → Value → S) → ((x : S) → AtLeast m (f x)) → (n : ℕ) (x : S) → AtLeast (n * m) (chain f u x n)
+pub least-chain : {S : Type 0} (m : ℕ) (f : S → Format) (u : S → Value → S) → ((x : S) → AtLeast m (f x))
+    → (n : ℕ) (x : S) → AtLeast (n * m) (chain f u x n)
 unfolding chain
 least-chain m f u h zero x = least-down 0 _ _ (least-zero _) (omega arith)
 least-chain m f u h (suc n) x = least-down (m + n * m) _ _ (least-seq m (n * m) (f x) _ (h x) (λ v. least-chain m f u h n (u x v))) (omega arith)
 
 -- a list whose items are long enough
-pub closed-list : {S : Type 0} (r : Rule) (m c z : ℕ) (f : S → Format) (u : S → Value → S) (x : S) → ((x : S) → AtLeast m (f x)) → ((x : S) → Closed (f x)) → Closed (seq (leaf (count r m c z)) (λ n. chain f u x (number n)))
+pub closed-list : {S : Type 0} (r : Rule) (m c z : ℕ) (f : S → Format) (u : S → Value → S) (x : S)
+    → ((x : S) → AtLeast m (f x)) → ((x : S) → Closed (f x))
+    → Closed (seq (leaf (count r m c z)) (λ n. chain f u x (number n)))
 unfolding Closed ahead aheadLeaf Valid AtLeast
 closed-list r m c z f u x l k v p h =
     let a = closed-chain f u k (number (first v)) x (second v) _ (h .2) in
@@ -147,7 +153,8 @@ at-length : (s : List ℕ) (p : ℕ) (bs : List ℕ) → p ≤ length s → At s
 at-length s p bs h a = let e = simp (length-take, length-drop) at (ap length a) in omega arith
 
 -- A closed format is read, from p to q, exactly where the layout of a valid value stands.
-pub layout-iff : (f : Format) → Closed f → (s : List ℕ) (p : ℕ) (v : Value) (q : ℕ) → Bytes s → p ≤ length s → Ends (trace f s p) v q ↔ Valid f v p × At s p (bytes f v) × (q ≡ p + length (bytes f v))
+pub layout-iff : (f : Format) → Closed f → (s : List ℕ) (p : ℕ) (v : Value) (q : ℕ) → Bytes s → p ≤ length s
+    → Ends (trace f s p) v q ↔ Valid f v p × At s p (bytes f v) × (q ≡ p + length (bytes f v))
 unfolding Closed
 layout-iff f c s p v q b h = (to, from)
   where

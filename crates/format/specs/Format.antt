@@ -67,7 +67,8 @@ pub data Leaf : Type 0 where
   string : Rule → ℕ → (List ℕ → Bool) → Leaf
   -- the same with no test of the bytes
   payload : Rule → ℕ → Leaf
-  -- a count held to a rule, then so many bytes an entry held against the bytes left, then charged: context, size of an entry
+  -- a count held to a rule, then so many bytes an entry held against the bytes left, then charged: context, size of an
+  -- entry
   count : Rule → ℕ → ℕ → ℕ → Leaf
   -- questions on what was read before
   ask : List Ask → Leaf

@@ -14,8 +14,8 @@ unfoldable pub digits : ℕ → ℕ → List ℕ
 digits zero n = []
 digits (suc k) n = (n % 256) ∷ digits k (n / 256)
 
--- Unsigned LEB128 (DWARF 5, section 7.6) in its shortest form: seven bits a byte, the low group first, each but the last with
--- 128 added; at most k + 1 bytes.
+-- Unsigned LEB128 (DWARF 5, section 7.6) in its shortest form: seven bits a byte, the low group first, each but the
+-- last with 128 added; at most k + 1 bytes.
 unfoldable pub groups : ℕ → ℕ → List ℕ
 groups zero n = n ∷ []
 groups (suc k) n = pick (ltb n 128) (n ∷ []) ((128 + n % 128) ∷ groups k (n / 128))
@@ -55,8 +55,8 @@ ValidLeaf (payload r c) v p = (v ≡ text (p + 4) (content v)) × (length (conte
 ValidLeaf (count r m c z) v p = (v ≡ num (number v)) × (number v < 4294967296) × T (r .test (number v))
 ValidLeaf (ask l) v p = (v ≡ none) × T (clear l)
 
--- The values of a format, laid out from the place p on: each field in its range, each question answered yes. The questions
--- about bytes left are not among them.
+-- The values of a format, laid out from the place p on: each field in its range, each question answered yes. The
+-- questions about bytes left are not among them.
 unfoldable pub Valid : Format → Value → ℕ → Type 0
 Valid empty v p = v ≡ none
 Valid (leaf l) v p = ValidLeaf l v p

@@ -77,7 +77,8 @@ same-refl (x ∷ xs) = go (eqb x x) (eqb-refl x) (same-refl xs)
     go true e i = i
 
 -- a fixed-width number and its bytes in the pack
-number-there : (s : List ℕ) (p k : ℕ) → Bytes s → p + k ≤ length s → (little (part s p k) < 256 ^ k) × (digits k (little (part s p k)) ≡ part s p k) × At s p (part s p k)
+number-there : (s : List ℕ) (p k : ℕ) → Bytes s → p + k ≤ length s
+    → (little (part s p k) < 256 ^ k) × (digits k (little (part s p k)) ≡ part s p k) × At s p (part s p k)
 number-there s p k b h =
     let len = part-length s p k h in
     let d = digits-little (part s p k) (bytes-take k _ (bytes-drop p s b)) in
@@ -93,7 +94,8 @@ room-out : {A : Type 0} (n : ℕ) (s : List ℕ) (p : ℕ) (t : Trace A) → n �
 unfolding room out
 room-out n s p t h = guard-out _ _ _ (needs n p t) (le→leb _ _ h)
 
-field-out : {A : Type 0} (n : ℕ) (s : List ℕ) (p : ℕ) (k : List ℕ → Trace A) → p + n ≤ length s → out (field n s p k) ≡ out (k (part s p n))
+field-out : {A : Type 0} (n : ℕ) (s : List ℕ) (p : ℕ) (k : List ℕ → Trace A) → p + n ≤ length s
+    → out (field n s p k) ≡ out (k (part s p n))
 unfolding field
 field-out n s p k h = room-out (p + n) s p _ h
 
@@ -131,19 +133,22 @@ groups-large : (k n : ℕ) → 128 ≤ n → groups (suc k) n ≡ (128 + n % 128
 unfolding groups pick
 groups-large k n h = go (ltb n 128) (ltb→lt n 128)
   where
-    go : (d : Bool) → (T d → n < 128) → pick d (n ∷ []) ((128 + n % 128) ∷ groups k (n / 128)) ≡ (128 + n % 128) ∷ groups k (n / 128)
+    go : (d : Bool) → (T d → n < 128)
+        → pick d (n ∷ []) ((128 + n % 128) ∷ groups k (n / 128)) ≡ (128 + n % 128) ∷ groups k (n / 128)
     go true t = let x = t tt in absurd (omega arith)
     go false t = refl
 
 -- one byte
-byte-there : (s : List ℕ) (p : ℕ) → Bytes s → p + 1 ≤ length s → (little (part s p 1) < 256) × (part s p 1 ≡ little (part s p 1) ∷ [])
+byte-there : (s : List ℕ) (p : ℕ) → Bytes s → p + 1 ≤ length s
+    → (little (part s p 1) < 256) × (part s p 1 ≡ little (part s p 1) ∷ [])
 unfolding digits
 byte-there s p b h =
     let r = number-there s p 1 b h in
     let x : little (part s p 1) % 256 ≡ little (part s p 1) = omega arith in
     (omega arith, sym (r .1) ∙ ap (λ y. y ∷ []) x)
 
-groups-ends : (k m : ℕ) (s : List ℕ) (p : ℕ) {n q : ℕ} → m ≤ 1 → Bytes s → Ends (tracePacked k m s p) n q → Grouped k m s p n q
+groups-ends : (k m : ℕ) (s : List ℕ) (p : ℕ) {n q : ℕ} → m ≤ 1 → Bytes s → Ends (tracePacked k m s p) n q
+    → Grouped k m s p n q
 unfolding tracePacked out groups
 groups-ends zero m s p {n} {q} m1 b h =
     let a = field-ends _ s p _ h in
@@ -160,7 +165,8 @@ groups-ends (suc k) m s p {n} {q} m1 b h =
     let e = byte-there s p b (a .0) in
     go (ltb→lt (little (part s p 1)) 128) (nltb→le (little (part s p 1)) 128) (a .0) (e .0) (e .1) (stepped _ _ _ _ _ (a .1)) (λ x. groups-ends k 1 s (p + 1) (omega arith) b)
   where
-    go : {d : Bool} {c : ℕ} → (T d → c < 128) → (T (not d) → 128 ≤ c) → p + 1 ≤ length s → c < 256 → part s p 1 ≡ c ∷ [] → Stepped d m c (p + 1) (tracePacked k 1 s (p + 1)) n q
+    go : {d : Bool} {c : ℕ} → (T d → c < 128) → (T (not d) → 128 ≤ c) → p + 1 ≤ length s → c < 256 → part s p 1 ≡ c ∷ []
+        → Stepped d m c (p + 1) (tracePacked k 1 s (p + 1)) n q
         → ((x : ℕ) → Ends (tracePacked k 1 s (p + 1)) x q → Grouped k 1 s (p + 1) x q) → Grouped (suc k) m s p n q
     go {d} {c} i j f e g (last u x y z) r =
         let v = i u in
@@ -184,18 +190,22 @@ step-last : (d : Bool) (m b p : ℕ) (t : Trace ℕ) → T d → m ≤ b → End
 unfolding packedStep out
 step-last true m b p t u h = guard-out _ _ _ _ (le→leb m b h)
 
-step-more : (d : Bool) (m b p : ℕ) (t : Trace ℕ) {x q : ℕ} → T (not d) → Ends t x q → Ends (packedStep d m b p t) (b - 128 + 128 * x) q
+step-more : (d : Bool) (m b p : ℕ) (t : Trace ℕ) {x q : ℕ} → T (not d) → Ends t x q
+    → Ends (packedStep d m b p t) (b - 128 + 128 * x) q
 unfolding packedStep out
 step-more false m b p t u h = bind-out t _ h .0
 
-groups-read : (k m : ℕ) (s : List ℕ) (p n : ℕ) → n < 16 * 128 ^ k → m ≤ n → At s p (groups k n) → p + length (groups k n) ≤ length s → Ends (tracePacked k m s p) n (p + length (groups k n))
+groups-read : (k m : ℕ) (s : List ℕ) (p n : ℕ) → n < 16 * 128 ^ k → m ≤ n → At s p (groups k n)
+    → p + length (groups k n) ≤ length s → Ends (tracePacked k m s p) n (p + length (groups k n))
 unfolding tracePacked out groups
 groups-read zero m s p n below least a fits =
     let e = byte-of s p n a in
     field-out _ s p _ fits ∙ guard-out _ _ _ _ (rw e (le→leb n 15 (omega arith))) ∙ guard-out _ _ _ _ (rw e (le→leb m n least)) ∙ cc
 groups-read (suc k) m s p n below least a fits = go (ltb n 128) (ltb→lt n 128) (nltb→le n 128) (groups-read k 1 s (p + 1) (n / 128))
   where
-    go : (d : Bool) → (T d → n < 128) → (T (not d) → 128 ≤ n) → (n / 128 < 16 * 128 ^ k → 1 ≤ n / 128 → At s (p + 1) (groups k (n / 128)) → p + 1 + length (groups k (n / 128)) ≤ length s → Ends (tracePacked k 1 s (p + 1)) (n / 128) (p + 1 + length (groups k (n / 128)))) → Ends (tracePacked (suc k) m s p) n (p + length (groups (suc k) n))
+    go : (d : Bool) → (T d → n < 128) → (T (not d) → 128 ≤ n)
+        → (n / 128 < 16 * 128 ^ k → 1 ≤ n / 128 → At s (p + 1) (groups k (n / 128)) → p + 1 + length (groups k (n / 128)) ≤ length s → Ends (tracePacked k 1 s (p + 1)) (n / 128) (p + 1 + length (groups k (n / 128))))
+        → Ends (tracePacked (suc k) m s p) n (p + length (groups (suc k) n))
     go true i j r =
         let h = i tt in
         let w = groups-small k n h in
@@ -219,7 +229,8 @@ pub record Placed (s : List ℕ) (p q : ℕ) (bs : List ℕ) (more : ℕ) : Type
   pub next : q ≡ p + length bs
   pub room : p ≤ length s → q + more ≤ length s
 
-leaf-placed : (l : Leaf) (s : List ℕ) (p : ℕ) (v : Value) (q : ℕ) → Bytes s → Passed l s p v q → ValidLeaf l v p × Placed s p q (bytesLeaf l v) (aheadLeaf l v)
+leaf-placed : (l : Leaf) (s : List ℕ) (p : ℕ) (v : Value) (q : ℕ) → Bytes s → Passed l s p v q
+    → ValidLeaf l v p × Placed s p q (bytesLeaf l v) (aheadLeaf l v)
 unfolding bytesLeaf aheadLeaf
 leaf-placed (fixed w r) s p v q b h =
     let d = number-there s p (size w) b (h .0) in
@@ -250,7 +261,8 @@ leaf-placed (count r m c z) s p v q b h =
 leaf-placed (ask l) s p v q b h = ((h .1, h .0), record { there = refl; next = omega arith; room = λ x. omega arith })
 
 -- from the layout to the reading
-placed-leaf : (l : Leaf) (s : List ℕ) (p : ℕ) (v : Value) → ValidLeaf l v p → At s p (bytesLeaf l v) → p + length (bytesLeaf l v) + aheadLeaf l v ≤ length s → Passed l s p v (p + length (bytesLeaf l v))
+placed-leaf : (l : Leaf) (s : List ℕ) (p : ℕ) (v : Value) → ValidLeaf l v p → At s p (bytesLeaf l v)
+    → p + length (bytesLeaf l v) + aheadLeaf l v ≤ length s → Passed l s p v (p + length (bytesLeaf l v))
 unfolding bytesLeaf aheadLeaf
 placed-leaf (fixed w r) s p v g a h =
     let e = there-number s p (size w) (number v) (g .1) a in
@@ -277,7 +289,8 @@ placed-leaf (count r m c z) s p v g a h =
 placed-leaf (ask l) s p v g a h = (g .1, g .0, omega arith)
 
 -- T4
-pub trace-placed : (f : Format) (s : List ℕ) (p : ℕ) {v : Value} {q : ℕ} → Bytes s → Ends (trace f s p) v q → Valid f v p × Placed s p q (bytes f v) (ahead f v)
+pub trace-placed : (f : Format) (s : List ℕ) (p : ℕ) {v : Value} {q : ℕ} → Bytes s → Ends (trace f s p) v q
+    → Valid f v p × Placed s p q (bytes f v) (ahead f v)
 unfolding trace out Valid bytes ahead
 trace-placed empty s p {v} {q} b h = (cc, record { there = refl; next = let x : q ≡ p = cc in omega arith; room = λ x. let y : q ≡ p = cc in omega arith })
 trace-placed (leaf l) s p {v} {q} b h = leaf-placed l s p v q b (leaf-ends l s p h)
@@ -290,7 +303,8 @@ trace-placed (seq f g) s p {v} {q} b h =
     let len = length-append (bytes f (first v)) (bytes (g (first v)) (second v)) in
     ((r .whole, x .0, z .0), record { there = at-join s p _ _ (x .1 .there) (z .1 .there); next = omega (arith, z .1 .next); room = λ k. let u = x .1 .room k in let w = z .1 .room (omega arith) in omega (arith, z .1 .next, e) })
 
-pub placed-trace : (f : Format) (s : List ℕ) (p : ℕ) (v : Value) → Valid f v p → At s p (bytes f v) → p + length (bytes f v) + ahead f v ≤ length s → Ends (trace f s p) v (p + length (bytes f v))
+pub placed-trace : (f : Format) (s : List ℕ) (p : ℕ) (v : Value) → Valid f v p → At s p (bytes f v)
+    → p + length (bytes f v) + ahead f v ≤ length s → Ends (trace f s p) v (p + length (bytes f v))
 unfolding trace out Valid bytes ahead
 placed-trace empty s p v g a h = let z : p + 0 ≡ p = omega arith in cc
 placed-trace (leaf l) s p v g a h = leaf-read l s p v _ (placed-leaf l s p v g a h)

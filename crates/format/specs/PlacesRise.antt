@@ -23,23 +23,27 @@ rising-from p p′ e (end a q) h r = (omega arith, r .1)
 rising-from p p′ e (charge c n q t) h r = (omega arith, r .1, r .2)
 rising-from p p′ e (needs n q t) h r = (omega arith, r .1, r .2)
 
-pub rising-bind : {A B : Type 0} (p e : ℕ) (t : Trace A) (k : A → ℕ → Trace B) → Rising p e t → ((a : A) (q : ℕ) → p ≤ q → q ≤ e → Rising q e (k a q)) → Rising p e (bind t k)
+pub rising-bind : {A B : Type 0} (p e : ℕ) (t : Trace A) (k : A → ℕ → Trace B) → Rising p e t
+    → ((a : A) (q : ℕ) → p ≤ q → q ≤ e → Rising q e (k a q)) → Rising p e (bind t k)
 unfolding Rising bind
 rising-bind p e (stop w q) k r h = r
 rising-bind p e (end a q) k r h = rising-from p q e (k a q) (r .0) (h a q (r .0) (r .1))
 rising-bind p e (charge c n q t) k r h = (r .0, r .1, rising-bind q e t k (r .2) (λ a q′ i j. h a q′ (omega (arith, r .0)) j))
 rising-bind p e (needs n q t) k r h = (r .0, r .1, rising-bind q e t k (r .2) (λ a q′ i j. h a q′ (omega (arith, r .0)) j))
 
-pub rising-guard : {A : Type 0} (p e : ℕ) (d : Bool) (w : Wrong) (q : ℕ) (t : Trace A) → p ≤ q → q ≤ e → (T d → Rising p e t) → Rising p e (guard d w q t)
+pub rising-guard : {A : Type 0} (p e : ℕ) (d : Bool) (w : Wrong) (q : ℕ) (t : Trace A) → p ≤ q → q ≤ e
+    → (T d → Rising p e t) → Rising p e (guard d w q t)
 unfolding Rising guard
 rising-guard p e true w q t h i r = r tt
 rising-guard p e false w q t h i r = (h, i)
 
-rising-room : {A : Type 0} (p n : ℕ) (s : List ℕ) (t : Trace A) → p ≤ length s → (n ≤ length s → Rising p (length s) t) → Rising p (length s) (room n s p t)
+rising-room : {A : Type 0} (p n : ℕ) (s : List ℕ) (t : Trace A) → p ≤ length s → (n ≤ length s → Rising p (length s) t)
+    → Rising p (length s) (room n s p t)
 unfolding Rising room
 rising-room p n s t h r = rising-guard p (length s) (leb n (length s)) (wrong unexpectedEof 0) p (needs n p t) (omega arith) h (λ d. (omega arith, h, r (leb→le n (length s) d)))
 
-rising-field : {A : Type 0} (p n : ℕ) (s : List ℕ) (k : List ℕ → Trace A) → p ≤ length s → (p + n ≤ length s → Rising p (length s) (k (part s p n))) → Rising p (length s) (field n s p k)
+rising-field : {A : Type 0} (p n : ℕ) (s : List ℕ) (k : List ℕ → Trace A) → p ≤ length s
+    → (p + n ≤ length s → Rising p (length s) (k (part s p n))) → Rising p (length s) (field n s p k)
 unfolding field
 rising-field p n s k h r = rising-room p (p + n) s (k (part s p n)) h r
 
@@ -99,13 +103,15 @@ unfoldable pub placeOf : {A : Type 0} → Settled A → ℕ
 placeOf (refused w p b) = p
 placeOf (taken a p b) = p
 
-pub settle-within : {A : Type 0} (p e b : ℕ) (t : Trace A) → Rising p e t → (p ≤ placeOf (settle b t)) × (placeOf (settle b t) ≤ e)
+pub settle-within : {A : Type 0} (p e b : ℕ) (t : Trace A) → Rising p e t
+    → (p ≤ placeOf (settle b t)) × (placeOf (settle b t) ≤ e)
 unfolding Rising settle placeOf pick
 settle-within p e b (stop w q) r = r
 settle-within p e b (end a q) r = r
 settle-within p e b (charge c n q t) r = go (leb n b) (settle-within q e (b - n) t (r .2))
   where
-    go : (d : Bool) → (q ≤ placeOf (settle (b - n) t)) × (placeOf (settle (b - n) t) ≤ e) → (p ≤ placeOf (pick d (settle (b - n) t) (refused (spent c n b) q b))) × (placeOf (pick d (settle (b - n) t) (refused (spent c n b) q b)) ≤ e)
+    go : (d : Bool) → (q ≤ placeOf (settle (b - n) t)) × (placeOf (settle (b - n) t) ≤ e)
+        → (p ≤ placeOf (pick d (settle (b - n) t) (refused (spent c n b) q b))) × (placeOf (pick d (settle (b - n) t) (refused (spent c n b) q b)) ≤ e)
     go true h = (omega (arith, r .0), h .1)
     go false h = (r .0, r .1)
 settle-within p e b (needs n q t) r = let h = settle-within q e b t (r .2) in (omega (arith, r .0), h .1)

@@ -11,7 +11,8 @@ use Rattle.format.specs.Reading.{little, part, size, trace}
 use Rattle.format.specs.Record.{shown, wordsLeaf, words, unshown, wordsOf, decodeLeaf, decode, Held}
 use Rattle.format.specs.TraceTheorems.{Passed, part-length, leaf-ends, seq-ends}
 
-unshown-shown : (w : Width) (n : ℕ) (ws : List ℕ) → (unshown w (shown w n ++ ws) ≡ n) × (drop (wordsOf w) (shown w n ++ ws) ≡ ws)
+unshown-shown : (w : Width) (n : ℕ) (ws : List ℕ)
+    → (unshown w (shown w n ++ ws) ≡ n) × (drop (wordsOf w) (shown w n ++ ws) ≡ ws)
 unfolding pick
 unshown-shown byte n ws = (refl, refl)
 unshown-shown half n ws = (refl, refl)
@@ -35,7 +36,8 @@ trace-held empty s p {v} h = let x : v ≡ none = cc in rw x tt
 trace-held (leaf l) s p h = leaf-held l s p _ _ (leaf-ends l s p h)
 trace-held (seq f g) s p {v} h = let r = seq-ends f g s p h in rw (r .whole) (trace-held f s p (r .fore), trace-held (g (first v)) s (r .mid) (r .back))
 
-pub decode-leaf : (l : Leaf) (s s′ : List ℕ) (p : ℕ) (v : Value) (q : ℕ) (ws : List ℕ) → Passed l s p v q → Held v s′ → decodeLeaf l (wordsLeaf l v ++ ws) s′ ≡ (v, ws)
+pub decode-leaf : (l : Leaf) (s s′ : List ℕ) (p : ℕ) (v : Value) (q : ℕ) (ws : List ℕ) → Passed l s p v q → Held v s′
+    → decodeLeaf l (wordsLeaf l v ++ ws) s′ ≡ (v, ws)
 unfolding decodeLeaf wordsLeaf
 decode-leaf (fixed w r) s s′ p v q ws h t = rw (h .2) (let e = unshown-shown w (little (part s p (size w))) ws in rw (e .0, e .1))
 decode-leaf (mark m y) s s′ p v q ws h t = rw (h .2)
@@ -46,7 +48,8 @@ decode-leaf (count r m c z) s s′ p v q ws h t = rw (h .2)
 decode-leaf (ask l) s s′ p v q ws h t = rw (h .1)
 
 -- over any bytes that hold the texts
-pub trace-decode : (f : Format) (s s′ : List ℕ) (p : ℕ) {v : Value} {q : ℕ} (ws : List ℕ) → Ends (trace f s p) v q → Held v s′ → decode f (words f v ++ ws) s′ ≡ (v, ws)
+pub trace-decode : (f : Format) (s s′ : List ℕ) (p : ℕ) {v : Value} {q : ℕ} (ws : List ℕ) → Ends (trace f s p) v q
+    → Held v s′ → decode f (words f v ++ ws) s′ ≡ (v, ws)
 unfolding decode words trace out
 trace-decode empty s s′ p ws h t = cc
 trace-decode (leaf l) s s′ p ws h t = decode-leaf l s s′ p _ _ ws (leaf-ends l s p h) t
@@ -58,5 +61,6 @@ trace-decode (seq f g) s s′ p {v} {q} ws h t =
     rw (append-assoc, a, b) (ap (λ x. (x, ws)) (sym (r .whole)))
 
 -- Nothing is left over.
-pub record-decode : (f : Format) (s s′ : List ℕ) (p : ℕ) {v : Value} {q : ℕ} → Ends (trace f s p) v q → Held v s′ → decode f (words f v) s′ ≡ (v, [])
+pub record-decode : (f : Format) (s s′ : List ℕ) (p : ℕ) {v : Value} {q : ℕ} → Ends (trace f s p) v q → Held v s′
+    → decode f (words f v) s′ ≡ (v, [])
 record-decode f s s′ p {v} h t = ap (λ ws. decode f ws s′) (sym (append-nil (words f v))) ∙ trace-decode f s s′ p [] h t

@@ -16,7 +16,8 @@ settle-reached b (stop w p) h = ap (refused w p) (omega arith)
 settle-reached b (end a p) h = ap (taken a p) (omega arith)
 settle-reached b (charge c n p t) h = go (leb n b) (le→leb n b (omega arith)) (settle-reached (b - n) t (omega arith))
   where
-    go : (d : Bool) → T d → settle (b - n) t ≡ finish (b - n - total t) t → pick d (settle (b - n) t) (refused (spent c n b) p b) ≡ finish (b - (n + total t)) t
+    go : (d : Bool) → T d → settle (b - n) t ≡ finish (b - n - total t) t
+        → pick d (settle (b - n) t) (refused (spent c n b) p b) ≡ finish (b - (n + total t)) t
     go true x e = e ∙ ap (λ k. finish k t) (omega arith)
 settle-reached b (needs n p t) h = settle-reached b t h
 
@@ -25,7 +26,8 @@ unfolding covered sum pick
 covered-longest b [] = record { there = omega arith; fits = omega arith; most = λ i h _. omega arith }
 covered-longest b (n ∷ ns) = go (leb n b) (leb→le n b) (nleb→lt n b) (covered-longest (b - n) ns)
   where
-    more : (n ≤ b) → (r : Longest (b - n) ns (covered (b - n) ns)) (i : ℕ) → i ≤ suc (length ns) → sum (take i (n ∷ ns)) ≤ b → i ≤ suc (covered (b - n) ns)
+    more : (n ≤ b) → (r : Longest (b - n) ns (covered (b - n) ns)) (i : ℕ) → i ≤ suc (length ns)
+        → sum (take i (n ∷ ns)) ≤ b → i ≤ suc (covered (b - n) ns)
     more y r zero h g = omega arith
     more y r (suc i) h g = omega (arith, r .most i (omega arith) (omega arith))
 
@@ -33,12 +35,14 @@ covered-longest b (n ∷ ns) = go (leb n b) (leb→le n b) (nleb→lt n b) (cove
     none x zero h g = omega arith
     none x (suc i) h g = absurd (omega arith)
 
-    go : (d : Bool) → (T d → n ≤ b) → (T (not d) → b < n) → Longest (b - n) ns (covered (b - n) ns) → Longest b (n ∷ ns) (pick d (suc (covered (b - n) ns)) 0)
+    go : (d : Bool) → (T d → n ≤ b) → (T (not d) → b < n) → Longest (b - n) ns (covered (b - n) ns)
+        → Longest b (n ∷ ns) (pick d (suc (covered (b - n) ns)) 0)
     go true y x r = record { there = omega (arith, r .there); fits = omega (arith, r .fits, y tt); most = more (y tt) r }
     go false y x r = record { there = omega arith; fits = omega arith; most = none (x tt) }
 
 -- a budget below the total: refused at the first charge that the budget does not cover
-pub settle-broke : {A : Type 0} (b : ℕ) (t : Trace A) → b < total t → settle b t ≡ broke (covered b (amounts t)) (b - sum (take (covered b (amounts t)) (amounts t))) t
+pub settle-broke : {A : Type 0} (b : ℕ) (t : Trace A) → b < total t
+    → settle b t ≡ broke (covered b (amounts t)) (b - sum (take (covered b (amounts t)) (amounts t))) t
 unfolding settle broke amounts sum pick covered
 settle-broke b (stop w p) h = absurd (omega arith)
 settle-broke b (end a p) h = absurd (omega arith)
@@ -47,13 +51,16 @@ settle-broke {A} b (charge c n p t) h = go (leb n b) (leb→le n b) (settle-brok
     k : ℕ
     k = covered (b - n) (amounts t)
 
-    go : (d : Bool) → (T d → n ≤ b) → (b - n < total t → settle (b - n) t ≡ broke k (b - n - sum (take k (amounts t))) t) → pick d (settle (b - n) t) (refused (spent c n b) p b) ≡ broke (pick d (suc k) 0) (b - sum (take (pick d (suc k) 0) (n ∷ amounts t))) (charge c n p t)
+    go : (d : Bool) → (T d → n ≤ b)
+        → (b - n < total t → settle (b - n) t ≡ broke k (b - n - sum (take k (amounts t))) t)
+        → pick d (settle (b - n) t) (refused (spent c n b) p b) ≡ broke (pick d (suc k) 0) (b - sum (take (pick d (suc k) 0) (n ∷ amounts t))) (charge c n p t)
     go true y e = let x : n ≤ b = y tt in e (omega arith) ∙ ap (λ i. broke {A = A} k i t) (omega arith)
     go false y e = ap {B = Settled A} (λ i. refused (spent c n i) p i) (omega arith)
 settle-broke b (needs n p t) h = settle-broke b t h
 
 -- charged and left make the budget, taken or refused
-pub settle-left : {A : Type 0} (b : ℕ) (t : Trace A) → sum (take (covered b (amounts t)) (amounts t)) + left (settle b t) ≡ b
+pub settle-left : {A : Type 0} (b : ℕ) (t : Trace A)
+    → sum (take (covered b (amounts t)) (amounts t)) + left (settle b t) ≡ b
 unfolding settle amounts sum pick covered left
 settle-left b (stop w p) = omega arith
 settle-left b (end a p) = omega arith
@@ -62,7 +69,8 @@ settle-left b (charge c n p t) = go (leb n b) (leb→le n b) (settle-left (b - n
     k : ℕ
     k = covered (b - n) (amounts t)
 
-    go : (d : Bool) → (T d → n ≤ b) → sum (take k (amounts t)) + left (settle (b - n) t) ≡ b - n → sum (take (pick d (suc k) 0) (n ∷ amounts t)) + left (pick d (settle (b - n) t) (refused (spent c n b) p b)) ≡ b
+    go : (d : Bool) → (T d → n ≤ b) → sum (take k (amounts t)) + left (settle (b - n) t) ≡ b - n
+        → sum (take (pick d (suc k) 0) (n ∷ amounts t)) + left (pick d (settle (b - n) t) (refused (spent c n b) p b)) ≡ b
     go true y e = let x : n ≤ b = y tt in omega arith
     go false y e = omega arith
 settle-left b (needs n p t) = settle-left b t
@@ -82,7 +90,8 @@ finish-ends (end a p) b h = (cc, cc)
 finish-ends (charge c n p t) b h = finish-ends t b h
 finish-ends (needs n p t) b h = finish-ends t b h
 
-pub broke-not-taken : {A : Type 0} (i b : ℕ) (t : Trace A) (v : A) (q l : ℕ) → i < length (amounts t) → broke i b t ≡ taken v q l → ⊥
+pub broke-not-taken : {A : Type 0} (i b : ℕ) (t : Trace A) (v : A) (q l : ℕ) → i < length (amounts t)
+    → broke i b t ≡ taken v q l → ⊥
 unfolding broke amounts
 broke-not-taken i b (stop w p) v q l g h = omega arith
 broke-not-taken i b (end a p) v q l g h = omega arith
@@ -95,17 +104,20 @@ unfolding covered sum pick
 covered-lt b [] h = omega arith
 covered-lt b (n ∷ ns) h = go (leb n b) (leb→le n b) (covered-lt (b - n) ns)
   where
-    go : (d : Bool) → (T d → n ≤ b) → (b - n < sum ns → covered (b - n) ns < length ns) → pick d (suc (covered (b - n) ns)) 0 < suc (length ns)
+    go : (d : Bool) → (T d → n ≤ b) → (b - n < sum ns → covered (b - n) ns < length ns)
+        → pick d (suc (covered (b - n) ns)) 0 < suc (length ns)
     go true y e = let x : n ≤ b = y tt in omega (arith, e (omega arith))
     go false y e = omega arith
 
-pub settle-taken : {A : Type 0} (b : ℕ) (t : Trace A) (v : A) (q l : ℕ) → settle b t ≡ taken v q l ↔ Ends t v q × (total t ≤ b) × (l ≡ b - total t)
+pub settle-taken : {A : Type 0} (b : ℕ) (t : Trace A) (v : A) (q l : ℕ)
+    → settle b t ≡ taken v q l ↔ Ends t v q × (total t ≤ b) × (l ≡ b - total t)
 settle-taken b t v q l = (to, from)
   where
     short : total t ≤ b → settle b t ≡ taken v q l → Ends t v q × (total t ≤ b) × (l ≡ b - total t)
     short g h = let r = finish-ends t (b - total t) (sym (settle-reached b t g) ∙ h) in (r .0, g, sym (r .1))
 
-    go : (d : Bool) → (T d → total t ≤ b) → (T (not d) → b < total t) → settle b t ≡ taken v q l → Ends t v q × (total t ≤ b) × (l ≡ b - total t)
+    go : (d : Bool) → (T d → total t ≤ b) → (T (not d) → b < total t) → settle b t ≡ taken v q l
+        → Ends t v q × (total t ≤ b) × (l ≡ b - total t)
     go true y x h = short (y tt) h
     go false y x h = absurd (broke-not-taken _ _ t v q l (covered-lt b (amounts t) (x tt)) (sym (settle-broke b t (x tt)) ∙ h))
 
@@ -120,13 +132,15 @@ unfoldable pub thenS : {A B : Type 0} → Settled A → (A → ℕ → ℕ → S
 thenS (refused w p b) k = refused w p b
 thenS (taken a p b) k = k a p b
 
-pub settle-bind : {A B : Type 0} (b : ℕ) (t : Trace A) (k : A → ℕ → Trace B) → settle b (bind t k) ≡ thenS (settle b t) (λ v q l. settle l (k v q))
+pub settle-bind : {A B : Type 0} (b : ℕ) (t : Trace A) (k : A → ℕ → Trace B)
+    → settle b (bind t k) ≡ thenS (settle b t) (λ v q l. settle l (k v q))
 unfolding settle bind thenS pick
 settle-bind b (stop w p) k = refl
 settle-bind b (end a p) k = refl
 settle-bind {A} {B} b (charge c n p t) k = go (leb n b) (settle-bind (b - n) t k)
   where
-    go : (d : Bool) → settle (b - n) (bind t k) ≡ thenS (settle (b - n) t) (λ v q l. settle l (k v q)) → pick d (settle (b - n) (bind t k)) (refused (spent c n b) p b) ≡ thenS (pick d (settle (b - n) t) (refused (spent c n b) p b)) (λ v q l. settle l (k v q))
+    go : (d : Bool) → settle (b - n) (bind t k) ≡ thenS (settle (b - n) t) (λ v q l. settle l (k v q))
+        → pick d (settle (b - n) (bind t k)) (refused (spent c n b) p b) ≡ thenS (pick d (settle (b - n) t) (refused (spent c n b) p b)) (λ v q l. settle l (k v q))
     go true e = e
     go false e = refl
 settle-bind b (needs n p t) k = settle-bind b t k
@@ -148,7 +162,8 @@ broke-at (charge c n p t) (suc i) b h = let r = broke-at t i b (omega arith) in 
 broke-at (needs m q t) i b h = let r = broke-at t i b h in record { context = r .context; amount = r .amount; place = r .place; there = past (r .there); is = r .is }
 
 -- What is paid first is paid in full; a trace that stops is refused there.
-pub settle-stopped : {A : Type 0} (b : ℕ) (t : Trace A) {w : Wrong} {q : ℕ} → out t ≡ stopped w q → total t ≤ b → settle b t ≡ refused w q (b - total t)
+pub settle-stopped : {A : Type 0} (b : ℕ) (t : Trace A) {w : Wrong} {q : ℕ} → out t ≡ stopped w q → total t ≤ b
+    → settle b t ≡ refused w q (b - total t)
 unfolding out finish
 settle-stopped b t h g = settle-reached b t g ∙ go t (b - total t) h
   where

@@ -93,7 +93,8 @@ unfoldable pub pick : {A : Type 0} → Bool → A → A → A
 pick true a b = a
 pick false a b = b
 
--- "Refused at a charge is 5 with that charge's context, its amount as d1, and as d2 the starting budget less all charges before it."
+-- "Refused at a charge is 5 with that charge's context, its amount as d1, and as d2 the starting budget less all
+-- charges before it."
 abbrev pub spent : ℕ → ℕ → ℕ → Wrong
 spent c n b = record { number = allocationBudgetExceeded; context = c; detail1 = n; detail2 = b }
 

@@ -14,7 +14,8 @@ use Rattle.format.specs.Layout.{clear}
 use Rattle.format.specs.SettleTheorems.{thenS, settle-bind}
 
 -- The parts of a trace that ends.
-pub Ends-bind : {A B : Type 0} (t : Trace A) (k : A → ℕ → Trace B) {w : B} {r : ℕ} → Ends (bind t k) w r → (v : A) × (q : ℕ) × Ends t v q × Ends (k v q) w r
+pub Ends-bind : {A B : Type 0} (t : Trace A) (k : A → ℕ → Trace B) {w : B} {r : ℕ} → Ends (bind t k) w r
+    → (v : A) × (q : ℕ) × Ends t v q × Ends (k v q) w r
 unfolding out bind
 Ends-bind (stop w p) k h = let z : _≡_ {A = ℕ} 0 1 = cc in absurd (omega arith)
 Ends-bind (end a p) k h = (a, p, refl, h)
@@ -22,14 +23,16 @@ Ends-bind (charge c n p t) k h = Ends-bind t k h
 Ends-bind (needs n p t) k h = Ends-bind t k h
 
 -- a part that ends may be read over: the rest goes on from its value and place
-pub bind-out : {A B : Type 0} (t : Trace A) (k : A → ℕ → Trace B) {v : A} {q : ℕ} → Ends t v q → (out (bind t k) ≡ out (k v q)) × (total (bind t k) ≡ total t + total (k v q))
+pub bind-out : {A B : Type 0} (t : Trace A) (k : A → ℕ → Trace B) {v : A} {q : ℕ} → Ends t v q
+    → (out (bind t k) ≡ out (k v q)) × (total (bind t k) ≡ total t + total (k v q))
 unfolding out bind amounts sum
 bind-out (stop w p) k h = let z : _≡_ {A = ℕ} 0 1 = cc in absurd (omega arith)
 bind-out (end a p) k {v} {q} h = let x : k a p ≡ k v q = cc in (rw x, rw x (omega arith))
 bind-out (charge c n p t) k h = let r = bind-out t k h in (r .0, omega arith)
 bind-out (needs n p t) k h = bind-out t k h
 
-pub Ends-guard : {A : Type 0} (d : Bool) (w : Wrong) (p : ℕ) (t : Trace A) {v : A} {q : ℕ} → Ends (guard d w p t) v q → T d × Ends t v q × (total (guard d w p t) ≡ total t)
+pub Ends-guard : {A : Type 0} (d : Bool) (w : Wrong) (p : ℕ) (t : Trace A) {v : A} {q : ℕ} → Ends (guard d w p t) v q
+    → T d × Ends t v q × (total (guard d w p t) ≡ total t)
 unfolding out guard
 Ends-guard true w p t h = (tt, h, refl)
 Ends-guard false w p t h = let z : _≡_ {A = ℕ} 0 1 = cc in absurd (omega arith)
@@ -54,11 +57,14 @@ pub part-length : (s : List ℕ) (p n : ℕ) → p + n ≤ length s → length (
 part-length s p n h = simp (length-take, length-drop) (omega arith)
 
 -- a field whose bytes are there
-pub room-ends : {A : Type 0} (n : ℕ) (s : List ℕ) (p : ℕ) (t : Trace A) {v : A} {q : ℕ} → Ends (room n s p t) v q → (n ≤ length s) × Ends t v q × (total (room n s p t) ≡ total t)
+pub room-ends : {A : Type 0} (n : ℕ) (s : List ℕ) (p : ℕ) (t : Trace A) {v : A} {q : ℕ} → Ends (room n s p t) v q
+    → (n ≤ length s) × Ends t v q × (total (room n s p t) ≡ total t)
 unfolding room out amounts
 room-ends n s p t h = let r = Ends-guard (leb n (length s)) (wrong unexpectedEof 0) p (needs n p t) h in (leb→le _ _ (r .0), r .1, r .2)
 
-pub field-ends : {A : Type 0} (n : ℕ) (s : List ℕ) (p : ℕ) (k : List ℕ → Trace A) {v : A} {q : ℕ} → Ends (field n s p k) v q → (p + n ≤ length s) × Ends (k (part s p n)) v q × (total (field n s p k) ≡ total (k (part s p n)))
+pub field-ends : {A : Type 0} (n : ℕ) (s : List ℕ) (p : ℕ) (k : List ℕ → Trace A) {v : A} {q : ℕ}
+    → Ends (field n s p k) v q
+    → (p + n ≤ length s) × Ends (k (part s p n)) v q × (total (field n s p k) ≡ total (k (part s p n)))
 unfolding field
 field-ends n s p k h = room-ends (p + n) s p (k (part s p n)) h
 
@@ -106,14 +112,16 @@ pub record Both (f : Format) (g : Value → Format) (s : List ℕ) (p : ℕ) (v 
   pub sums : total (trace (seq f g) s p) ≡ total (trace f s p) + total (trace (g (first v)) s mid)
 
 -- a sequence is read where its parts are
-pub seq-read : (f : Format) (g : Value → Format) (s : List ℕ) (p : ℕ) {a b : Value} {m q : ℕ} → Ends (trace f s p) a m → Ends (trace (g a) s m) b q → Ends (trace (seq f g) s p) (pair a b) q × Both f g s p (pair a b) q
+pub seq-read : (f : Format) (g : Value → Format) (s : List ℕ) (p : ℕ) {a b : Value} {m q : ℕ} → Ends (trace f s p) a m
+    → Ends (trace (g a) s m) b q → Ends (trace (seq f g) s p) (pair a b) q × Both f g s p (pair a b) q
 unfolding trace out amounts sum
 seq-read f g s p {a} {b} {m} {q} h k =
     let x = bind-out (trace f s p) (λ v q. bind (trace (g v) s q) (λ w r. end (pair v w) r)) h in
     let y = bind-out (trace (g a) s m) (λ w r. end (pair a w) r) k in
     (x .0 ∙ y .0, record { mid = m; fore = h; back = k; whole = refl; sums = omega (arith, x .1, y .1) })
 
-pub seq-ends : (f : Format) (g : Value → Format) (s : List ℕ) (p : ℕ) {v : Value} {q : ℕ} → Ends (trace (seq f g) s p) v q → Both f g s p v q
+pub seq-ends : (f : Format) (g : Value → Format) (s : List ℕ) (p : ℕ) {v : Value} {q : ℕ}
+    → Ends (trace (seq f g) s p) v q → Both f g s p v q
 unfolding trace out
 seq-ends f g s p {v} {q} h =
     let a = Ends-bind (trace f s p) (λ v q. bind (trace (g v) s q) (λ w r. end (pair v w) r)) h in
@@ -130,7 +138,8 @@ unfolding packedStep out
 stepped true m b p t h = let a = Ends-guard _ _ _ _ h in last tt (leb→le _ _ (a .0)) (cc) (cc)
 stepped false m b p t {n} {q} h = let a = Ends-bind t (λ n q. end (b - 128 + 128 * n) q) h in more tt (a .0) (a .2 ∙ cc) (cc)
 
-pub packed-place : (k m : ℕ) (s : List ℕ) (p : ℕ) {n q : ℕ} → Ends (tracePacked k m s p) n q → (p + 1 ≤ q) × (q ≤ length s)
+pub packed-place : (k m : ℕ) (s : List ℕ) (p : ℕ) {n q : ℕ} → Ends (tracePacked k m s p) n q
+    → (p + 1 ≤ q) × (q ≤ length s)
 unfolding tracePacked out
 packed-place zero m s p {n} {q} h =
     let a = field-ends _ s p _ h in
@@ -140,12 +149,15 @@ packed-place zero m s p {n} {q} h =
     (omega arith, omega arith)
 packed-place (suc k) m s p {n} {q} h = let a = field-ends _ s p _ h in go (a .0) (stepped _ _ _ _ _ (a .1)) (λ x. packed-place k 1 s (p + 1))
   where
-    go : {d : Bool} {b : ℕ} → p + 1 ≤ length s → Stepped d m b (p + 1) (tracePacked k 1 s (p + 1)) n q → ((x : ℕ) → Ends (tracePacked k 1 s (p + 1)) x q → (p + 1 + 1 ≤ q) × (q ≤ length s)) → (p + 1 ≤ q) × (q ≤ length s)
+    go : {d : Bool} {b : ℕ} → p + 1 ≤ length s → Stepped d m b (p + 1) (tracePacked k 1 s (p + 1)) n q
+        → ((x : ℕ) → Ends (tracePacked k 1 s (p + 1)) x q → (p + 1 + 1 ≤ q) × (q ≤ length s))
+        → (p + 1 ≤ q) × (q ≤ length s)
     go f (last u x y z) i = (omega arith, omega arith)
     go f (more u x e y) i = let r = i x e in (omega arith, omega arith)
 
 -- Places stay within the pack: a reading never goes back, nor past the end.
-leaf-within : (l : Leaf) (s : List ℕ) (p : ℕ) (v : Value) (q : ℕ) → Passed l s p v q → (p ≤ q) × (p ≤ length s → q ≤ length s)
+leaf-within : (l : Leaf) (s : List ℕ) (p : ℕ) (v : Value) (q : ℕ) → Passed l s p v q
+    → (p ≤ q) × (p ≤ length s → q ≤ length s)
 leaf-within (fixed w r) s p v q h = (omega arith, λ x. omega arith)
 leaf-within (mark m y) s p v q h = (omega arith, λ x. omega arith)
 leaf-within packed s p v q h = let r = packed-place 4 0 s p (h .1) in (omega arith, λ x. r .1)
@@ -154,7 +166,8 @@ leaf-within (payload r c) s p v q h = (omega arith, λ x. omega arith)
 leaf-within (count r m c z) s p v q h = (omega arith, λ x. omega arith)
 leaf-within (ask l) s p v q h = (omega arith, λ x. omega arith)
 
-pub trace-within : (f : Format) (s : List ℕ) (p : ℕ) {v : Value} {q : ℕ} → Ends (trace f s p) v q → (p ≤ q) × (p ≤ length s → q ≤ length s)
+pub trace-within : (f : Format) (s : List ℕ) (p : ℕ) {v : Value} {q : ℕ} → Ends (trace f s p) v q
+    → (p ≤ q) × (p ≤ length s → q ≤ length s)
 unfolding trace out
 trace-within empty s p {v} {q} h = let x : q ≡ p = cc in (omega arith, λ y. omega arith)
 trace-within (leaf l) s p h = leaf-within l s p _ _ (leaf-ends l s p h)
@@ -200,6 +213,7 @@ slim (leaf l) = slim-leaf l
 slim (seq f g) = slim-seq (slim f) (λ v. slim (g v))
 
 -- A sequence under a budget.
-pub settle-seq : (b : ℕ) (f : Format) (g : Value → Format) (s : List ℕ) (p : ℕ) → settle b (trace (seq f g) s p) ≡ thenS (settle b (trace f s p)) (λ v q l. thenS (settle l (trace (g v) s q)) (λ w r m. taken (pair v w) r m))
+pub settle-seq : (b : ℕ) (f : Format) (g : Value → Format) (s : List ℕ) (p : ℕ)
+    → settle b (trace (seq f g) s p) ≡ thenS (settle b (trace f s p)) (λ v q l. thenS (settle l (trace (g v) s q)) (λ w r m. taken (pair v w) r m))
 unfolding trace settle
 settle-seq b f g s p = settle-bind b (trace f s p) _ ∙ ap (λ k. thenS (settle b (trace f s p)) k) (fun-ext (λ v. fun-ext (λ q. fun-ext (λ l. settle-bind l (trace (g v) s q) _))))

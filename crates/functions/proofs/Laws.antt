@@ -21,13 +21,15 @@ reads-ready h (refuses a) = tt
 reads-ready h skips = tt
 
 module _ (a b : ℕ) (w : Wrong) {s : List ℕ} {d : Cursor} {t : List ℕ} (h : ReadyAt s d) where
-  asked : {q : Step} → Asks (refuseUnless (eqb a b) w) d q → Reader (leaf (ask (refuseUnless (eqb a b) w))) s (Taken d) t q t
+  asked : {q : Step} → Asks (refuseUnless (eqb a b) w) d q
+      → Reader (leaf (ask (refuseUnless (eqb a b) w))) s (Taken d) t q t
   asked k = let l = asks-reads k in record { reads = l; ready = reads-ready h l }
 
   pub agree : a ≡ b → Reader (leaf (ask (refuseUnless (eqb a b) w))) s (Taken d) t (Taken d) t
   unfolding pick
   agree e = asked (rw (eq-eqb a b e) asks-none)
 
-  pub differ : {x : Refusal} → (a ≡ b → ⊥) → x ≡ refusal w (d .place) (d .left) → Reader (leaf (ask (refuseUnless (eqb a b) w))) s (Taken d) t (Refused x) t
+  pub differ : {x : Refusal} → (a ≡ b → ⊥) → x ≡ refusal w (d .place) (d .left)
+      → Reader (leaf (ask (refuseUnless (eqb a b) w))) s (Taken d) t (Refused x) t
   unfolding pick
   differ i e = rw e (asked (rw (ne-eqb a b i) asks-deny))

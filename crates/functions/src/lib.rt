@@ -1,6 +1,6 @@
 // The functions section: each function's head, returns, traits, slot types, code, captures and parameters.
-// Ports FunctionDef of bytecode.rs and its reading in serialize.rs. Transfer words are judged after their whole list, the slot
-// count last of all. The list also returns the number of functions, which limits the inline sources.
+// Ports FunctionDef of bytecode.rs and its reading in serialize.rs. Transfer words are judged after their whole list,
+// the slot count last of all. The list also returns the number of functions, which limits the inline sources.
 ghost use Rattle.vob24.specs.Settings.{settingsOf};
 ghost use Rattle.format.specs.Format.{counted};
 ghost use Rattle.reader.specs.Contract.{Ready, ReadyAt, Reader, NumberOf};
@@ -18,7 +18,8 @@ use vob24::Settings;
 // code, instruction_metadata; then 15 unless they are as many
 fn code(s: &[u8], set: &Settings, r: Step, tape: &mut [u32]) -> Step
     requires { ⌜ Ready (now s) r ⌝ }
-    ensures { λ q. ⌜ Reader (codeFormat (settingsOf (now (set .entry)))) (now (s .entry)) r (now (tape .entry)) q (now (tape .exit)) ⌝ }
+    ensures { λ q. ⌜ Reader (codeFormat (settingsOf (now (set .entry)))) (now (s .entry)) r (now (tape .entry)) q
+        (now (tape .exit)) ⌝ }
 {
     let Step::Taken(c) = r else {
         return r;
@@ -51,7 +52,8 @@ fn transfer_type(s: &[u8], r: Step, tape: &mut [u32]) -> Step
 
 fn number_transfer_types(s: &[u8], set: &Settings, c: Cursor, tape: &mut [u32]) -> Number
     requires { ⌜ ReadyAt (now s) c ⌝ }
-    ensures { λ q. ⌜ NumberOf (transferList (settingsOf (now (set .entry)))) counted (now (s .entry)) c (now (tape .entry)) q (now (tape .exit)) ⌝ }
+    ensures { λ q. ⌜ NumberOf (transferList (settingsOf (now (set .entry)))) counted (now (s .entry)) c
+        (now (tape .entry)) q (now (tape .exit)) ⌝ }
 {
     let q = fields::number_count(s, set, c, sizes::TRANSFER_TYPE, tape);
     let Number::Got(n, d) = q else {
@@ -71,7 +73,8 @@ fn number_transfer_types(s: &[u8], set: &Settings, c: Cursor, tape: &mut [u32]) 
 
 fn capture_types(s: &[u8], set: &Settings, r: Step, tape: &mut [u32]) -> Step
     requires { ⌜ Ready (now s) r ⌝ }
-    ensures { λ q. ⌜ Reader (captureTypes (settingsOf (now (set .entry)))) (now (s .entry)) r (now (tape .entry)) q (now (tape .exit)) ⌝ }
+    ensures { λ q. ⌜ Reader (captureTypes (settingsOf (now (set .entry)))) (now (s .entry)) r (now (tape .entry)) q
+        (now (tape .exit)) ⌝ }
 {
     let Step::Taken(c) = r else {
         return r;
@@ -85,7 +88,8 @@ fn capture_types(s: &[u8], set: &Settings, r: Step, tape: &mut [u32]) -> Step
 
 fn param_types(s: &[u8], set: &Settings, r: Step, tape: &mut [u32]) -> Step
     requires { ⌜ Ready (now s) r ⌝ }
-    ensures { λ q. ⌜ Reader (paramTypes (settingsOf (now (set .entry)))) (now (s .entry)) r (now (tape .entry)) q (now (tape .exit)) ⌝ }
+    ensures { λ q. ⌜ Reader (paramTypes (settingsOf (now (set .entry)))) (now (s .entry)) r (now (tape .entry)) q
+        (now (tape .exit)) ⌝ }
 {
     let Step::Taken(c) = r else {
         return r;
@@ -111,7 +115,8 @@ fn function_head(s: &[u8], r: Step, tape: &mut [u32]) -> Step
 
 fn heap_ret_slots(s: &[u8], set: &Settings, r: Step, tape: &mut [u32]) -> Step
     requires { ⌜ Ready (now s) r ⌝ }
-    ensures { λ q. ⌜ Reader (heapSlots (settingsOf (now (set .entry)))) (now (s .entry)) r (now (tape .entry)) q (now (tape .exit)) ⌝ }
+    ensures { λ q. ⌜ Reader (heapSlots (settingsOf (now (set .entry)))) (now (s .entry)) r (now (tape .entry)) q
+        (now (tape .exit)) ⌝ }
 {
     let Step::Taken(c) = r else {
         return r;
@@ -126,7 +131,8 @@ fn heap_ret_slots(s: &[u8], set: &Settings, r: Step, tape: &mut [u32]) -> Step
 // ret_slots, ret_slot_types, recv_slots, heap_ret_gcref_count, heap_ret_gcref_start, heap_ret_slots
 fn function_returns(s: &[u8], set: &Settings, r: Step, tape: &mut [u32]) -> Step
     requires { ⌜ Ready (now s) r ⌝ }
-    ensures { λ q. ⌜ Reader (functionReturns (settingsOf (now (set .entry)))) (now (s .entry)) r (now (tape .entry)) q (now (tape .exit)) ⌝ }
+    ensures { λ q. ⌜ Reader (functionReturns (settingsOf (now (set .entry)))) (now (s .entry)) r (now (tape .entry)) q
+        (now (tape .exit)) ⌝ }
 {
     let ret_slots = fields::field_u16(s, r, tape);
     let ret_slot_types = slots::slot_types(s, set, ret_slots, tape);
@@ -146,8 +152,8 @@ fn function_traits(s: &[u8], r: Step, tape: &mut [u32]) -> Step
     fields::field_bool(s, error_ret_slot, tape)
 }
 
-// code, instruction_metadata, capture_types, capture_slot_types, param_types; then 20 unless there are as many slot types as
-// local slots
+// code, instruction_metadata, capture_types, capture_slot_types, param_types; then 20 unless there are as many slot
+// types as local slots
 fn function_body(
     s: &[u8],
     set: &Settings,
@@ -157,7 +163,8 @@ fn function_body(
     tape: &mut [u32],
 ) -> Step
     requires { ⌜ Ready (now s) r ⌝ }
-    ensures { λ q. ⌜ Reader (functionBody (settingsOf (now (set .entry))) types locals) (now (s .entry)) r (now (tape .entry)) q (now (tape .exit)) ⌝ }
+    ensures { λ q. ⌜ Reader (functionBody (settingsOf (now (set .entry))) types locals) (now (s .entry)) r
+        (now (tape .entry)) q (now (tape .exit)) ⌝ }
 {
     let code = code(s, set, r, tape);
     let captures = capture_types(s, set, code, tape);
@@ -182,7 +189,8 @@ fn function_body(
 // slot_types, and the body
 fn function_slots(s: &[u8], set: &Settings, r: Step, locals: u64, tape: &mut [u32]) -> Step
     requires { ⌜ Ready (now s) r ⌝ }
-    ensures { λ q. ⌜ Reader (functionSlots (settingsOf (now (set .entry))) locals) (now (s .entry)) r (now (tape .entry)) q (now (tape .exit)) ⌝ }
+    ensures { λ q. ⌜ Reader (functionSlots (settingsOf (now (set .entry))) locals) (now (s .entry)) r
+        (now (tape .entry)) q (now (tape .exit)) ⌝ }
 {
     let Step::Taken(c) = r else {
         return r;
@@ -197,7 +205,8 @@ fn function_slots(s: &[u8], set: &Settings, r: Step, locals: u64, tape: &mut [u3
 // local_slots comes after the head
 fn function(s: &[u8], set: &Settings, r: Step, tape: &mut [u32]) -> Step
     requires { ⌜ Ready (now s) r ⌝ }
-    ensures { λ q. ⌜ Reader (functionFormat (settingsOf (now (set .entry)))) (now (s .entry)) r (now (tape .entry)) q (now (tape .exit)) ⌝ }
+    ensures { λ q. ⌜ Reader (functionFormat (settingsOf (now (set .entry)))) (now (s .entry)) r (now (tape .entry)) q
+        (now (tape .exit)) ⌝ }
 {
     let head = function_head(s, r, tape);
     let Step::Taken(c) = head else {
@@ -215,7 +224,8 @@ fn function(s: &[u8], set: &Settings, r: Step, tape: &mut [u32]) -> Step
 // Also returns the count.
 pub fn number_functions(s: &[u8], set: &Settings, c: Cursor, tape: &mut [u32]) -> Number
     requires { ⌜ ReadyAt (now s) c ⌝ }
-    ensures { λ q. ⌜ NumberOf (functionList (settingsOf (now (set .entry)))) counted (now (s .entry)) c (now (tape .entry)) q (now (tape .exit)) ⌝ }
+    ensures { λ q. ⌜ NumberOf (functionList (settingsOf (now (set .entry)))) counted (now (s .entry)) c
+        (now (tape .entry)) q (now (tape .exit)) ⌝ }
 {
     let q = fields::number_count(s, set, c, sizes::FUNCTION_DEF, tape);
     let Number::Got(n, d) = q else {
@@ -235,7 +245,8 @@ pub fn number_functions(s: &[u8], set: &Settings, c: Cursor, tape: &mut [u32]) -
 
 pub fn functions(s: &[u8], set: &Settings, r: Step, tape: &mut [u32]) -> Step
     requires { ⌜ Ready (now s) r ⌝ }
-    ensures { λ q. ⌜ Reader (functionList (settingsOf (now (set .entry)))) (now (s .entry)) r (now (tape .entry)) q (now (tape .exit)) ⌝ }
+    ensures { λ q. ⌜ Reader (functionList (settingsOf (now (set .entry)))) (now (s .entry)) r (now (tape .entry)) q
+        (now (tape .exit)) ⌝ }
 {
     let Step::Taken(c) = r else {
         return r;

@@ -21,7 +21,8 @@ use Rattle.in_place.proofs.Walking.{items-cons, Walking, walking-start,
 -- ---- the loop: i items before p, n - i from there on
 pub record Asking (f : Format) (ask : List Value → Value → List Ask) (s : List ℕ) (from n : ℕ) (c₀ : Cursor) (p i : ℕ) (c : Cursor) : Type 0 where
   pub walk : Walking f s from n p i
-  pub leads : (q : Step) → Asks (over ask (itemsAt f i s from) (itemsAt f (n - i) s p)) c q → Asks (over ask [] (itemsAt f n s from)) c₀ q
+  pub leads : (q : Step) → Asks (over ask (itemsAt f i s from) (itemsAt f (n - i) s p)) c q
+      → Asks (over ask [] (itemsAt f n s from)) c₀ q
 
 module _ {f : Format} {ask : List Value → Value → List Ask} {s : List ℕ} {from n : ℕ} {c₀ : Cursor} where
   pub asking-start : Items f n s from → Asking f ask s from n c₀ from 0 c₀
@@ -34,7 +35,8 @@ module _ {f : Format} {ask : List Value → Value → List Ask} {s : List ℕ} {
     pub asking-here : Placed f s p
     asking-here = walking-here h (l .walk)
 
-    asking-next : (q : ℕ) → Past f s p q → over ask (itemsAt f i s from) (itemsAt f (n - i) s p) ≡ ask (itemsAt f i s from) (valueAt f s p) ++ over ask (itemsAt f (i + 1) s from) (itemsAt f (n - (i + 1)) s q)
+    asking-next : (q : ℕ) → Past f s p q
+        → over ask (itemsAt f i s from) (itemsAt f (n - i) s p) ≡ ask (itemsAt f i s from) (valueAt f s p) ++ over ask (itemsAt f (i + 1) s from) (itemsAt f (n - (i + 1)) s q)
     unfolding over
     asking-next q w =
         let k : n - i - 1 ≡ n - (i + 1) = omega arith in
@@ -49,7 +51,8 @@ module _ {f : Format} {ask : List Value → Value → List Ask} {s : List ℕ} {
       pub asking-more : {d : Cursor} {z : ℕ} → q ≡ Taken d → Past f s p z → Asking f ask s from n c₀ z (i + 1) d
       asking-more {d} {z} e w = record { walk = walking-next h (l .walk) w; leads = λ q b. l .leads q (rw (asking-next z w) (asks-then _ (rw e at a) b)) }
 
-  pub asking-done : {p i : ℕ} {c : Cursor} → n ≤ i → Asking f ask s from n c₀ p i c → Asks (over ask [] (itemsAt f n s from)) c₀ (Taken c)
+  pub asking-done : {p i : ℕ} {c : Cursor} → n ≤ i → Asking f ask s from n c₀ p i c
+      → Asks (over ask [] (itemsAt f n s from)) c₀ (Taken c)
   unfolding over
   asking-done {p} {i} {c} h l = l .leads (Taken c) (rw (items-none f (n - i) s p (omega arith)) asks-none)
 
@@ -67,10 +70,12 @@ module _ {f : Format} {l : List Value → List Ask} {s : List ℕ} {r r₁ : Ste
   list-skipped e k = record { stays = λ y i. sym k; asks = λ c d i j. apart i e }
 
   module _ {c d : Cursor} (h : r ≡ Taken c) (k : r₁ ≡ Taken d) where
-    pub list-asked : {n : ℕ} {q : Step} → WordIs s (c .place) n → Asks (l (itemsAt f n s (c .place + 4))) d q → ListAsked f l s r r₁ q
+    pub list-asked : {n : ℕ} {q : Step} → WordIs s (c .place) n → Asks (l (itemsAt f n s (c .place + 4))) d q
+        → ListAsked f l s r r₁ q
     list-asked {n} {q} e a = record { stays = λ y i. apart k i; asks = λ c′ d′ i j. go c′ d′ (cc) (cc) }
       where
-        go : (c′ d′ : Cursor) → c′ ≡ c → d′ ≡ d → Asks (l (itemsAt f (little (part s (c′ .place) 4)) s (c′ .place + 4))) d′ q
+        go : (c′ d′ : Cursor) → c′ ≡ c → d′ ≡ d
+            → Asks (l (itemsAt f (little (part s (c′ .place) 4)) s (c′ .place + 4))) d′ q
         go c′ d′ x y = rw (x, y, ← e .is) a
 
 module _ {f : Format} {s : List ℕ} {r r₁ : Step} {c d : Cursor} (h : r ≡ Taken c) (k : r₁ ≡ Taken d) (b : ListBehind f s r r₁) where

@@ -18,7 +18,8 @@ use Rattle.in_place.proofs.Places.{name-stands, item-name, runtime-stan
 use Rattle.in_place.proofs.Walking.{items-here, items-next, items-cons}
 
 -- the bytes of a name
-pub name-content : (i : Item) {s : List ℕ} {p : ℕ} → Stands (formatOf i) s p → content (nameOf i (valueAt (formatOf i) s p)) ≡ textAt s p
+pub name-content : (i : Item) {s : List ℕ} {p : ℕ} → Stands (formatOf i) s p
+    → content (nameOf i (valueAt (formatOf i) s p)) ≡ textAt s p
 name-content i h = ap content (name-stands i h .value)
 
 -- a table that is told
@@ -36,7 +37,8 @@ pub both-texts : (t : Table) {s : List ℕ} {a b : ℕ} → TwoPlaced (formatIn 
 both-texts t h = (item-name (itemOf t) (h .fore), item-name (itemOf t) (h .back))
 
 -- the answers of `same_package` and `same_key`
-pub same-packages : {s : List ℕ} {a b x y : ℕ} {q : Bool} → PackageIs s a x → PackageIs s b y → SameText s x y q → SamePackage Identities s a b q
+pub same-packages : {s : List ℕ} {a b x y : ℕ} {q : Bool} → PackageIs s a x → PackageIs s b y → SameText s x y q
+    → SamePackage Identities s a b q
 same-packages f g v = record { is = v .is ∙ rw (f .is, g .is) }
 
 module _ {t : Table} {s : List ℕ} {a b : ℕ} {n : Bool} (w : SameText s a b n) where
@@ -62,7 +64,8 @@ module _ (t : Table) {s : List ℕ} {p : ℕ} (h : Stands (formatIn t) s p) wher
   pub key-name : content (nameOf (itemOf t) (valueAt (formatIn t) s p)) ≡ textAt s p
   key-name = name-content (itemOf t) h
 
-pub key-package : (t : Table) {s : List ℕ} {p : ℕ} → Stands (formatIn t) s p → content (packageOf t (valueAt (formatIn t) s p)) ≡ packageText t s p
+pub key-package : (t : Table) {s : List ℕ} {p : ℕ} → Stands (formatIn t) s p
+    → content (packageOf t (valueAt (formatIn t) s p)) ≡ packageText t s p
 key-package Fields h = refl
 key-package (Methods i) h = refl
 key-package Identities h = ap content (runtime-stands h .value)
@@ -77,7 +80,8 @@ pub record Looking (t : Table) (s : List ℕ) (from n p at k : ℕ) : Type 0 whe
   pub leads : amongIdentities (keyOf t (valueAt (formatIn t) s p)) (map (keyOf t) (itemsAt (formatIn t) n s from))
       ≡ amongIdentities (keyOf t (valueAt (formatIn t) s p)) (map (keyOf t) (itemsAt (formatIn t) k s at))
 
-among-step : (x y : Identity) (ys : List Identity) (q : Bool) → q ≡ pick (same (content (x .1)) (content (y .1))) (same (content (x .0)) (content (y .0))) false
+among-step : (x y : Identity) (ys : List Identity) (q : Bool)
+    → q ≡ pick (same (content (x .1)) (content (y .1))) (same (content (x .0)) (content (y .0))) false
     → amongIdentities x (y ∷ ys) ≡ pick q true (amongIdentities x ys)
 unfolding amongIdentities pick
 among-step x y ys q e = rw e (go (same (content (x .1)) (content (y .1))) (same (content (x .0)) (content (y .0))) (amongIdentities x ys))

@@ -72,7 +72,8 @@ pub record NameStands (i : Item) (s : List ℕ) (p : ℕ) : Type 0 where
   pub room : endOf s p ≤ length s
   pub value : nameOf i (valueAt (formatOf i) s p) ≡ text (p + 4) (textAt s p)
 
-first-stands : {g : Value → Format} {s : List ℕ} {p : ℕ} → Stands (seq str g) s p → (endOf s p ≤ length s) × (first (valueAt (seq str g) s p) ≡ text (p + 4) (textAt s p))
+first-stands : {g : Value → Format} {s : List ℕ} {p : ℕ} → Stands (seq str g) s p
+    → (endOf s p ≤ length s) × (first (valueAt (seq str g) s p) ≡ text (p + 4) (textAt s p))
 first-stands h = let a = parts h in let t = text-stands (a .fore) in (t .room, ap first (a .value) ∙ t .value)
 
 pub name-stands : (i : Item) {s : List ℕ} {p : ℕ} → Stands (formatOf i) s p → NameStands i s p
@@ -86,14 +87,16 @@ name-stands RuntimeField h = let t = first-stands h in record { room = t .0; val
 
 -- ---- what stands after it
 
-word-next : {r : Rule} {s : List ℕ} {p : ℕ} → Stands (str ▸ leaf (fixed word r)) s p → (endOf s p + 4 ≤ length s) × (nextAt (str ▸ leaf (fixed word r)) s p ≡ endOf s p + 4)
+word-next : {r : Rule} {s : List ℕ} {p : ℕ} → Stands (str ▸ leaf (fixed word r)) s p
+    → (endOf s p + 4 ≤ length s) × (nextAt (str ▸ leaf (fixed word r)) s p ≡ endOf s p + 4)
 word-next h =
     let a = parts h in
     let t = text-stands (a .fore) in
     let x = number-stands (a .back) in
     (omega (arith, t .next, x .room), omega (arith, a .next, t .next, x .next))
 
-method-next : {s : List ℕ} {p : ℕ} → Stands method s p → (endOf s p + 10 ≤ length s) × (nextAt method s p ≡ endOf s p + 10)
+method-next : {s : List ℕ} {p : ℕ} → Stands method s p
+    → (endOf s p + 10 ≤ length s) × (nextAt method s p ≡ endOf s p + 10)
 unfolding method
 method-next h =
     let a = parts h in

@@ -17,7 +17,9 @@ use Rattle.reader.proofs.Gather.{read, read-take}
 use Rattle.in_place.specs.Items.{textAt}
 use Rattle.in_place.specs.Contract.{TextAt, WordIs, SameBytes, SameText, BlankIs}
 
-pub word-is : {s : List ℕ} {p n : ℕ} → p + 4 ≤ length s → n ≡ little (getD s p 0 ∷ getD s (p + 1) 0 ∷ getD s (p + 2) 0 ∷ getD s (p + 3) 0 ∷ []) → n < 4294967296 → WordIs s p n
+pub word-is : {s : List ℕ} {p n : ℕ} → p + 4 ≤ length s
+    → n ≡ little (getD s p 0 ∷ getD s (p + 1) 0 ∷ getD s (p + 2) 0 ∷ getD s (p + 3) 0 ∷ []) → n < 4294967296
+    → WordIs s p n
 word-is {s} {p} {n} h e b =
     let x : n ≡ little (read 4 s p) = e ∙ simp add-assoc in
     record { is = x ∙ ap little (sym (read-take 4 s p h)); below = b }
@@ -64,7 +66,8 @@ module _ {s : List ℕ} {a b n : ℕ} where
   comparing-start h k = record { left = h; right = k; leads = refl }
 
   module _ {p q k : ℕ} where
-    pub comparing-more : 0 < k → getD s p 0 ≡ getD s q 0 → Comparing s a b n p q k → Comparing s a b n (p + 1) (q + 1) (k - 1)
+    pub comparing-more : 0 < k → getD s p 0 ≡ getD s q 0 → Comparing s a b n p q k
+        → Comparing s a b n (p + 1) (q + 1) (k - 1)
     unfolding same pick
     comparing-more h e l = record { left = omega (arith, l .left); right = omega (arith, l .right); leads = l .leads ∙ rw (piece s p k h (l .left), piece s q k h (l .right), eq-eqb _ _ e) }
 

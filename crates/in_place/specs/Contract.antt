@@ -85,9 +85,11 @@ over ask before (v ∷ vs) = ask before v ++ over ask (before ++ (v ∷ [])) vs
 pub record ListBehind (f : Format) (s : List ℕ) (r r₁ : Step) : Type 0 where
   pub before : Ready s r
   pub ready : Ready s r₁
-  pub comes : (c d : Cursor) → r ≡ Taken c → r₁ ≡ Taken d → (c .place + 4 ≤ length s) × AllStand f (little (part s (c .place) 4)) s (c .place + 4)
+  pub comes : (c d : Cursor) → r ≡ Taken c → r₁ ≡ Taken d
+      → (c .place + 4 ≤ length s) × AllStand f (little (part s (c .place) 4)) s (c .place + 4)
 
 -- The answer at r₁ of questions on its entries.
 pub record ListAsked (f : Format) (l : List Value → List Ask) (s : List ℕ) (r r₁ q : Step) : Type 0 where
   pub stays : (x : Refusal) → r₁ ≡ Refused x → q ≡ r₁
-  pub asks : (c d : Cursor) → r ≡ Taken c → r₁ ≡ Taken d → Asks (l (itemsAt f (little (part s (c .place) 4)) s (c .place + 4))) d q
+  pub asks : (c d : Cursor) → r ≡ Taken c → r₁ ≡ Taken d
+      → Asks (l (itemsAt f (little (part s (c .place) 4)) s (c .place + 4))) d q

@@ -1,4 +1,5 @@
--- What a reading left behind in the bytes: the value and the end of a part that stands at a place, and the items of a list one by one.
+-- What a reading left behind in the bytes: the value and the end of a part that stands at a place, and the items of a
+-- list one by one.
 use Prim.Native.Nat.{ℕ, suc, zero, _+_, _-_, _≤_, _<_}
 use mathlib.Core.Path.{_≡_, refl, ap, sym, _∙_, subst}
 use mathlib.Core.List.{List, [], _∷_, _++_}
@@ -56,7 +57,8 @@ parts {f} {g} {s} {p} h = go (valueAt (seq f g) s p) (nextAt (seq f g) s p) refl
         record { fore = a .stands; back = z .stands; next = eq ∙ sym (z .next); value = ev ∙ b .whole ∙ rw (x, z .value) }
 
 -- a leaf
-pub passed : {l : Leaf} {s : List ℕ} {p : ℕ} → Stands (leaf l) s p → Passed l s p (valueAt (leaf l) s p) (nextAt (leaf l) s p)
+pub passed : {l : Leaf} {s : List ℕ} {p : ℕ} → Stands (leaf l) s p
+    → Passed l s p (valueAt (leaf l) s p) (nextAt (leaf l) s p)
 unfolding trace
 passed {l} {s} {p} h = leaf-ends l s p (h .ends)
 
@@ -75,7 +77,8 @@ AllStand f zero s p = Unit {0}
 AllStand f (suc n) s p = Stands f s p × AllStand f n s (nextAt f s p)
 
 -- a list that was read, off its bytes
-pub items-off : (f : Format) (n : ℕ) (s : List ℕ) (p : ℕ) {v : Value} {q : ℕ} → Ends (trace (times f n) s p) v q → (items n v ≡ itemsAt f n s p) × AllStand f n s p
+pub items-off : (f : Format) (n : ℕ) (s : List ℕ) (p : ℕ) {v : Value} {q : ℕ} → Ends (trace (times f n) s p) v q
+    → (items n v ≡ itemsAt f n s p) × AllStand f n s p
 unfolding chain items itemsAt AllStand
 items-off f zero s p h = (refl, tt)
 items-off f (suc n) s p {v} {q} h =
@@ -85,7 +88,8 @@ items-off f (suc n) s p {v} {q} h =
     let y : b .mid ≡ nextAt f s p = sym (a .next) in
     (rw (a .value, ← y, i .0), (a .stands, subst (AllStand f n s) y (i .1)))
 
-pub list-off : (r : Rule) (m c z : ℕ) (f : Format) (s : List ℕ) (p : ℕ) {v : Value} {q : ℕ} → Ends (trace (seq (leaf (count r m c z)) (λ v. times f (number v))) s p) v q
+pub list-off : (r : Rule) (m c z : ℕ) (f : Format) (s : List ℕ) (p : ℕ) {v : Value} {q : ℕ}
+    → Ends (trace (seq (leaf (count r m c z)) (λ v. times f (number v))) s p) v q
     → (p + 4 ≤ length s) × (entries v ≡ itemsAt f (little (part s p 4)) s (p + 4)) × AllStand f (little (part s p 4)) s (p + 4)
 unfolding trace
 list-off r m c z f s p {v} {q} h =
@@ -93,12 +97,15 @@ list-off r m c z f s p {v} {q} h =
     let l = leaf-ends (count r m c z) s p (b .fore) in
     go (first v) (second v) (b .mid) (l .2) (l .3) (b .back) (omega (arith, l .0))
   where
-    go : (a w : Value) (k : ℕ) → a ≡ num (little (part s p 4)) → k ≡ p + 4 → Ends (trace (times f (number a)) s k) w q → p + 4 ≤ length s → (p + 4 ≤ length s) × (items (number a) w ≡ itemsAt f (little (part s p 4)) s (p + 4)) × AllStand f (little (part s p 4)) s (p + 4)
+    go : (a w : Value) (k : ℕ) → a ≡ num (little (part s p 4)) → k ≡ p + 4 → Ends (trace (times f (number a)) s k) w q
+        → p + 4 ≤ length s
+        → (p + 4 ≤ length s) × (items (number a) w ≡ itemsAt f (little (part s p 4)) s (p + 4)) × AllStand f (little (part s p 4)) s (p + 4)
     go a w k e i h j = let x = items-off f (little (part s p 4)) s (p + 4) (rw (e, i) at h) in (j, rw e (x .0), x .1)
 
 -- one item more, from either end
 
-pub items-more : (f : Format) (k : ℕ) (s : List ℕ) (p : ℕ) → 0 < k → itemsAt f k s p ≡ valueAt f s p ∷ itemsAt f (k - 1) s (nextAt f s p)
+pub items-more : (f : Format) (k : ℕ) (s : List ℕ) (p : ℕ) → 0 < k
+    → itemsAt f k s p ≡ valueAt f s p ∷ itemsAt f (k - 1) s (nextAt f s p)
 unfolding itemsAt
 items-more f zero s p h = absurd (omega arith)
 items-more f (suc k) s p h = let e : suc k - 1 ≡ k = omega arith in rw e
@@ -108,12 +115,14 @@ unfolding itemsAt
 items-none f zero s p h = refl
 items-none f (suc k) s p h = absurd (omega arith)
 
-pub stand-more : (f : Format) (k : ℕ) (s : List ℕ) (p : ℕ) → 0 < k → AllStand f k s p → Stands f s p × AllStand f (k - 1) s (nextAt f s p)
+pub stand-more : (f : Format) (k : ℕ) (s : List ℕ) (p : ℕ) → 0 < k → AllStand f k s p
+    → Stands f s p × AllStand f (k - 1) s (nextAt f s p)
 unfolding AllStand
 stand-more f zero s p h a = absurd (omega arith)
 stand-more f (suc k) s p h a = let e : suc k - 1 ≡ k = omega arith in (a .0, rw e (a .1))
 
-pub items-snoc : (f : Format) (i : ℕ) (s : List ℕ) (p : ℕ) → itemsAt f (suc i) s p ≡ itemsAt f i s p ++ (valueAt f s (lastAt f i s p) ∷ [])
+pub items-snoc : (f : Format) (i : ℕ) (s : List ℕ) (p : ℕ)
+    → itemsAt f (suc i) s p ≡ itemsAt f i s p ++ (valueAt f s (lastAt f i s p) ∷ [])
 unfolding itemsAt lastAt
 items-snoc f zero s p = refl
 items-snoc f (suc i) s p = ap (λ (l : List Value). valueAt f s p ∷ l) (items-snoc f i s (nextAt f s p))
@@ -123,7 +132,8 @@ unfolding lastAt
 last-snoc f zero s p = refl
 last-snoc f (suc i) s p = last-snoc f i s (nextAt f s p)
 
-pub stand-snoc : (f : Format) (i : ℕ) (s : List ℕ) (p : ℕ) → AllStand f i s p → Stands f s (lastAt f i s p) → AllStand f (suc i) s p
+pub stand-snoc : (f : Format) (i : ℕ) (s : List ℕ) (p : ℕ) → AllStand f i s p → Stands f s (lastAt f i s p)
+    → AllStand f (suc i) s p
 unfolding AllStand lastAt
 stand-snoc f zero s p a h = (h, tt)
 stand-snoc f (suc i) s p a h = (a .0, stand-snoc f i s (nextAt f s p) (a .1) h)

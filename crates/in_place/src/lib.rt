@@ -1,5 +1,7 @@
-// The items of a list that was read, where they stand in the pack: their texts, the place past them, and whether two have the same key.
-// Ports the comparisons behind the maps and sets of serialize.rs. There is no heap: names are compared where they stand.
+// The items of a list that was read, where they stand in the pack: their texts, the place past them, and whether two
+// have the same key.
+// Ports the comparisons behind the maps and sets of serialize.rs. There is no heap: names are compared where they
+// stand.
 ghost use Prim.Native.Nat.{_+_, _≤_, _<_};
 ghost use lib.ListN.{length};
 ghost use Rattle.vob24.specs.Leaves.{str, optional};
@@ -18,7 +20,8 @@ pub enum Item {
     RuntimeField,
 }
 
-// The items of a table have different keys: names; packages and names in `Identities`. "_" is exempt in `Fields` and `Identities`.
+// The items of a table have different keys: names; packages and names in `Identities`. "_" is exempt in `Fields` and
+// `Identities`.
 pub enum Table {
     Fields,
     Methods(Item),

@@ -14,7 +14,8 @@ use Rattle.lists.proofs.Items.{Flat, flat-one, flat-more}
 use Rattle.instruction.specs.Formats.{instructionFormat, instructionWidths}
 
 -- the words of one, stored
-pub put-five : (s t : List ℕ) (p at : ℕ) {a b c d e : ℕ} → p + 8 ≤ length s → a ≡ getD s p 0 → b ≡ getD s (p + 1) 0 → c ≡ little (part s (p + 2) 2) → d ≡ little (part s (p + 4) 2) → e ≡ little (part s (p + 6) 2)
+pub put-five : (s t : List ℕ) (p at : ℕ) {a b c d e : ℕ} → p + 8 ≤ length s → a ≡ getD s p 0 → b ≡ getD s (p + 1) 0
+    → c ≡ little (part s (p + 2) 2) → d ≡ little (part s (p + 4) 2) → e ≡ little (part s (p + 6) 2)
     → set (set (set (set (set t at a) (at + 1) b) (at + 2) c) (at + 3) d) (at + 4) e ≡ sets t at (numbersAt instructionWidths s p)
 put-five s t p at h a b c d e =
     let i₁ : at + 1 ≡ suc at = omega arith in

@@ -92,7 +92,8 @@ fn instructions(s: &[u8], c: Cursor, n: u64, tape: &mut [u32]) -> Step
 // Also returns the count.
 pub fn number_instructions(s: &[u8], set: &Settings, c: Cursor, tape: &mut [u32]) -> Number
     requires { ⌜ ReadyAt (now s) c ⌝ }
-    ensures { λ q. ⌜ NumberOf (instructionList (settingsOf (now (set .entry)))) counted (now (s .entry)) c (now (tape .entry)) q (now (tape .exit)) ⌝ }
+    ensures { λ q. ⌜ NumberOf (instructionList (settingsOf (now (set .entry)))) counted (now (s .entry)) c
+        (now (tape .entry)) q (now (tape .exit)) ⌝ }
 {
     let q = fields::number_count(s, set, c, sizes::INSTRUCTION, tape);
     let Number::Got(n, d) = q else {

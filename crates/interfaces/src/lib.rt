@@ -12,7 +12,8 @@ use vob24::Settings;
 
 fn method_names(s: &[u8], set: &Settings, r: Step, tape: &mut [u32]) -> Step
     requires { ⌜ Ready (now s) r ⌝ }
-    ensures { λ q. ⌜ Reader (nameList (settingsOf (now (set .entry)))) (now (s .entry)) r (now (tape .entry)) q (now (tape .exit)) ⌝ }
+    ensures { λ q. ⌜ Reader (nameList (settingsOf (now (set .entry)))) (now (s .entry)) r (now (tape .entry)) q
+        (now (tape .exit)) ⌝ }
 {
     let Step::Taken(c) = r else {
         return r;
@@ -43,7 +44,8 @@ fn interface_method(s: &[u8], r: Step, tape: &mut [u32]) -> Step
 
 fn interface_methods(s: &[u8], set: &Settings, r: Step, tape: &mut [u32]) -> Step
     requires { ⌜ Ready (now s) r ⌝ }
-    ensures { λ q. ⌜ Reader (methodList (settingsOf (now (set .entry)))) (now (s .entry)) r (now (tape .entry)) q (now (tape .exit)) ⌝ }
+    ensures { λ q. ⌜ Reader (methodList (settingsOf (now (set .entry)))) (now (s .entry)) r (now (tape .entry)) q
+        (now (tape .exit)) ⌝ }
 {
     let Step::Taken(c) = r else {
         return r;
@@ -67,7 +69,8 @@ fn interface_methods(s: &[u8], set: &Settings, r: Step, tape: &mut [u32]) -> Ste
 // Both lists are read before either set is charged and judged.
 fn interface(s: &[u8], set: &Settings, r: Step, again: bool, tape: &mut [u32]) -> Step
     requires { ⌜ (Ready (now s) r) × (Accepted again (interfaceFormat (settingsOf (now set))) (now s) r) ⌝ }
-    ensures { λ q. ⌜ Reader (interfaceFormat (settingsOf (now (set .entry)))) (now (s .entry)) r (now (tape .entry)) q (now (tape .exit)) ⌝ }
+    ensures { λ q. ⌜ Reader (interfaceFormat (settingsOf (now (set .entry)))) (now (s .entry)) r (now (tape .entry)) q
+        (now (tape .exit)) ⌝ }
 {
     let name = fields::field_str(s, r, tape);
     let names = method_names(s, set, name, tape);
@@ -78,7 +81,8 @@ fn interface(s: &[u8], set: &Settings, r: Step, again: bool, tape: &mut [u32]) -
 
 pub fn interfaces(s: &[u8], set: &Settings, r: Step, again: bool, tape: &mut [u32]) -> Step
     requires { ⌜ (Ready (now s) r) × (Accepted again (interfaceList (settingsOf (now set))) (now s) r) ⌝ }
-    ensures { λ q. ⌜ Reader (interfaceList (settingsOf (now (set .entry)))) (now (s .entry)) r (now (tape .entry)) q (now (tape .exit)) ⌝ }
+    ensures { λ q. ⌜ Reader (interfaceList (settingsOf (now (set .entry)))) (now (s .entry)) r (now (tape .entry)) q
+        (now (tape .exit)) ⌝ }
 {
     let Step::Taken(c) = r else {
         return r;

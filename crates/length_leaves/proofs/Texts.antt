@@ -26,7 +26,8 @@ use Rattle.reader.proofs.Settles.{guard-yes, guard-no}
 use Rattle.reader.proofs.Leaves.{text-refusal}
 
 -- the questions of a text are those of the payload, then its own
-string-after : (ρ : Rule) (k : ℕ) (ok : List ℕ → Bool) (s : List ℕ) (p : ℕ) → traceLeaf (string ρ k ok) s p ≡ bind (traceLeaf (payload ρ k) s p) (λ v q. guard (ok (content v)) (wrong invalidUtf8 0) q (end v q))
+string-after : (ρ : Rule) (k : ℕ) (ok : List ℕ → Bool) (s : List ℕ) (p : ℕ)
+    → traceLeaf (string ρ k ok) s p ≡ bind (traceLeaf (payload ρ k) s p) (λ v q. guard (ok (content v)) (wrong invalidUtf8 0) q (end v q))
 unfolding traceLeaf field room bind guard
 string-after ρ k ok s p = go (leb (p + 4) (length s)) (ρ .test n) (leb (p + 4 + n) (length s))
   where
@@ -44,7 +45,8 @@ string-after ρ k ok s p = go (leb (p + 4) (length s)) (ρ .test n) (leb (p + 4 
     go true false c = refl
     go false b c = refl
 
-string-settles : (ρ : Rule) (k : ℕ) (s : List ℕ) (p b : ℕ) → settle b (traceLeaf (string ρ k wellFormed) s p) ≡ thenS (settle b (traceLeaf (payload ρ k) s p)) (λ v q l. settle l (guard (wellFormed (content v)) (wrong invalidUtf8 0) q (end v q)))
+string-settles : (ρ : Rule) (k : ℕ) (s : List ℕ) (p b : ℕ)
+    → settle b (traceLeaf (string ρ k wellFormed) s p) ≡ thenS (settle b (traceLeaf (payload ρ k) s p)) (λ v q l. settle l (guard (wellFormed (content v)) (wrong invalidUtf8 0) q (end v q)))
 string-settles ρ k s p b = ap (settle b) (string-after ρ k wellFormed s p) ∙ settle-bind b (traceLeaf (payload ρ k) s p) _
 
 module _ (ρ : Rule) (k : ℕ) {s : List ℕ} {c : Cursor} where
@@ -61,22 +63,27 @@ module _ (ρ : Rule) (k : ℕ) {s : List ℕ} {c : Cursor} where
     unfolding settle
     text-formed e = record { settles = text-leads ∙ guard-yes (d .left) _ _ _ (ap isText e); room = h .room; stays = h .stays }
 
-    text-malformed : scan (part s p n) ≡ illFormed → Denied (string ρ k wellFormed) s c (refusal (wrong invalidUtf8 0) (d .place) (d .left))
+    text-malformed : scan (part s p n) ≡ illFormed
+        → Denied (string ρ k wellFormed) s c (refusal (wrong invalidUtf8 0) (d .place) (d .left))
     text-malformed e = record { settles = text-leads ∙ guard-no (d .left) _ _ _ (ap isText e) }
 
-pub text-then : {ρ : Rule} {k : ℕ} {s : List ℕ} {c : Cursor} {q : Payload} {t : Text} → Spans (payload ρ k) s c q → Checked s q t → Texts (string ρ k wellFormed) s c t
+pub text-then : {ρ : Rule} {k : ℕ} {s : List ℕ} {c : Cursor} {q : Payload} {t : Text} → Spans (payload ρ k) s c q
+    → Checked s q t → Texts (string ρ k wellFormed) s c t
 text-then {ρ} {k} {s} {c} (spanned h) y = go h y
   where
-    go : {p n : ℕ} {d : Cursor} {t : Text} → Spanned (payload ρ k) s c p n d → Checked s (Payload.Got p n d) t → Texts (string ρ k wellFormed) s c t
+    go : {p n : ℕ} {d : Cursor} {t : Text} → Spanned (payload ρ k) s c p n d → Checked s (Payload.Got p n d) t
+        → Texts (string ρ k wellFormed) s c t
     go h (formed e) = written (text-formed ρ k h e) e
     go h (malformed e w) = rw w (unwritten (text-malformed ρ k h e))
 text-then {ρ} {k} {s} {c} (unspanned h) y = go h y
   where
-    go : {x : Refusal} {t : Text} → Denied (payload ρ k) s c x → Checked s (Payload.Not x) t → Texts (string ρ k wellFormed) s c t
+    go : {x : Refusal} {t : Text} → Denied (payload ρ k) s c x → Checked s (Payload.Not x) t
+        → Texts (string ρ k wellFormed) s c t
     go h passed = unwritten (text-denied ρ k h)
 
 -- the bytes of a payload are there
-pub spans-room : {ρ : Rule} {k : ℕ} {s : List ℕ} {c : Cursor} {q : Payload} {p n : ℕ} {d : Cursor} → q ≡ Payload.Got p n d → Spans (payload ρ k) s c q → p + n ≤ length s
+pub spans-room : {ρ : Rule} {k : ℕ} {s : List ℕ} {c : Cursor} {q : Payload} {p n : ℕ} {d : Cursor}
+    → q ≡ Payload.Got p n d → Spans (payload ρ k) s c q → p + n ≤ length s
 spans-room {ρ} {k} {s} {c} {q} {p} {n} {d} e h = go (rw e at h)
   where
     go : Spans (payload ρ k) s c (Payload.Got p n d) → p + n ≤ length s
@@ -96,23 +103,27 @@ up-to s p n h =
 
 -- a payload as a text
 module _ {s : List ℕ} {p n : ℕ} {d : Cursor} where
-  pub checked-got : {w : Scanned} {m : ℕ} → p + n ≤ length s → w ≡ Characters m → scanOf w ≡ scan (upTo s p n) → Checked s (Payload.Got p n d) (Text.Got p n m d)
+  pub checked-got : {w : Scanned} {m : ℕ} → p + n ≤ length s → w ≡ Characters m → scanOf w ≡ scan (upTo s p n)
+      → Checked s (Payload.Got p n d) (Text.Got p n m d)
   checked-got j i h = formed (ap scan (sym (up-to s p n j)) ∙ sym h ∙ ap scanOf i)
 
-  pub checked-not : {w : Scanned} {x : Refusal} → p + n ≤ length s → w ≡ IllFormed → scanOf w ≡ scan (upTo s p n) → x ≡ refusal (wrong invalidUtf8 0) (d .place) (d .left) → Checked s (Payload.Got p n d) (Text.Not x)
+  pub checked-not : {w : Scanned} {x : Refusal} → p + n ≤ length s → w ≡ IllFormed → scanOf w ≡ scan (upTo s p n)
+      → x ≡ refusal (wrong invalidUtf8 0) (d .place) (d .left) → Checked s (Payload.Got p n d) (Text.Not x)
   checked-not j i h y = malformed (ap scan (sym (up-to s p n j)) ∙ sym h ∙ ap scanOf i) y
 
   module _ {q : Payload} (e : q ≡ Payload.Got p n d) where
     pub checked-of : {t u : Text} → Checked s (Payload.Got p n d) t → t ≡ u → Checked s q u
     checked-of h i = rw (e, ← i) h
 
-    pub checked-tried : {w : Tried} {m : ℕ} → p + n ≤ length s → w ≡ Tried.Characters m → Tries (upTo s p n) w → Checked s q (Text.Got p n m d)
+    pub checked-tried : {w : Tried} {m : ℕ} → p + n ≤ length s → w ≡ Tried.Characters m → Tries (upTo s p n) w
+        → Checked s q (Text.Got p n m d)
     checked-tried {w} {m} j i h = rw e (formed (ap scan (sym (up-to s p n j)) ∙ go (rw i at h)))
       where
         go : Tries (upTo s p n) (Tried.Characters m) → scan (upTo s p n) ≡ characters m
         go (known l) = l
 
-pub checked-passed : {s : List ℕ} {q : Payload} {t : Text} {x : Refusal} → q ≡ Payload.Not x → textStep t ≡ payloadStep q → Checked s q t
+pub checked-passed : {s : List ℕ} {q : Payload} {t : Text} {x : Refusal} → q ≡ Payload.Not x
+    → textStep t ≡ payloadStep q → Checked s q t
 checked-passed {t = t} e i = rw (text-refusal t (i ∙ ap payloadStep e), e) passed
 
 pub ruleset texts = (text-then, checked-got, checked-tried, checked-of, checked-not, checked-passed, spans-room)

@@ -1,6 +1,6 @@
 // Leaves with a length or a count: payloads, texts, and the counts of lists, each with the bytes left and the charge.
-// Ports read_bytes, read_string and, for the counts, what read_vec, read_debug_vec and their kin of `impl ByteReader` in serialize.rs ask before
-// the first item.
+// Ports read_bytes, read_string and, for the counts, what read_vec, read_debug_vec and their kin of `impl ByteReader`
+// in serialize.rs ask before the first item.
 ghost use mathlib.Core.Path.{_≡_};
 ghost use Prim.Native.Nat.{_+_, _≤_};
 ghost use lib.ListN.{length as lengthOf};
@@ -105,7 +105,8 @@ fn read_bytes(s: &[u8], c: Cursor) -> Payload
 
 pub fn read_artifact_bytes(s: &[u8], c: Cursor, context: u64, most: u64) -> Payload
     requires { ⌜ ReadyAt (now s) c ⌝ }
-    ensures { λ q. ⌜ Spans (Leaf.payload (limit Refusals.moduleArtifactLimitExceeded context most) context) (now (s .entry)) c q ⌝ }
+    ensures { λ q. ⌜ Spans (Leaf.payload (limit Refusals.moduleArtifactLimitExceeded context most) context)
+        (now (s .entry)) c q ⌝ }
 {
     let q = reader::read_u32(s, c);
     let Number::Got(n, d) = q else {
@@ -130,10 +131,12 @@ fn text(s: &[u8], start: usize, length: usize, d: Cursor) -> Text
     Text::Got(start, length, n, d)
 }
 
-// Scalars, not a Cursor: each text depends on the place after the one before, and a store and load in between would add its latency to every text.
+// Scalars, not a Cursor: each text depends on the place after the one before, and a store and load in between would add
+// its latency to every text.
 pub fn read_string(s: &[u8], place: usize, left: u64, at: usize) -> Text
     requires { ⌜ ReadyAt (now s) (cursorAt place left at) ⌝ }
-    ensures { λ q. ⌜ Texts (Leaf.string free Refusals.byteString wellFormed) (now (s .entry)) (cursorAt place left at) q ⌝ }
+    ensures { λ q. ⌜ Texts (Leaf.string free Refusals.byteString wellFormed) (now (s .entry)) (cursorAt place left at)
+        q ⌝ }
 {
     let q = read_bytes(s, Cursor { place, left, at });
     let Payload::Got(start, length, d) = q else {
@@ -158,7 +161,8 @@ pub fn read_string(s: &[u8], place: usize, left: u64, at: usize) -> Text
 
 pub fn read_artifact_string(s: &[u8], c: Cursor, context: u64, most: u64) -> Text
     requires { ⌜ ReadyAt (now s) c ⌝ }
-    ensures { λ q. ⌜ Texts (Leaf.string (limit Refusals.moduleArtifactLimitExceeded context most) context wellFormed) (now (s .entry)) c q ⌝ }
+    ensures { λ q. ⌜ Texts (Leaf.string (limit Refusals.moduleArtifactLimitExceeded context most) context wellFormed)
+        (now (s .entry)) c q ⌝ }
 {
     let q = read_artifact_bytes(s, c, context, most);
     let Payload::Got(start, length, d) = q else {
@@ -188,7 +192,8 @@ fn counted(s: &[u8], d: Cursor, n: u64, least: u64, context: u64, size: u64) -> 
 // The count of a list of entries whose size is numbered `entry`.
 pub fn read_count(s: &[u8], set: &Settings, c: Cursor, entry: usize) -> Number
     requires { ⌜ ReadyAt (now s) c ⌝ }
-    ensures { λ q. ⌜ Answers (Leaf.count free 1 Refusals.vector (sizeOf (settingsOf (now (set .entry))) entry)) (now (s .entry)) c q ⌝ }
+    ensures { λ q. ⌜ Answers (Leaf.count free 1 Refusals.vector (sizeOf (settingsOf (now (set .entry))) entry))
+        (now (s .entry)) c q ⌝ }
 {
     let q = reader::read_u32(s, c);
     let Number::Got(n, d) = q else {
@@ -207,7 +212,9 @@ pub fn read_debug_count(
     entry: usize,
 ) -> Number
     requires { ⌜ ReadyAt (now s) c ⌝ }
-    ensures { λ q. ⌜ Answers (Leaf.count (limit Refusals.debugMetadataLimitExceeded context most) 1 Refusals.vector (sizeOf (settingsOf (now (set .entry))) entry)) (now (s .entry)) c q ⌝ }
+    ensures { λ q. ⌜ Answers
+        (Leaf.count (limit Refusals.debugMetadataLimitExceeded context most) 1 Refusals.vector
+        (sizeOf (settingsOf (now (set .entry))) entry)) (now (s .entry)) c q ⌝ }
 {
     let q = reader::read_u32(s, c);
     let Number::Got(n, d) = q else {
@@ -222,7 +229,10 @@ pub fn read_debug_count(
 // The count of artifacts, which is not compared with the bytes left.
 pub fn read_artifact_count(s: &[u8], set: &Settings, c: Cursor) -> Number
     requires { ⌜ ReadyAt (now s) c ⌝ }
-    ensures { λ q. ⌜ Answers (Leaf.count (limit Refusals.moduleArtifactLimitExceeded Refusals.artifactCount (settingsOf (now (set .entry)) .artifacts)) 0 Refusals.moduleArtifacts (sizeOf (settingsOf (now (set .entry))) ModuleArtifact)) (now (s .entry)) c q ⌝ }
+    ensures { λ q. ⌜ Answers
+        (Leaf.count (limit Refusals.moduleArtifactLimitExceeded Refusals.artifactCount
+        (settingsOf (now (set .entry)) .artifacts)) 0 Refusals.moduleArtifacts
+        (sizeOf (settingsOf (now (set .entry))) ModuleArtifact)) (now (s .entry)) c q ⌝ }
 {
     let q = reader::read_u32(s, c);
     let Number::Got(n, d) = q else {
@@ -251,7 +261,8 @@ pub fn read_artifact_count(s: &[u8], set: &Settings, c: Cursor) -> Number
 // The count of a named type's methods: 14 bytes each at the least, and a charge of their own.
 pub fn read_method_count(s: &[u8], set: &Settings, c: Cursor) -> Number
     requires { ⌜ ReadyAt (now s) c ⌝ }
-    ensures { λ q. ⌜ Answers (Leaf.count free 14 Refusals.namedMethodMap (methodSize (settingsOf (now (set .entry))))) (now (s .entry)) c q ⌝ }
+    ensures { λ q. ⌜ Answers (Leaf.count free 14 Refusals.namedMethodMap (methodSize (settingsOf (now (set .entry)))))
+        (now (s .entry)) c q ⌝ }
 {
     let q = reader::read_u32(s, c);
     let Number::Got(n, d) = q else {

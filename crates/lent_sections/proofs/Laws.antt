@@ -1,4 +1,5 @@
--- The laws of the step by value: what the section call has answered lies in the pack, and where that moves the position.
+-- The laws of the step by value: what the section call has answered lies in the pack, and where that moves the
+-- position.
 use Prim.Native.Nat.{ℕ, _<_, _^_}
 use mathlib.Core.Path.{_≡_, ap, sym, _∙_}
 use mathlib.Core.List.{List}

@@ -13,7 +13,8 @@ pub struct Lent {
 }
 
 fn step(pack: &[u8], section: Section, from: Position, tape: &mut [u32]) -> Lent
-    ensures { λ q. ⌜ LentCall (functionsOf section) (sectionOf section) (now (pack .entry)) from (now (tape .entry)) (q .answer) (q .next) (now (tape .exit)) ⌝ }
+    ensures { λ q. ⌜ LentCall (functionsOf section) (sectionOf section) (now (pack .entry)) from (now (tape .entry))
+        (q .answer) (q .next) (now (tape .exit)) ⌝ }
 {
     let answer = sections::read_section(pack, section, from.place, from.budget, tape);
     Lent {
@@ -23,7 +24,8 @@ fn step(pack: &[u8], section: Section, from: Position, tape: &mut [u32]) -> Lent
 }
 
 pub fn read_section(pack: &[u8], section: Section, at: &mut Position, tape: &mut [u32]) -> Answer
-    ensures { λ q. ⌜ LentCall (functionsOf section) (sectionOf section) (now (pack .entry)) (now (at .entry)) (now (tape .entry)) q (now (at .exit)) (now (tape .exit)) ⌝ }
+    ensures { λ q. ⌜ LentCall (functionsOf section) (sectionOf section) (now (pack .entry)) (now (at .entry))
+        (now (tape .entry)) q (now (at .exit)) (now (tape .exit)) ⌝ }
 {
     let d = step(pack, section, *at, tape);
     *at = d.next;
@@ -32,7 +34,8 @@ pub fn read_section(pack: &[u8], section: Section, at: &mut Position, tape: &mut
 
 // By value, through the lent call, so that the borrow checker covers whoever calls this one.
 pub fn read_section_at(pack: &[u8], section: Section, from: Position, tape: &mut [u32]) -> Lent
-    ensures { λ q. ⌜ LentCall (functionsOf section) (sectionOf section) (now (pack .entry)) from (now (tape .entry)) (q .answer) (q .next) (now (tape .exit)) ⌝ }
+    ensures { λ q. ⌜ LentCall (functionsOf section) (sectionOf section) (now (pack .entry)) from (now (tape .entry))
+        (q .answer) (q .next) (now (tape .exit)) ⌝ }
 {
     let mut at = from;
     let answer = read_section(pack, section, &mut at, tape);

@@ -21,7 +21,8 @@ module _ (s : List ℕ) (p : ℕ) where
   unfolding little
   half-at h = rw (read-take 2 s p h) (omega arith)
 
-  pub word-at : p + 4 ≤ length s → little (part s p 4) ≡ getD s p 0 + 256 * (getD s (p + 1) 0 + 256 * (getD s (p + 2) 0 + 256 * getD s (p + 3) 0))
+  pub word-at : p + 4 ≤ length s
+      → little (part s p 4) ≡ getD s p 0 + 256 * (getD s (p + 1) 0 + 256 * (getD s (p + 2) 0 + 256 * getD s (p + 3) 0))
   unfolding little
   word-at h = rw (read-take 4 s p h, add-assoc p 1 1, add-assoc p 2 1) (omega arith)
 
@@ -32,7 +33,8 @@ sets-out : (t : List ℕ) (at : ℕ) (ws : List ℕ) → length t ≤ at → set
 sets-out t at [] h = refl
 sets-out t at (w ∷ ws) h = rw (set-out t at w h) (sets-out t (suc at) ws (omega arith))
 
-pub copied-ended : {ws : List ℕ} {n : ℕ} {s : List ℕ} {from at : ℕ} {t : List ℕ} → length t ≤ at → Copied ws n s from t at t
+pub copied-ended : {ws : List ℕ} {n : ℕ} {s : List ℕ} {from at : ℕ} {t : List ℕ} → length t ≤ at
+    → Copied ws n s from t at t
 copied-ended {ws} {n} {s} {from} {at} {t} h = record { is = sym (sets-out t at (wordsAt ws n s from) h) }
 
 pub fits-div : {j q at l : ℕ} → at < l → q ≤ (l - at) / j → Fits j q at l
@@ -48,7 +50,8 @@ pub record Copying (ws : List ℕ) (n : ℕ) (s : List ℕ) (from : ℕ) (t : Li
   pub same : length t′ ≡ length t
   pub leads : sets t at (wordsAt ws n s from) ≡ sets t′ i (wordsAt ws k s p)
 
-words-more : (ws : List ℕ) (k : ℕ) (s : List ℕ) (p : ℕ) → 0 < k → wordsAt ws k s p ≡ numbersAt ws s p ++ wordsAt ws (k - 1) s (p + width ws)
+words-more : (ws : List ℕ) (k : ℕ) (s : List ℕ) (p : ℕ) → 0 < k
+    → wordsAt ws k s p ≡ numbersAt ws s p ++ wordsAt ws (k - 1) s (p + width ws)
 unfolding wordsAt
 words-more ws zero s p h = absurd (omega arith)
 words-more ws (suc k) s p h = let e : suc k - 1 ≡ k = omega arith in rw e
@@ -71,7 +74,8 @@ module _ {ws : List ℕ} {n : ℕ} {s : List ℕ} {from : ℕ} {t : List ℕ} {a
   copying-start f h = record { fits = fits-room f h; same = refl; leads = refl }
 
   module _ {t′ : List ℕ} {p i k : ℕ} where
-    pub copying-more : {t″ : List ℕ} → 0 < k → t″ ≡ sets t′ i (numbersAt ws s p) → Copying ws n s from t at t′ p i k → Copying ws n s from t at t″ (p + width ws) (i + length ws) (k - 1)
+    pub copying-more : {t″ : List ℕ} → 0 < k → t″ ≡ sets t′ i (numbersAt ws s p) → Copying ws n s from t at t′ p i k
+        → Copying ws n s from t at t″ (p + width ws) (i + length ws) (k - 1)
     copying-more h e c =
         record {
           fits = rw (e, length-sets t′ i (numbersAt ws s p)) (omega (arith, c .fits, less (length ws) k h));
@@ -88,7 +92,8 @@ unfolding wordsAt
 words-length ws zero s p = omega arith
 words-length ws (suc m) s p = length-append (numbersAt ws s p) _ ∙ rw (numbers-length ws s p, words-length ws m s (p + width ws), mul-suc (length ws) m) (omega arith)
 
-words-join : (ws : List ℕ) (k m : ℕ) (s : List ℕ) (p : ℕ) → wordsAt ws (k + m) s p ≡ wordsAt ws k s p ++ wordsAt ws m s (p + width ws * k)
+words-join : (ws : List ℕ) (k m : ℕ) (s : List ℕ) (p : ℕ)
+    → wordsAt ws (k + m) s p ≡ wordsAt ws k s p ++ wordsAt ws m s (p + width ws * k)
 unfolding wordsAt
 words-join ws zero m s p =
     let e₁ : 0 + m ≡ m = omega arith in
@@ -102,11 +107,14 @@ words-join ws (suc k) m s p =
 pub copied-none : {ws : List ℕ} {s : List ℕ} {from : ℕ} {t : List ℕ} {at : ℕ} → Copied ws 0 s from t at t
 copied-none {ws} {s} {from} {t} {at} = record { is = ap (sets t at) (sym (words-end ws 0 s from (omega arith))) }
 
-pub copied-join : {ws : List ℕ} {k m : ℕ} {s : List ℕ} {from : ℕ} {t t₁ t₂ : List ℕ} {at : ℕ} → Copied ws k s from t at t₁ → Copied ws m s (from + width ws * k) t₁ (at + length ws * k) t₂ → Copied ws (k + m) s from t at t₂
+pub copied-join : {ws : List ℕ} {k m : ℕ} {s : List ℕ} {from : ℕ} {t t₁ t₂ : List ℕ} {at : ℕ}
+    → Copied ws k s from t at t₁ → Copied ws m s (from + width ws * k) t₁ (at + length ws * k) t₂
+    → Copied ws (k + m) s from t at t₂
 copied-join {ws} {k} {m} {s} {from} {t} {t₁} {t₂} {at} a b =
     record { is = b .is ∙ rw (a .is, words-join ws k m s from, sets-append t at (wordsAt ws k s from), words-length ws k s from) }
 
-pub copied-length : {ws : List ℕ} {n : ℕ} {s : List ℕ} {from : ℕ} {t : List ℕ} {at : ℕ} {t′ : List ℕ} → Copied ws n s from t at t′ → length t′ ≡ length t
+pub copied-length : {ws : List ℕ} {n : ℕ} {s : List ℕ} {from : ℕ} {t : List ℕ} {at : ℕ} {t′ : List ℕ}
+    → Copied ws n s from t at t′ → length t′ ≡ length t
 copied-length {ws} {n} {s} {from} {t} {at} a = ap length (a .is) ∙ length-sets t at (wordsAt ws n s from)
 
 -- room for some of the items that there is room for
@@ -116,11 +124,13 @@ fits-part k m h (room e) = room (omega arith)
 
 -- one number an item
 module _ {n : ℕ} {s : List ℕ} {from : ℕ} {t : List ℕ} {at : ℕ} {t′ : List ℕ} {p i k v : ℕ} (h : 0 < k) where
-  pub copying-number : {w : ℕ} → v ≡ little (part s p w) → Copying (w ∷ []) n s from t at t′ p i k → Copying (w ∷ []) n s from t at (set t′ i v) (p + width (w ∷ [])) (i + 1) (k - 1)
+  pub copying-number : {w : ℕ} → v ≡ little (part s p w) → Copying (w ∷ []) n s from t at t′ p i k
+      → Copying (w ∷ []) n s from t at (set t′ i v) (p + width (w ∷ [])) (i + 1) (k - 1)
   copying-number e c = copying-more h (rw e refl) c
 
   -- a byte is a number of one byte
-  pub copying-byte : p + 1 * k ≤ length s → v ≡ getD s p 0 → Copying (1 ∷ []) n s from t at t′ p i k → Copying (1 ∷ []) n s from t at (set t′ i v) (p + 1) (i + 1) (k - 1)
+  pub copying-byte : p + 1 * k ≤ length s → v ≡ getD s p 0 → Copying (1 ∷ []) n s from t at t′ p i k
+      → Copying (1 ∷ []) n s from t at (set t′ i v) (p + 1) (i + 1) (k - 1)
   copying-byte b e c = copying-number (e ∙ sym (byte-at s p (omega arith))) c
 
 pub ruleset copying = (copied-ended, copying-start, copying-number, copying-byte, copying-done)

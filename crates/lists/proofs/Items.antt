@@ -33,12 +33,14 @@ pub record Item (f : Format) (ws : List ℕ) (s : List ℕ) (p : ℕ) : Type 0 w
   pub settles : (b : ℕ) → settle b (trace f s p) ≡ taken value (p + width ws) b
   pub shows : words f value ≡ numbersAt ws s p
 
-item-takes : {f : Format} {ws s t : List ℕ} {c : Cursor} (i : Item f ws s (c .place)) → Takes f s c t (i .value) (advanced c (width ws) (length ws)) (sets t (c .at) (numbersAt ws s (c .place)))
+item-takes : {f : Format} {ws s t : List ℕ} {c : Cursor} (i : Item f ws s (c .place))
+    → Takes f s c t (i .value) (advanced c (width ws) (length ws)) (sets t (c .at) (numbersAt ws s (c .place)))
 item-takes {ws = ws} {s = s} {c = c} i = record { settles = i .settles (c .left); moves = rw (i .shows, numbers-length ws s (c .place)); writes = rw (i .shows) }
 
 -- a number that passes its rule
 module _ (w : Width) (ρ : Rule) (s : List ℕ) (p : ℕ) (o : Narrow w) (h : p + size w ≤ length s) (e : ρ .test (little (part s p (size w))) ≡ true) where
-  one-settles : (b : ℕ) → settle b (trace (leaf (fixed w ρ)) s p) ≡ taken (num (little (part s p (size w)))) (p + size w) b
+  one-settles : (b : ℕ)
+      → settle b (trace (leaf (fixed w ρ)) s p) ≡ taken (num (little (part s p (size w)))) (p + size w) b
   unfolding trace traceLeaf settle
   one-settles b = field-yes b (size w) s p _ h ∙ guard-yes b _ _ _ e
 
@@ -66,7 +68,8 @@ module _ (w : Width) (ρ : Rule) (s : List ℕ) (p : ℕ) (o : Narrow w) (h : p 
 -- a format of numbers with no rule, by their widths
 pub data Flat : Format → List ℕ → Type 0 where
   flat-one : {w : Width} → Narrow w → Flat (leaf (fixed w free)) (size w ∷ [])
-  flat-more : {w : Width} {g : Format} {ws : List ℕ} → Narrow w → Flat g ws → Flat (leaf (fixed w free) ▸ g) (size w ∷ ws)
+  flat-more : {w : Width} {g : Format} {ws : List ℕ} → Narrow w → Flat g ws
+      → Flat (leaf (fixed w free) ▸ g) (size w ∷ ws)
 
 item-flat : {f : Format} {ws : List ℕ} (s : List ℕ) (p : ℕ) → Flat f ws → p + width ws ≤ length s → Item f ws s p
 item-flat s p (flat-one {w} o) h = item-one w free s p o (omega arith) refl
@@ -84,8 +87,10 @@ flat-some (flat-more o k) = omega (arith, narrow-some o, flat-some k)
 -- ---- runs
 
 -- m of n items, and the rest
-items-lead : {f : Format} {s : List ℕ} (ws : List ℕ) (m n : ℕ) (c : Cursor) (t : List ℕ) → m ≤ n → ((p : ℕ) → c .place ≤ p → p + width ws ≤ c .place + width ws * m → Item f ws s p) → {r : Step} {t″ : List ℕ}
-    → Reads (times f (n - m)) s (Taken (advanced c (width ws * m) (length ws * m))) (sets t (c .at) (wordsAt ws m s (c .place))) r t″ → Reads (times f n) s (Taken c) t r t″
+items-lead : {f : Format} {s : List ℕ} (ws : List ℕ) (m n : ℕ) (c : Cursor) (t : List ℕ) → m ≤ n
+    → ((p : ℕ) → c .place ≤ p → p + width ws ≤ c .place + width ws * m → Item f ws s p) → {r : Step} {t″ : List ℕ}
+    → Reads (times f (n - m)) s (Taken (advanced c (width ws * m) (length ws * m))) (sets t (c .at) (wordsAt ws m s (c .place))) r t″
+    → Reads (times f n) s (Taken c) t r t″
 unfolding wordsAt chain
 items-lead ws zero n c t l i h =
     let e₁ : n - 0 ≡ n = omega arith in
@@ -104,7 +109,10 @@ items-lead {f} {s} ws (suc m) (suc n) c t l i h =
 
 module _ {ws : List ℕ} {m n b x : ℕ} {s : List ℕ} {c : Cursor} {t t′ : List ℕ} {q : Rest} where
   -- THE law of runs: m items whose words were copied, in so many bytes and words
-  pub runs-of : {f : Format} → ReadyAt s c → m ≤ n → c .place + width ws * m ≤ length s → length ws ≤ width ws → ((p : ℕ) → c .place ≤ p → p + width ws ≤ c .place + width ws * m → Item f ws s p) → Copied ws m s (c .place) t (c .at) t′ → b ≡ width ws * m → x ≡ length ws * m → q ≡ record { items = n - m; at = advanced c b x } → Runs f s c t n q t′
+  pub runs-of : {f : Format} → ReadyAt s c → m ≤ n → c .place + width ws * m ≤ length s → length ws ≤ width ws
+      → ((p : ℕ) → c .place ≤ p → p + width ws ≤ c .place + width ws * m → Item f ws s p)
+      → Copied ws m s (c .place) t (c .at) t′ → b ≡ width ws * m → x ≡ length ws * m
+      → q ≡ record { items = n - m; at = advanced c b x } → Runs f s c t n q t′
   runs-of r l h k i a y u e =
       rw (e, y, u, a .is)
       (record {
@@ -112,11 +120,15 @@ module _ {ws : List ℕ} {m n b x : ℕ} {s : List ℕ} {c : Cursor} {t t′ : L
         ready = record { small = r .small; within = h; behind = omega (arith, r .behind, mul-le-mul-right m k) };
       })
 
-  pub runs-flat : {f : Format} → Flat f ws → ReadyAt s c → m ≤ n → c .place + width ws * m ≤ length s → Copied ws m s (c .place) t (c .at) t′ → b ≡ width ws * m → x ≡ length ws * m → q ≡ record { items = n - m; at = advanced c b x } → Runs f s c t n q t′
+  pub runs-flat : {f : Format} → Flat f ws → ReadyAt s c → m ≤ n → c .place + width ws * m ≤ length s
+      → Copied ws m s (c .place) t (c .at) t′ → b ≡ width ws * m → x ≡ length ws * m
+      → q ≡ record { items = n - m; at = advanced c b x } → Runs f s c t n q t′
   runs-flat f r l h a y u e = runs-of r l h (flat-some f) (λ p x z. item-flat s p f (omega (arith, h))) a y u e
 
 -- small bytes
-pub runs-low : (y : ℕ) {m n most : ℕ} {s : List ℕ} {c : Cursor} {t t′ : List ℕ} {q : Rest} → ReadyAt s c → m ≤ n → c .place + m ≤ length s → Low s (c .place) (c .place + m) most → Copied (1 ∷ []) m s (c .place) t (c .at) t′ → q ≡ record { items = n - m; at = advanced c m m } → Runs (leaf (fixed byte (atMost most y))) s c t n q t′
+pub runs-low : (y : ℕ) {m n most : ℕ} {s : List ℕ} {c : Cursor} {t t′ : List ℕ} {q : Rest} → ReadyAt s c → m ≤ n
+    → c .place + m ≤ length s → Low s (c .place) (c .place + m) most → Copied (1 ∷ []) m s (c .place) t (c .at) t′
+    → q ≡ record { items = n - m; at = advanced c m m } → Runs (leaf (fixed byte (atMost most y))) s c t n q t′
 runs-low y {m} {most = most} {s = s} {c = c} r l h k a e = runs-of r l (omega arith) (omega arith) item a (omega arith) (omega arith) e
   where
     passes : (p : ℕ) → p + 1 ≤ length s → getD s p 0 ≤ most → leb (little (part s p 1)) most ≡ true
@@ -128,15 +140,19 @@ runs-low y {m} {most = most} {s = s} {c = c} r l h k a e = runs-of r l (omega ar
 -- ---- runs in a loop
 
 -- one item read by itself
-one-leads : {f : Format} {s : List ℕ} {c d : Cursor} {t t′ t″ : List ℕ} {v : Value} {r : Step} (n : ℕ) → 0 < n → Takes f s c t v d t′ → Reads (times f (n - 1)) s (Taken d) t′ r t″ → Reads (times f n) s (Taken c) t r t″
+one-leads : {f : Format} {s : List ℕ} {c d : Cursor} {t t′ t″ : List ℕ} {v : Value} {r : Step} (n : ℕ) → 0 < n
+    → Takes f s c t v d t′ → Reads (times f (n - 1)) s (Taken d) t′ r t″ → Reads (times f n) s (Taken c) t r t″
 unfolding chain
 one-leads zero h a k = absurd (omega arith)
 one-leads (suc n) h a k = let e : suc n - 1 ≡ n = omega arith in thenReads a (rw e at k)
 
-pub runs-one : {f : Format} {s : List ℕ} {c d : Cursor} {t t′ : List ℕ} {v : Value} {n : ℕ} {q : Rest} → 0 < n → ReadyAt s c → Takes f s c t v d t′ → q ≡ record { items = n - 1; at = d } → Runs f s c t n q t′
+pub runs-one : {f : Format} {s : List ℕ} {c d : Cursor} {t t′ : List ℕ} {v : Value} {n : ℕ} {q : Rest} → 0 < n
+    → ReadyAt s c → Takes f s c t v d t′ → q ≡ record { items = n - 1; at = d } → Runs f s c t n q t′
 runs-one {n = n} h r a e = rw e (record { rest = λ k. one-leads n h a k; ready = takes-ready r a })
 
 -- the loop over the items goes on past a run
-pub turns-run : {f : Format} {s : List ℕ} {t₀ : List ℕ} {r₀ r : Step} {n k : ℕ} {t t′ : List ℕ} {c : Cursor} {q : Rest} → r ≡ Taken c → Turns f s t₀ r₀ n t r k → Runs f s c t k q t′ → length t′ ≡ length t → Turns f s t₀ r₀ n t′ (Taken (q .at)) (q .items)
+pub turns-run : {f : Format} {s : List ℕ} {t₀ : List ℕ} {r₀ r : Step} {n k : ℕ} {t t′ : List ℕ} {c : Cursor} {q : Rest}
+    → r ≡ Taken c → Turns f s t₀ r₀ n t r k → Runs f s c t k q t′ → length t′ ≡ length t
+    → Turns f s t₀ r₀ n t′ (Taken (q .at)) (q .items)
 turns-run e l h i =
     let long = i ∙ l .long in record { chained = record { comes = comes-on (rw e at (l .chained .comes)) h; long = long }; ready = h .ready; long = long }

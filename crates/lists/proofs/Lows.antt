@@ -36,7 +36,8 @@ module _ {s : List ℕ} {from end : ℕ} where
   largest-start h k = record { past = omega arith; within = h; fits = k; all = low-none }
 
   module _ {m k : ℕ} where
-    pub largest-more : {q : ℕ} → k < end → m ≤ q → getD s k 0 ≤ q → Largest s from end m k → Largest s from end q (k + 1)
+    pub largest-more : {q : ℕ} → k < end → m ≤ q → getD s k 0 ≤ q → Largest s from end m k
+        → Largest s from end q (k + 1)
     largest-more {q} h a b l = record { past = omega arith; within = omega arith; fits = l .fits; all = low-join (record { low = λ j x y. omega (arith, l .all .low j x y) }) (low-one b) }
 
     pub largest-done : {most : ℕ} → end ≤ k → Largest s from end m k → ltb most m ≡ false → Low s from end most
@@ -49,8 +50,11 @@ module _ {n : ℕ} {s : List ℕ} {from most : ℕ} {t : List ℕ} {at : ℕ} wh
   pub copied-start : CopiedLow n s from most t at 0 t
   copied-start = record { within = omega arith; low = rw add-zero low-none; copied = copied-none }
 
-  pub copied-more : {k m : ℕ} {t₁ t₂ : List ℕ} → k + m ≤ n → Low s (from + k) (from + k + m) most → Copied (1 ∷ []) m s (from + k) t₁ (at + k) t₂ → CopiedLow n s from most t at k t₁ → CopiedLow n s from most t at (k + m) t₂
+  pub copied-more : {k m : ℕ} {t₁ t₂ : List ℕ} → k + m ≤ n → Low s (from + k) (from + k + m) most
+      → Copied (1 ∷ []) m s (from + k) t₁ (at + k) t₂ → CopiedLow n s from most t at k t₁
+      → CopiedLow n s from most t at (k + m) t₂
   copied-more {k} {m} h a b l = let e : 1 * k ≡ k = omega arith in record { within = h; low = rw (← add-assoc from k m) (low-join (l .low) a); copied = copied-join (l .copied) (rw e b) }
 
-  pub copied-fits : {k : ℕ} {t₁ : List ℕ} (m : ℕ) → k + m ≤ n → Fits 1 n at (length t) → CopiedLow n s from most t at k t₁ → Fits 1 m (at + k) (length t₁)
+  pub copied-fits : {k : ℕ} {t₁ : List ℕ} (m : ℕ) → k + m ≤ n → Fits 1 n at (length t)
+      → CopiedLow n s from most t at k t₁ → Fits 1 m (at + k) (length t₁)
   copied-fits {k} m h f l = rw (copied-length (l .copied)) (fits-part k m h f)

@@ -138,19 +138,22 @@ module _ {set : Settings} {s : List ℕ} {from n : ℕ} {name : List ℕ} {c : C
       pub looking-room : (at + 4 + a + 4 + 4 + b ≤ length s) × (length s ≤ maxPackBytes)
       looking-room = let r = looking-here .room in (rw (y .is, x .is) r, h .items .small)
 
-      pub looking-found : {d : Bool} → IsName s (at + 4) a name d → d ≡ true → Looks set s from n name c (Found.At (at + 4 + a + 4 + 4) b)
+      pub looking-found : {d : Bool} → IsName s (at + 4) a name d → d ≡ true
+          → Looks set s from n name c (Found.At (at + 4 + a + 4 + 4) b)
       unfolding pick
       looking-found m e =
           let f : same (part s (at + 4) (little (part s at 4))) name ≡ true = rw (← (x .is)) (sym (m .is) ∙ e) in
           record { is = rw (y .is, x .is) (sym (step′ ∙ rw f)); room = record { fits = λ p′ n′ i. let u : p′ ≡ at + 4 + a + 4 + 4 = cc in let w : n′ ≡ b = cc in omega (arith, looking-room .0) } }
 
-      pub looking-on : {d : Bool} → IsName s (at + 4) a name d → d ≡ false → Looking set s from n name c (at + 4 + a + 4 + 4 + b) (k - 1)
+      pub looking-on : {d : Bool} → IsName s (at + 4) a name d → d ≡ false
+          → Looking set s from n name c (at + 4 + a + 4 + 4 + b) (k - 1)
       unfolding pick
       looking-on m e =
           let f : same (part s (at + 4) (little (part s at 4))) name ≡ false = rw (← (x .is)) (sym (m .is) ∙ e) in
           rw (y .is, x .is) (record { items = record { small = h .items .small; all = rw (looking-here .next) at (stand-more (artifact set) k s at l (h .items .all) .1) }; rest = step′ ∙ rw f })
 
-  pub looking-done : {at k : ℕ} → Looking set s from n name c at k → k ≤ 0 → Looks set s from n name c (Found.Not (record { number = Refusals.noSuchArtifact; context = 0; detail1 = 0; detail2 = 0; place = c .place; left = c .left }))
+  pub looking-done : {at k : ℕ} → Looking set s from n name c at k → k ≤ 0
+      → Looks set s from n name c (Found.Not (record { number = Refusals.noSuchArtifact; context = 0; detail1 = 0; detail2 = 0; place = c .place; left = c .left }))
   unfolding vob.lookIn
   looking-done {at} {k} h l = record { is = sym (h .rest ∙ rw (items-none (artifact set) k s at l)); room = record { fits = λ p n i. let no : _≡_ {A = ℕ} 0 1 = cc in absurd (omega arith) } }
 
@@ -160,5 +163,6 @@ module _ {set : Settings} {s : List ℕ} {p n : ℕ} (w : WordIs s p n) where
   pub counted-items : ArtifactsAt set s p → Items (artifact set) n s (p + 4)
   counted-items h = rw (w .is) (h .items)
 
-  pub looks-from : {name : List ℕ} {c : Cursor} {q : Found} → Looks set s (p + 4) n name c q → LooksFrom set s p name c q
+  pub looks-from : {name : List ℕ} {c : Cursor} {q : Found} → Looks set s (p + 4) n name c q
+      → LooksFrom set s p name c q
   looks-from h = record { looks = rw (w .is) at h }

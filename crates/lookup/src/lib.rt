@@ -35,8 +35,8 @@ fn is_name(s: &[u8], p: usize, n: usize, name: &[u8]) -> bool
     true
 }
 
-// The payload of the first of n artifacts from `from` on that has this name; 27 shows where the reading ended. No setting is read here:
-// `set` says under which limits the artifacts were read.
+// The payload of the first of n artifacts from `from` on that has this name; 27 shows where the reading ended. No
+// setting is read here: `set` says under which limits the artifacts were read.
 fn look(s: &[u8], set: &Settings, from: usize, n: usize, name: &[u8], end: Cursor) -> Found
     requires { ⌜ Items (artifact (settingsOf (now set))) n (now s) from ⌝ }
     ensures { λ q. ⌜ Looks (settingsOf (now (set .entry))) (now (s .entry)) from n (now (name .entry)) end q ⌝ }

@@ -8,7 +8,8 @@ use Rattle.metadata.specs.Contract.{metadataStep}
 use Rattle.metadata.specs.declared.MetadataRecord.{MetadataRecord}
 use Rattle.metadata.specs.declared.MetadataRead.{MetadataRead}
 
-pub metadata-got : {q : MetadataRead} {x : MetadataRecord} {c : Cursor} → q ≡ MetadataRead.Got x c → Taken c ≡ metadataStep q
+pub metadata-got : {q : MetadataRead} {x : MetadataRecord} {c : Cursor} → q ≡ MetadataRead.Got x c
+    → Taken c ≡ metadataStep q
 metadata-got e = rw e
 
 pub metadata-not : {q : MetadataRead} {x : Refusal} → q ≡ MetadataRead.Not x → Refused x ≡ metadataStep q

@@ -26,7 +26,8 @@ unfolding little
 byte-at s p h = rw (read-take 1 s p h) (omega arith)
 
 -- the tag that was read is that byte
-tag-is : {ρ : Rule} {k : ℕ} {s : List ℕ} {c d : Cursor} {q : Number} {n : ℕ} {t t₁ : List ℕ} → getD s (c .place) 0 ≡ k → q ≡ Got n d → NumberOf (leaf (fixed byte ρ)) number s c t q t₁ → n ≡ k
+tag-is : {ρ : Rule} {k : ℕ} {s : List ℕ} {c d : Cursor} {q : Number} {n : ℕ} {t t₁ : List ℕ} → getD s (c .place) 0 ≡ k
+    → q ≡ Got n d → NumberOf (leaf (fixed byte ρ)) number s c t q t₁ → n ≡ k
 unfolding trace
 tag-is {ρ} {s = s} {c = c} a e h =
     let g = got-of e h in
@@ -34,7 +35,8 @@ tag-is {ρ} {s = s} {c = c} a e h =
     g .is ∙ ap number (p .2) ∙ byte-at s (c .place) (p .0) ∙ a
 
 -- None: nothing follows the tag
-none-reads : (set : Settings) {s : List ℕ} {c : Cursor} (q : Number) {t t₁ : List ℕ} → getD s (c .place) 0 ≡ 0 → NumberOf metadataTagged number s c t q t₁ → Reader (metadata set) s (Taken c) t (stepOf q) t₁
+none-reads : (set : Settings) {s : List ℕ} {c : Cursor} (q : Number) {t t₁ : List ℕ} → getD s (c .place) 0 ≡ 0
+    → NumberOf metadataTagged number s c t q t₁ → Reader (metadata set) s (Taken c) t (stepOf q) t₁
 unfolding metadata
 none-reads set (Got n d) a h = chooseAt (metadataVariants set) 0 refl refl (tag-is a refl h) h (emptyThen (got-ready refl h))
 none-reads set (Not x) a h = numberNot _ refl refl h
@@ -44,6 +46,7 @@ module _ (set : Settings) {s : List ℕ} {c : Cursor} {r r₂ : Step} {q : Numbe
   noneNext a i = at-step y (rw i (none-reads set q a h))
 
   -- CallLayout: two lists
-  pub callNext : {n : ℕ} {d : Cursor} {t₂ : List ℕ} → getD s (c .place) 0 ≡ 11 → q ≡ Got n d → Reader (twoLayouts set) s (Taken d) t₁ r₂ t₂ → Reader (metadata set) s r t r₂ t₂
+  pub callNext : {n : ℕ} {d : Cursor} {t₂ : List ℕ} → getD s (c .place) 0 ≡ 11 → q ≡ Got n d
+      → Reader (twoLayouts set) s (Taken d) t₁ r₂ t₂ → Reader (metadata set) s r t r₂ t₂
   unfolding metadata
   callNext a e k = chooseAt (metadataVariants set) 11 y e (tag-is a e h) h k

@@ -20,7 +20,8 @@ abbrev pub metadataIn : MetadataRead → MetadataRecord
 metadataIn (MetadataRead.Got x c) = x
 metadataIn (MetadataRead.Not x) = bareOf kind.None
 
-abbrev pub MetadataReader : Format → (ℕ → Value → MetadataRecord) → List ℕ → Cursor → List ℕ → MetadataRead → List ℕ → Type 0
+abbrev pub MetadataReader : Format → (ℕ → Value → MetadataRecord) → List ℕ → Cursor → List ℕ → MetadataRead → List ℕ
+    → Type 0
 MetadataReader f of s c t q t′ = Recorded f of s c t (metadataStep q) (metadataIn q) t′
 
 -- The contract of a reader at a cursor.

@@ -1,6 +1,6 @@
 // The metadata of each instruction.
-// Ports InstructionMetadata of bytecode.rs and read_instruction_metadata_for_version of serialize.rs. A metadata is answered as an enum
-// without lists, in a record beside its lists' starts and counts.
+// Ports InstructionMetadata of bytecode.rs and read_instruction_metadata_for_version of serialize.rs. A metadata is
+// answered as an enum without lists, in a record beside its lists' starts and counts.
 ghost use mathlib.Core.Path.{_≡_};
 ghost use mathlib.Core.Bool.{true};
 ghost use Prim.Native.Nat.{_≤_};
@@ -101,7 +101,8 @@ fn metadata_refusal(q: Number) -> MetadataRead
 // One slot layout.
 fn layout(s: &[u8], set: &Settings, c: Cursor, kind: Metadata, tape: &mut [u32]) -> MetadataRead
     requires { ⌜ ReadyAt (now s) c ⌝ }
-    ensures { λ q. ⌜ MetadataReader (slotTypes (settingsOf (now (set .entry)))) (oneOf kind) (now (s .entry)) c (now (tape .entry)) q (now (tape .exit)) ⌝ }
+    ensures { λ q. ⌜ MetadataReader (slotTypes (settingsOf (now (set .entry)))) (oneOf kind) (now (s .entry)) c
+        (now (tape .entry)) q (now (tape .exit)) ⌝ }
 {
     let q = slots::number_slot_types(s, set, c, tape);
     let Number::Got(n, d) = q else {
@@ -120,7 +121,8 @@ fn layout(s: &[u8], set: &Settings, c: Cursor, kind: Metadata, tape: &mut [u32])
 // Two slot layouts.
 fn layouts(s: &[u8], set: &Settings, c: Cursor, kind: Metadata, tape: &mut [u32]) -> MetadataRead
     requires { ⌜ ReadyAt (now s) c ⌝ }
-    ensures { λ q. ⌜ MetadataReader (twoLayouts (settingsOf (now (set .entry)))) (twoOf kind) (now (s .entry)) c (now (tape .entry)) q (now (tape .exit)) ⌝ }
+    ensures { λ q. ⌜ MetadataReader (twoLayouts (settingsOf (now (set .entry)))) (twoOf kind) (now (s .entry)) c
+        (now (tape .entry)) q (now (tape .exit)) ⌝ }
 {
     let q1 = slots::number_slot_types(s, set, c, tape);
     let Number::Got(m, d) = q1 else {
@@ -143,7 +145,8 @@ fn layouts(s: &[u8], set: &Settings, c: Cursor, kind: Metadata, tape: &mut [u32]
 // elem_bytes, needs_sign_extend, slot_layout
 fn elem_layout(s: &[u8], set: &Settings, c: Cursor, tape: &mut [u32]) -> MetadataRead
     requires { ⌜ ReadyAt (now s) c ⌝ }
-    ensures { λ q. ⌜ MetadataReader (elemLayout (settingsOf (now (set .entry)))) elemOf (now (s .entry)) c (now (tape .entry)) q (now (tape .exit)) ⌝ }
+    ensures { λ q. ⌜ MetadataReader (elemLayout (settingsOf (now (set .entry)))) elemOf (now (s .entry)) c
+        (now (tape .entry)) q (now (tape .exit)) ⌝ }
 {
     let q1 = fields::number_u32(s, c, tape);
     let Number::Got(bytes, d) = q1 else {
@@ -163,7 +166,8 @@ fn elem_layout(s: &[u8], set: &Settings, c: Cursor, tape: &mut [u32]) -> Metadat
 // key_layout, val_layout, has_ok
 fn map_get(s: &[u8], set: &Settings, c: Cursor, tape: &mut [u32]) -> MetadataRead
     requires { ⌜ ReadyAt (now s) c ⌝ }
-    ensures { λ q. ⌜ MetadataReader (mapGet (settingsOf (now (set .entry)))) mapGetOf (now (s .entry)) c (now (tape .entry)) q (now (tape .exit)) ⌝ }
+    ensures { λ q. ⌜ MetadataReader (mapGet (settingsOf (now (set .entry)))) mapGetOf (now (s .entry)) c
+        (now (tape .entry)) q (now (tape .exit)) ⌝ }
 {
     let q1 = slots::number_slot_types(s, set, c, tape);
     let Number::Got(m, d) = q1 else {
@@ -202,7 +206,8 @@ fn loop_end(s: &[u8], c: Cursor, tape: &mut [u32]) -> MetadataRead
 // array_len, elem_layout
 fn slot_layout(s: &[u8], set: &Settings, c: Cursor, tape: &mut [u32]) -> MetadataRead
     requires { ⌜ ReadyAt (now s) c ⌝ }
-    ensures { λ q. ⌜ MetadataReader (slotLayout (settingsOf (now (set .entry)))) slotOf (now (s .entry)) c (now (tape .entry)) q (now (tape .exit)) ⌝ }
+    ensures { λ q. ⌜ MetadataReader (slotLayout (settingsOf (now (set .entry)))) slotOf (now (s .entry)) c
+        (now (tape .entry)) q (now (tape .exit)) ⌝ }
 {
     let q = fields::number_u16(s, c, tape);
     let Number::Got(length, d) = q else {
@@ -217,7 +222,8 @@ fn slot_layout(s: &[u8], set: &Settings, c: Cursor, tape: &mut [u32]) -> Metadat
 // assert_kind, target_id, result_layout
 fn iface_assert_layout(s: &[u8], set: &Settings, c: Cursor, tape: &mut [u32]) -> MetadataRead
     requires { ⌜ ReadyAt (now s) c ⌝ }
-    ensures { λ q. ⌜ MetadataReader (ifaceAssert (settingsOf (now (set .entry)))) assertOf (now (s .entry)) c (now (tape .entry)) q (now (tape .exit)) ⌝ }
+    ensures { λ q. ⌜ MetadataReader (ifaceAssert (settingsOf (now (set .entry)))) assertOf (now (s .entry)) c
+        (now (tape .entry)) q (now (tape .exit)) ⌝ }
 {
     let q1 = fields::number_assert_kind(s, c, tape);
     let Number::Got(assert, d) = q1 else {
@@ -237,7 +243,8 @@ fn iface_assert_layout(s: &[u8], set: &Settings, c: Cursor, tape: &mut [u32]) ->
 // iface_meta_id, method_idx, arg_layout, ret_layout
 fn call_iface_layout(s: &[u8], set: &Settings, c: Cursor, tape: &mut [u32]) -> MetadataRead
     requires { ⌜ ReadyAt (now s) c ⌝ }
-    ensures { λ q. ⌜ MetadataReader (callIface (settingsOf (now (set .entry)))) callIfaceOf (now (s .entry)) c (now (tape .entry)) q (now (tape .exit)) ⌝ }
+    ensures { λ q. ⌜ MetadataReader (callIface (settingsOf (now (set .entry)))) callIfaceOf (now (s .entry)) c
+        (now (tape .entry)) q (now (tape .exit)) ⌝ }
 {
     let q1 = fields::number_u32(s, c, tape);
     let Number::Got(id, d) = q1 else {
@@ -257,7 +264,8 @@ fn call_iface_layout(s: &[u8], set: &Settings, c: Cursor, tape: &mut [u32]) -> M
 // cases
 fn select_exec_layout(s: &[u8], set: &Settings, c: Cursor, tape: &mut [u32]) -> MetadataRead
     requires { ⌜ ReadyAt (now s) c ⌝ }
-    ensures { λ q. ⌜ MetadataReader (selectList (settingsOf (now (set .entry)))) (oneOf Metadata.SelectExecLayout) (now (s .entry)) c (now (tape .entry)) q (now (tape .exit)) ⌝ }
+    ensures { λ q. ⌜ MetadataReader (selectList (settingsOf (now (set .entry)))) (oneOf Metadata.SelectExecLayout)
+        (now (s .entry)) c (now (tape .entry)) q (now (tape .exit)) ⌝ }
 {
     let q = select_case::number_select_cases(s, set, c, tape);
     let Number::Got(n, d) = q else {
@@ -276,7 +284,8 @@ fn select_exec_layout(s: &[u8], set: &Settings, c: Cursor, tape: &mut [u32]) -> 
 // The tag, and the metadata that it announces; the last arm is 18, as number_metadata_tag refuses all others.
 pub fn instruction_metadata(s: &[u8], set: &Settings, c: Cursor, tape: &mut [u32]) -> MetadataRead
     requires { ⌜ ReadyAt (now s) c ⌝ }
-    ensures { λ q. ⌜ MetadataReader (metadataFormat (settingsOf (now (set .entry)))) metadataOf (now (s .entry)) c (now (tape .entry)) q (now (tape .exit)) ⌝ }
+    ensures { λ q. ⌜ MetadataReader (metadataFormat (settingsOf (now (set .entry)))) metadataOf (now (s .entry)) c
+        (now (tape .entry)) q (now (tape .exit)) ⌝ }
 {
     let q = fields::number_metadata_tag(s, c, tape);
     let Number::Got(tag, d) = q else {
@@ -327,7 +336,8 @@ fn is_tag(s: &[u8], place: usize, tag: u8) -> bool
 
 fn two_layouts(s: &[u8], set: &Settings, c: Cursor, tape: &mut [u32]) -> Step
     requires { ⌜ ReadyAt (now s) c ⌝ }
-    ensures { λ q. ⌜ ReaderAt (twoLayouts (settingsOf (now (set .entry)))) (now (s .entry)) c (now (tape .entry)) q (now (tape .exit)) ⌝ }
+    ensures { λ q. ⌜ ReaderAt (twoLayouts (settingsOf (now (set .entry)))) (now (s .entry)) c (now (tape .entry)) q
+        (now (tape .exit)) ⌝ }
 {
     let q1 = slots::number_slot_types(s, set, c, tape);
     let Number::Got(_, d) = q1 else {
@@ -343,7 +353,8 @@ fn two_layouts(s: &[u8], set: &Settings, c: Cursor, tape: &mut [u32]) -> Step
 // The next of a list: the two commonest, None and CallLayout, are read without their records.
 fn next_metadata(s: &[u8], set: &Settings, r: Step, tape: &mut [u32]) -> Step
     requires { ⌜ Ready (now s) r ⌝ }
-    ensures { λ q. ⌜ Reader (metadataFormat (settingsOf (now (set .entry)))) (now (s .entry)) r (now (tape .entry)) q (now (tape .exit)) ⌝ }
+    ensures { λ q. ⌜ Reader (metadataFormat (settingsOf (now (set .entry)))) (now (s .entry)) r (now (tape .entry)) q
+        (now (tape .exit)) ⌝ }
 {
     let Step::Taken(c) = r else {
         return r;
@@ -369,7 +380,8 @@ fn next_metadata(s: &[u8], set: &Settings, r: Step, tape: &mut [u32]) -> Step
 // Also returns the count.
 pub fn number_instruction_metadata(s: &[u8], set: &Settings, c: Cursor, tape: &mut [u32]) -> Number
     requires { ⌜ ReadyAt (now s) c ⌝ }
-    ensures { λ q. ⌜ NumberOf (metadataList (settingsOf (now (set .entry)))) counted (now (s .entry)) c (now (tape .entry)) q (now (tape .exit)) ⌝ }
+    ensures { λ q. ⌜ NumberOf (metadataList (settingsOf (now (set .entry)))) counted (now (s .entry)) c
+        (now (tape .entry)) q (now (tape .exit)) ⌝ }
 {
     let q = fields::number_count(s, set, c, sizes::INSTRUCTION_METADATA, tape);
     let Number::Got(n, d) = q else {

@@ -34,7 +34,9 @@ use Rattle.reader.specs.Accepted.{Accepted}
 use Rattle.reader.proofs.Accepting.{accepted-part, accepted-ends}
 use Rattle.named_types.specs.NamedTypes.{namedMethod, namedMethods, newMethods, AllNew, MethodsRead}
 
-pub methodsThen : (set : Settings) {s : List ℕ} {c d : Cursor} {q : Number} {n : ℕ} {r r₂ : Step} {t t₁ t₂ : List ℕ} → r ≡ Taken c → q ≡ Got n d → NumberOf (methodCount set) number s c t q t₁ → Reader (chain newMethod alsoSeen [] n) s (Taken d) t₁ r₂ t₂ → Reader (namedMethods set) s r t r₂ t₂
+pub methodsThen : (set : Settings) {s : List ℕ} {c d : Cursor} {q : Number} {n : ℕ} {r r₂ : Step} {t t₁ t₂ : List ℕ}
+    → r ≡ Taken c → q ≡ Got n d → NumberOf (methodCount set) number s c t q t₁
+    → Reader (chain newMethod alsoSeen [] n) s (Taken d) t₁ r₂ t₂ → Reader (namedMethods set) s r t r₂ t₂
 unfolding methods
 methodsThen set y e h k = at-step y (numberThen (chain newMethod alsoSeen []) e h k)
 
@@ -52,7 +54,9 @@ pub record Unjudged (s t₀ : List ℕ) (r₀ : Step) (n first from : ℕ) (t : 
   pub judged : AllNew s from i → Methods s t₀ r₀ n from t r i
 
 -- a method that is new
-new-asked : {s : List ℕ} {from i : ℕ} {r r₁ : Step} → ((c : Cursor) → r ≡ Taken c → c .place ≡ lastAt namedMethod i s from) → repeatAt (keysAt (methodTable NamedMethod) s from) i ≡ false → MethodAsked s from i r r₁ r₁
+new-asked : {s : List ℕ} {from i : ℕ} {r r₁ : Step}
+    → ((c : Cursor) → r ≡ Taken c → c .place ≡ lastAt namedMethod i s from)
+    → repeatAt (keysAt (methodTable NamedMethod) s from) i ≡ false → MethodAsked s from i r r₁ r₁
 unfolding pick
 new-asked {s} {from} {i} {r} {r₁} h e = record { stays = λ x j. refl; asks = λ c d j k. rw (h c j, method-repeat i s from, e, k) asks-none }
 
@@ -62,7 +66,9 @@ unfolding traceAsk settle
 denied (passes e f) = let z : _≡_ {A = ℕ} 0 1 = cc in absurd (omega arith)
 denied (denies {x = x} e) = (x, refl)
 
-old-asked : {s : List ℕ} {from i : ℕ} {r r₁ q : Step} → ((d : Cursor) → r₁ ≡ Taken d → (c : Cursor) × (r ≡ Taken c)) → ((c : Cursor) → r ≡ Taken c → c .place ≡ lastAt namedMethod i s from) → repeatAt (keysAt (methodTable NamedMethod) s from) i ≡ true
+old-asked : {s : List ℕ} {from i : ℕ} {r r₁ q : Step} → ((d : Cursor) → r₁ ≡ Taken d → (c : Cursor) × (r ≡ Taken c))
+    → ((c : Cursor) → r ≡ Taken c → c .place ≡ lastAt namedMethod i s from)
+    → repeatAt (keysAt (methodTable NamedMethod) s from) i ≡ true
     → MethodAsked s from i r r₁ q → (x : Refusal) × (q ≡ Refused x)
 unfolding pick
 old-asked {s} {from} {i} {r} {r₁} {q} t h e a = go r₁ refl
@@ -72,12 +78,14 @@ old-asked {s} {from} {i} {r} {r₁} {q} t h e a = go r₁ refl
     go (Refused x) j = (x, a .stays x j ∙ j)
 
 -- what goes on was not refused before
-was-taken : {s : List ℕ} {r q : Step} {t t₁ : List ℕ} → Reads namedMethod s r t q t₁ → (d : Cursor) → q ≡ Taken d → (c : Cursor) × (r ≡ Taken c)
+was-taken : {s : List ℕ} {r q : Step} {t t₁ : List ℕ} → Reads namedMethod s r t q t₁ → (d : Cursor) → q ≡ Taken d
+    → (c : Cursor) × (r ≡ Taken c)
 was-taken (takes {c = c} a) d e = (c, refl)
 was-taken (refuses {c = c} a) d e = (c, refl)
 was-taken skips d e = apart (sym e)
 
-pub unjudged-start : {s t₀ : List ℕ} {d : Cursor} {n first : ℕ} → ReadyAt s d → Unjudged s t₀ (Taken d) n first (d .place) t₀ (Taken d) 0
+pub unjudged-start : {s t₀ : List ℕ} {d : Cursor} {n first : ℕ} → ReadyAt s d
+    → Unjudged s t₀ (Taken d) n first (d .place) t₀ (Taken d) 0
 unjudged-start {s} {t₀} {d} {n} {first} h =
     let z = items-nil namedMethod s (d .place) in
     record {
@@ -128,13 +136,16 @@ module _ {s t₀ : List ℕ} {d : Cursor} {n first : ℕ} {t : List ℕ} {r : St
             stops = λ u v w. (x, e);
           }
 
-      pub unjudged-more : {e : Cursor} → r₁ ≡ Taken e → length t₁ ≡ length t → Unjudged s t₀ (Taken d) n first (d .place) t₁ r₁ (i + 1)
+      pub unjudged-more : {e : Cursor} → r₁ ≡ Taken e → length t₁ ≡ length t
+          → Unjudged s t₀ (Taken d) n first (d .place) t₁ r₁ (i + 1)
       unjudged-more {e} j o = go r r₁ (a .reads) (l .here) j
         where
           judge : AllNew s (d .place) (i + 1) → Methods s t₀ (Taken d) n (d .place) t₁ r₁ (i + 1)
           judge u = methods-more (l .judged (record { new = λ m b. u .new m (omega arith) })) a (new-asked (l .here) (u .new i (omega arith))) h j o
 
-          go : (r₀ r₂ : Step) → Reads namedMethod s r₀ t r₂ t₁ → ((c : Cursor) → r₀ ≡ Taken c → c .place ≡ lastAt namedMethod i s (d .place)) → r₂ ≡ Taken e → Unjudged s t₀ (Taken d) n first (d .place) t₁ r₁ (i + 1)
+          go : (r₀ r₂ : Step) → Reads namedMethod s r₀ t r₂ t₁
+              → ((c : Cursor) → r₀ ≡ Taken c → c .place ≡ lastAt namedMethod i s (d .place)) → r₂ ≡ Taken e
+              → Unjudged s t₀ (Taken d) n first (d .place) t₁ r₁ (i + 1)
           go (Taken c) (Taken g) (takes y) p f =
               let z = stand (takes-ends y) in
               let x : c .place ≡ lastAt namedMethod i s (d .place) = p c refl in
@@ -160,7 +171,8 @@ module _ {s : List ℕ} {d : Cursor} {n m first : ℕ} {t t₁ : List ℕ} {q : 
   first-run e = a .reads (record { new = λ k h. f .new k (omega arith) }) (λ h. absurd (omega arith))
 
   -- a refusal tells nothing of the tape
-  pub second-run : {t₂ : List ℕ} {m₂ : ℕ} {q₂ : Step} → (first ≡ m → ⊥) → MethodsRead s d n first t₁ m₂ q₂ t₂ → Reader (newMethods n) s (Taken d) t q₂ t₂
+  pub second-run : {t₂ : List ℕ} {m₂ : ℕ} {q₂ : Step} → (first ≡ m → ⊥) → MethodsRead s d n first t₁ m₂ q₂ t₂
+      → Reader (newMethods n) s (Taken d) t q₂ t₂
   second-run {t₂} {m₂} {q₂} k b = go q₂ (b .stops news (omega (arith, f .within, a .within)) old) (b .reads news (λ h. old))
     where
       news : AllNew s (d .place) m₂
@@ -169,14 +181,18 @@ module _ {s : List ℕ} {d : Cursor} {n m first : ℕ} {t t₁ : List ℕ} {q : 
       old : repeatAt (keysAt (methodTable NamedMethod) s (d .place)) first ≡ true
       old = f .found (omega (arith, f .within))
 
-      again : {x : Refusal} → Reads (newMethods n) s (Taken d) t₁ (Refused x) t₂ → Reads (newMethods n) s (Taken d) t (Refused x) t₂
+      again : {x : Refusal} → Reads (newMethods n) s (Taken d) t₁ (Refused x) t₂
+          → Reads (newMethods n) s (Taken d) t (Refused x) t₂
       again (refuses y) = refuses y
 
-      go : (z : Step) → (x : Refusal) × (z ≡ Refused x) → Reader (newMethods n) s (Taken d) t₁ z t₂ → Reader (newMethods n) s (Taken d) t z t₂
+      go : (z : Step) → (x : Refusal) × (z ≡ Refused x) → Reader (newMethods n) s (Taken d) t₁ z t₂
+          → Reader (newMethods n) s (Taken d) t z t₂
       go z e c = let i = e .1 in rw i (record { reads = again (rw i at (c .reads)); ready = tt })
 
 -- in a second pass there is none
-pub accepted-run : (set : Settings) {s : List ℕ} {b : Bool} {r : Step} {c d : Cursor} {p : Number} {n m : ℕ} {q : Step} {t t₁ t₂ : List ℕ} → r ≡ Taken c → p ≡ Got n d → NumberOf (methodCount set) number s c t p t₁ → b ≡ true → Accepted b (namedMethods set) s r → MethodsRead s d n n t₁ m q t₂ → Reader (namedMethods set) s r t q t₂
+pub accepted-run : (set : Settings) {s : List ℕ} {b : Bool} {r : Step} {c d : Cursor} {p : Number} {n m : ℕ} {q : Step} {t t₁ t₂ : List ℕ}
+    → r ≡ Taken c → p ≡ Got n d → NumberOf (methodCount set) number s c t p t₁ → b ≡ true
+    → Accepted b (namedMethods set) s r → MethodsRead s d n n t₁ m q t₂ → Reader (namedMethods set) s r t q t₂
 accepted-run set {s} {d = d} {n = n} y e h i g a =
     let w = accepted-ends i (accepted-part (λ x k. methodsThen set y e h k) g) in
     methodsThen set y e h (a .reads (record { new = λ k l. all-new s (d .place) n (w .2) k (omega (arith, a .within)) }) (λ l. absurd (omega arith)))

@@ -39,10 +39,13 @@ newMethods n = chain vob.newMethod vob.alsoSeen [] n
 pub record AllNew (s : List ℕ) (from m : ℕ) : Type 0 where
   pub new : (k : ℕ) → k < m → repeatAt (keysAt (Methods NamedMethod) s from) k ≡ false
 
--- Of n methods m were read, up to the one numbered `first`; the answer stands if these are all new, and that one is a repeat.
+-- Of n methods m were read, up to the one numbered `first`; the answer stands if these are all new, and that one is a
+-- repeat.
 pub record MethodsRead (s : List ℕ) (d : Cursor) (n first : ℕ) (t : List ℕ) (m : ℕ) (q : Step) (t′ : List ℕ) : Type 0 where
   pub within : m ≤ n
   pub below : m ≤ first
   pub items : Items namedMethod m s (d .place)
-  pub reads : AllNew s (d .place) m → (first < n → repeatAt (keysAt (Methods NamedMethod) s (d .place)) first ≡ true) → Reader (newMethods n) s (Taken d) t q t′
-  pub stops : AllNew s (d .place) m → first < n → repeatAt (keysAt (Methods NamedMethod) s (d .place)) first ≡ true → (x : Refusal) × (q ≡ Refused x)
+  pub reads : AllNew s (d .place) m → (first < n → repeatAt (keysAt (Methods NamedMethod) s (d .place)) first ≡ true)
+      → Reader (newMethods n) s (Taken d) t q t′
+  pub stops : AllNew s (d .place) m → first < n → repeatAt (keysAt (Methods NamedMethod) s (d .place)) first ≡ true
+      → (x : Refusal) × (q ≡ Refused x)

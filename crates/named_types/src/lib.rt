@@ -32,7 +32,8 @@ struct Run {
 // Reads up to n methods; after method `first` asks whether its name is a repeat, and stops.
 fn read_methods(s: &[u8], d: Cursor, n: usize, first: usize, tape: &mut [u32]) -> Run
     requires { ⌜ ReadyAt (now s) d ⌝ }
-    ensures { λ q. ⌜ MethodsRead (now (s .entry)) d n first (now (tape .entry)) (q .count) (q .step) (now (tape .exit)) ⌝ }
+    ensures { λ q. ⌜ MethodsRead (now (s .entry)) d n first (now (tape .entry)) (q .count) (q .step)
+        (now (tape .exit)) ⌝ }
 {
     let from = d.place;
     let mut i = 0;
@@ -58,11 +59,12 @@ fn read_methods(s: &[u8], d: Cursor, n: usize, first: usize, tape: &mut [u32]) -
     }
 }
 
-// Reads all methods, then, in a first pass, looks for the first repeat; if there is one, reads again up to it, so that the refusal shows that
-// method's place and budget.
+// Reads all methods, then, in a first pass, looks for the first repeat; if there is one, reads again up to it, so that
+// the refusal shows that method's place and budget.
 fn methods(s: &[u8], set: &Settings, r: Step, again: bool, tape: &mut [u32]) -> Step
     requires { ⌜ (Ready (now s) r) × (Accepted again (namedMethods (settingsOf (now set))) (now s) r) ⌝ }
-    ensures { λ q. ⌜ Reader (namedMethods (settingsOf (now (set .entry)))) (now (s .entry)) r (now (tape .entry)) q (now (tape .exit)) ⌝ }
+    ensures { λ q. ⌜ Reader (namedMethods (settingsOf (now (set .entry)))) (now (s .entry)) r (now (tape .entry)) q
+        (now (tape .exit)) ⌝ }
 {
     let Step::Taken(c) = r else {
         return r;
@@ -91,7 +93,8 @@ fn methods(s: &[u8], set: &Settings, r: Step, again: bool, tape: &mut [u32]) -> 
 
 fn named_type(s: &[u8], set: &Settings, r: Step, again: bool, tape: &mut [u32]) -> Step
     requires { ⌜ (Ready (now s) r) × (Accepted again (namedFormat (settingsOf (now set))) (now s) r) ⌝ }
-    ensures { λ q. ⌜ Reader (namedFormat (settingsOf (now (set .entry)))) (now (s .entry)) r (now (tape .entry)) q (now (tape .exit)) ⌝ }
+    ensures { λ q. ⌜ Reader (namedFormat (settingsOf (now (set .entry)))) (now (s .entry)) r (now (tape .entry)) q
+        (now (tape .exit)) ⌝ }
 {
     let name = fields::field_str(s, r, tape);
     let underlying_meta = fields::field_value_meta(s, name, tape);
@@ -101,7 +104,8 @@ fn named_type(s: &[u8], set: &Settings, r: Step, again: bool, tape: &mut [u32]) 
 
 pub fn named_types(s: &[u8], set: &Settings, r: Step, again: bool, tape: &mut [u32]) -> Step
     requires { ⌜ (Ready (now s) r) × (Accepted again (namedList (settingsOf (now set))) (now s) r) ⌝ }
-    ensures { λ q. ⌜ Reader (namedList (settingsOf (now (set .entry)))) (now (s .entry)) r (now (tape .entry)) q (now (tape .exit)) ⌝ }
+    ensures { λ q. ⌜ Reader (namedList (settingsOf (now (set .entry)))) (now (s .entry)) r (now (tape .entry)) q
+        (now (tape .exit)) ⌝ }
 {
     let Step::Taken(c) = r else {
         return r;

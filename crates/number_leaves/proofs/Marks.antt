@@ -29,19 +29,23 @@ use Rattle.reader.proofs.Leaves.{fetched, shorts}
 
 -- any mark, by its bytes
 module _ {m : List ℕ} {y : ℕ → Wrong} {s : List ℕ} {c : Cursor} where
-  mark-few : length s < c .place + length m → Denied (mark m y) s c (refusal (wrong unexpectedEof 0) (c .place) (c .left))
+  mark-few : length s < c .place + length m
+      → Denied (mark m y) s c (refusal (wrong unexpectedEof 0) (c .place) (c .left))
   unfolding traceLeaf
   mark-few h = record { settles = field-no (c .left) (length m) s (c .place) _ h }
 
-  mark-other : c .place + length m ≤ length s → same (part s (c .place) (length m)) m ≡ false → Denied (mark m y) s c (refusal (y (little (part s (c .place) (length m)))) (c .place + length m) (c .left))
+  mark-other : c .place + length m ≤ length s → same (part s (c .place) (length m)) m ≡ false
+      → Denied (mark m y) s c (refusal (y (little (part s (c .place) (length m)))) (c .place + length m) (c .left))
   unfolding traceLeaf
   mark-other h e = record { settles = field-yes (c .left) (length m) s (c .place) _ h ∙ guard-no (c .left) _ _ _ e }
 
-  mark-same : c .place + length m ≤ length s → same (part s (c .place) (length m)) m ≡ true → Marks (mark m y) s c (Taken (past (length m) c))
+  mark-same : c .place + length m ≤ length s → same (part s (c .place) (length m)) m ≡ true
+      → Marks (mark m y) s c (Taken (past (length m) c))
   unfolding traceLeaf settle
   mark-same h e = marked {d = past (length m) c} (field-yes (c .left) (length m) s (c .place) _ h ∙ guard-yes (c .left) _ _ _ e) refl
 
-pub magic-short : {s : List ℕ} {c : Cursor} {x : Refusal} → ReadyAt s c → length s - c .place < 3 → x ≡ refusal (wrong unexpectedEof 0) (c .place) (c .left) → Marks magicMark s c (Refused x)
+pub magic-short : {s : List ℕ} {c : Cursor} {x : Refusal} → ReadyAt s c → length s - c .place < 3
+    → x ≡ refusal (wrong unexpectedEof 0) (c .place) (c .left) → Marks magicMark s c (Refused x)
 magic-short r h e = rw e (unmarked (mark-few (omega (arith, r .within))))
 
 module _ {s : List ℕ} {c : Cursor} (r : ReadyAt s c) (h : 3 ≤ length s - c .place) where
@@ -60,11 +64,13 @@ module _ {s : List ℕ} {c : Cursor} (r : ReadyAt s c) (h : 3 ≤ length s - c .
     unfolding same pick
     magic-second i j = rw e (unmarked (mark-other inside (rw three (rw (eq-eqb _ _ i, ne-eqb _ _ j)))))
 
-    pub magic-third : getD s (c .place) 0 ≡ 86 → getD s (c .place + 1) 0 ≡ 79 → (getD s (c .place + 2) 0 ≡ 66 → ⊥) → Marks magicMark s c (Refused x)
+    pub magic-third : getD s (c .place) 0 ≡ 86 → getD s (c .place + 1) 0 ≡ 79 → (getD s (c .place + 2) 0 ≡ 66 → ⊥)
+        → Marks magicMark s c (Refused x)
     unfolding same pick
     magic-third i j k = rw e (unmarked (mark-other inside (rw three (rw (eq-eqb _ _ i, eq-eqb _ _ j, ne-eqb _ _ k)))))
 
-  pub magic-got : getD s (c .place) 0 ≡ 86 → getD s (c .place + 1) 0 ≡ 79 → getD s (c .place + 2) 0 ≡ 66 → Marks magicMark s c (Taken (past 3 c))
+  pub magic-got : getD s (c .place) 0 ≡ 86 → getD s (c .place + 1) 0 ≡ 79 → getD s (c .place + 2) 0 ≡ 66
+      → Marks magicMark s c (Taken (past 3 c))
   unfolding same pick
   magic-got i j k = mark-same inside (rw three (rw (eq-eqb _ _ i, eq-eqb _ _ j, eq-eqb _ _ k)))
 
@@ -72,7 +78,8 @@ module _ {s : List ℕ} {c : Cursor} (r : ReadyAt s c) (h : 3 ≤ length s - c .
 abbrev twentyFour : List ℕ
 twentyFour = 24 ∷ 0 ∷ 0 ∷ 0 ∷ []
 
-same-version : {s : List ℕ} {c d : Cursor} {n : ℕ} → Fetched 4 s c n d → n ≡ 24 → same (part s (c .place) 4) twentyFour ≡ true
+same-version : {s : List ℕ} {c d : Cursor} {n : ℕ} → Fetched 4 s c n d → n ≡ 24
+    → same (part s (c .place) 4) twentyFour ≡ true
 unfolding same pick digits
 same-version {s} {c} f e =
     let l = part-length s (c .place) 4 (f .room) in
@@ -80,7 +87,8 @@ same-version {s} {c} f e =
     let i : digits 4 24 ≡ part s (c .place) 4 = ap (digits 4) (sym e ∙ f .is) ∙ (rw l at g) in
     rw (← i)
 
-other-version : {s : List ℕ} {c d : Cursor} {n : ℕ} → Fetched 4 s c n d → (n ≡ 24 → ⊥) → same (part s (c .place) 4) twentyFour ≡ false
+other-version : {s : List ℕ} {c d : Cursor} {n : ℕ} → Fetched 4 s c n d → (n ≡ 24 → ⊥)
+    → same (part s (c .place) 4) twentyFour ≡ false
 unfolding little
 other-version {s} {c} {d} {n} f e = go (same (part s (c .place) 4) twentyFour) refl
   where
@@ -93,7 +101,8 @@ module _ {s : List ℕ} {c : Cursor} {q : Number} where
   version-short e i h = let k = shorts e h in rw (i, e, k .is) (unmarked (mark-few (k .room)))
 
   module _ {n : ℕ} {d : Cursor} (e : q ≡ Got n d) (h : Fetches 4 s c q) where
-    pub version-no : {x : Refusal} → (n ≡ 24 → ⊥) → x ≡ refusal (wrong unsupportedVersion n) (d .place) (d .left) → Marks versionMark s c (Refused x)
+    pub version-no : {x : Refusal} → (n ≡ 24 → ⊥) → x ≡ refusal (wrong unsupportedVersion n) (d .place) (d .left)
+        → Marks versionMark s c (Refused x)
     version-no i j =
         let f = fetched e h in
         let k = mark-other {m = twentyFour} {y = λ n. wrong unsupportedVersion n} (f .room) (other-version f i) in

@@ -24,25 +24,29 @@ use Rattle.reader.proofs.Leaves.{fetched, shorts, below, past-ready}
 -- ---- one byte of the trace, with at most k after it and m the least that it may be as the last
 
 module _ {s : List ℕ} {d e : Cursor} {b : ℕ} (f : Fetched 1 s d b e) where
-  step-over : (m : ℕ) → 15 < b → settle (d .left) (tracePacked 0 m s (d .place)) ≡ refused (wrong invalidSourceInteger 0) (e .place) (e .left)
+  step-over : (m : ℕ) → 15 < b
+      → settle (d .left) (tracePacked 0 m s (d .place)) ≡ refused (wrong invalidSourceInteger 0) (e .place) (e .left)
   unfolding tracePacked
   step-over m h = rw (f .next) (field-yes (d .left) 1 s (d .place) _ (f .room) ∙ rw (← f .is) (guard-no (d .left) _ _ _ (lt-leb _ _ h)))
 
-  step-padded : (k m : ℕ) → (k ≡ 0 → b ≤ 15) → b < 128 → b < m → settle (d .left) (tracePacked k m s (d .place)) ≡ refused (wrong invalidSourceInteger 0) (e .place) (e .left)
+  step-padded : (k m : ℕ) → (k ≡ 0 → b ≤ 15) → b < 128 → b < m
+      → settle (d .left) (tracePacked k m s (d .place)) ≡ refused (wrong invalidSourceInteger 0) (e .place) (e .left)
   unfolding tracePacked packedStep
   step-padded zero m o h g =
       rw (f .next) (field-yes (d .left) 1 s (d .place) _ (f .room) ∙ rw (← f .is) (guard-yes (d .left) _ _ _ (le-leb _ _ (o refl)) ∙ guard-no (d .left) _ _ _ (lt-leb _ _ g)))
   step-padded (suc k) m o h g =
       rw (f .next) (field-yes (d .left) 1 s (d .place) _ (f .room) ∙ rw (← f .is, lt-ltb _ _ h) (guard-no (d .left) _ _ _ (lt-leb _ _ g)))
 
-  step-last : (k m : ℕ) → (k ≡ 0 → b ≤ 15) → b < 128 → m ≤ b → settle (d .left) (tracePacked k m s (d .place)) ≡ taken b (e .place) (e .left)
+  step-last : (k m : ℕ) → (k ≡ 0 → b ≤ 15) → b < 128 → m ≤ b
+      → settle (d .left) (tracePacked k m s (d .place)) ≡ taken b (e .place) (e .left)
   unfolding tracePacked packedStep settle
   step-last zero m o h g =
       rw (f .next) (field-yes (d .left) 1 s (d .place) _ (f .room) ∙ rw (← f .is) (guard-yes (d .left) _ _ _ (le-leb _ _ (o refl)) ∙ guard-yes (d .left) _ _ _ (le-leb _ _ g)))
   step-last (suc k) m o h g =
       rw (f .next) (field-yes (d .left) 1 s (d .place) _ (f .room) ∙ rw (← f .is, lt-ltb _ _ h) (guard-yes (d .left) _ _ _ (le-leb _ _ g)))
 
-  step-more : (k m : ℕ) → 128 ≤ b → settle (d .left) (tracePacked (suc k) m s (d .place)) ≡ thenS (settle (e .left) (tracePacked k 1 s (e .place))) (λ n q l. taken (b - 128 + 128 * n) q l)
+  step-more : (k m : ℕ) → 128 ≤ b
+      → settle (d .left) (tracePacked (suc k) m s (d .place)) ≡ thenS (settle (e .left) (tracePacked k 1 s (e .place))) (λ n q l. taken (b - 128 + 128 * n) q l)
   unfolding tracePacked packedStep settle
   step-more k m h =
       rw (f .next) (field-yes (d .left) 1 s (d .place) _ (f .room) ∙ rw (← f .is, le-ltb _ _ h) (settle-bind (d .left) (tracePacked k 1 s (d .place + 1)) _))
@@ -77,7 +81,8 @@ module _ (i v b : ℕ) (r : Room i b) (hv : v < 2 ^ (7 * i)) where
   or-word = rw or-group group-word
 
 -- the group of a byte that is not the last, and the number of the groups above it, at the weight of byte number i
-weigh : (v b n i : ℕ) → 128 ≤ b → b < 256 → v + (b - 128 + 128 * n) * 2 ^ (7 * i) ≡ v + b % 128 * 2 ^ (7 * i) + n * 2 ^ (7 * (i + 1))
+weigh : (v b n i : ℕ) → 128 ≤ b → b < 256
+    → v + (b - 128 + 128 * n) * 2 ^ (7 * i) ≡ v + b % 128 * 2 ^ (7 * i) + n * 2 ^ (7 * (i + 1))
 weigh v b n i g h =
     let e : 7 * (i + 1) ≡ 7 + 7 * i = omega arith in
     let w = 2 ^ (7 * i) in
@@ -97,8 +102,10 @@ pub record Packing (s : List ℕ) (c : Cursor) (v : ℕ) (d : Cursor) (i : ℕ) 
   pub below : v < 2 ^ (7 * i)
   pub ready : ReadyAt s d
   pub stays : d .at ≡ c .at
-  pub takes : {n q l : ℕ} → settle (d .left) (tracePacked k (least i) s (d .place)) ≡ taken n q l → settle (c .left) (traceLeaf packed s (c .place)) ≡ taken (num (v + n * 2 ^ (7 * i))) q l
-  pub refuses : {w : Wrong} {q l : ℕ} → settle (d .left) (tracePacked k (least i) s (d .place)) ≡ refused w q l → settle (c .left) (traceLeaf packed s (c .place)) ≡ refused w q l
+  pub takes : {n q l : ℕ} → settle (d .left) (tracePacked k (least i) s (d .place)) ≡ taken n q l
+      → settle (c .left) (traceLeaf packed s (c .place)) ≡ taken (num (v + n * 2 ^ (7 * i))) q l
+  pub refuses : {w : Wrong} {q l : ℕ} → settle (d .left) (tracePacked k (least i) s (d .place)) ≡ refused w q l
+      → settle (c .left) (traceLeaf packed s (c .place)) ≡ refused w q l
 
 pub packing-start : {s : List ℕ} {c : Cursor} → ReadyAt s c → Packing s c 0 c 0
 unfolding traceLeaf settle thenS
@@ -113,7 +120,8 @@ packing-start {s} {c} r =
       refuses = λ e. settle-bind (c .left) (tracePacked 4 0 s (c .place)) (λ n q. end (num n) q) ∙ rw e;
     }
 
-step-short : {s : List ℕ} {d : Cursor} {x : Refusal} (k m : ℕ) → Short 1 s d x → settle (d .left) (tracePacked k m s (d .place)) ≡ refused (wrong unexpectedEof 0) (d .place) (d .left)
+step-short : {s : List ℕ} {d : Cursor} {x : Refusal} (k m : ℕ) → Short 1 s d x
+    → settle (d .left) (tracePacked k m s (d .place)) ≡ refused (wrong unexpectedEof 0) (d .place) (d .left)
 unfolding tracePacked
 step-short {s} {d} zero m h = field-no (d .left) 1 s (d .place) _ (h .room)
 step-short {s} {d} (suc k) m h = field-no (d .left) 1 s (d .place) _ (h .room)
@@ -123,7 +131,8 @@ module _ {s : List ℕ} {c : Cursor} {v : ℕ} {d : Cursor} {i : ℕ} (p : Packi
   packing-short e h = let k = shorts e h in rw (e, k .is) (denied (record { settles = p .refuses (step-short (p .k) (least i) k) }))
 
   module _ {b : ℕ} {e : Cursor} (y : q ≡ Got b e) (h : Fetches 1 s d q) where
-    pub packing-over : {x : Refusal} → i ≡ 4 → 15 < b → x ≡ refusal (wrong invalidSourceInteger 0) (e .place) (e .left) → Answers packed s c (Not x)
+    pub packing-over : {x : Refusal} → i ≡ 4 → 15 < b → x ≡ refusal (wrong invalidSourceInteger 0) (e .place) (e .left)
+        → Answers packed s c (Not x)
     packing-over j g w =
         let z : p .k ≡ 0 = omega (arith, p .turn) in
         let o : settle (d .left) (tracePacked (p .k) (least i) s (d .place)) ≡ refused (wrong invalidSourceInteger 0) (e .place) (e .left) = rw z (step-over (fetched y h) (least i) g) in
@@ -133,7 +142,8 @@ module _ {s : List ℕ} {c : Cursor} {v : ℕ} {d : Cursor} {i : ℕ} (p : Packi
       fifth : p .k ≡ 0 → b ≤ 15
       fifth z = r .fifth (omega (arith, p .turn))
 
-      pub packing-padded : {x : Refusal} → b < 128 → (i ≡ 0 → ⊥) → b ≡ 0 → x ≡ refusal (wrong invalidSourceInteger 0) (e .place) (e .left) → Answers packed s c (Not x)
+      pub packing-padded : {x : Refusal} → b < 128 → (i ≡ 0 → ⊥) → b ≡ 0
+          → x ≡ refusal (wrong invalidSourceInteger 0) (e .place) (e .left) → Answers packed s c (Not x)
       packing-padded g n z w = rw w (denied (record { settles = p .refuses (step-padded (fetched y h) (p .k) (least i) fifth g (one i n)) }))
         where
           one : (i : ℕ) → (i ≡ 0 → ⊥) → b < least i
@@ -159,7 +169,8 @@ module _ {s : List ℕ} {c : Cursor} {v : ℕ} {d : Cursor} {i : ℕ} (p : Packi
           go zero z = omega arith
           go (suc i) z = absurd (omega arith)
 
-      pub packing-last : b < 128 → (b ≡ 0 → ⊥) → Answers packed s c (Got (bitOr v ((bitAnd b 127 * 2 ^ (7 * i)) % 2 ^ 32)) e)
+      pub packing-last : b < 128 → (b ≡ 0 → ⊥)
+          → Answers packed s c (Got (bitOr v ((bitAnd b 127 * 2 ^ (7 * i)) % 2 ^ 32)) e)
       packing-last g n = rw (or-group i v b r (p .below)) (last g (go i))
         where
           go : (i : ℕ) → least i ≤ b

@@ -29,11 +29,13 @@ use Rattle.deserialize.proofs.Laws.{on-list}
 use Rattle.pack.specs.Find.{Whole, Located}
 
 -- what a whole reading has taken is not refused when it is read again
-pub whole-accepted : {set : Settings} {b : Bool} {s : List ℕ} {r : Step} {c : Cursor} → Whole set s r c → Accepted b (pack set) s r
+pub whole-accepted : {set : Settings} {b : Bool} {s : List ℕ} {r : Step} {c : Cursor} → Whole set s r c
+    → Accepted b (pack set) s r
 whole-accepted w = taken-accepted (w .on .is) (w .on .settles)
 
 module _ {set : Settings} {s : List ℕ} {r r′ : Step} {c : Cursor} (w : Whole set s r c) (h : Reaches set (numberOf artifacts) s r r′) where
-  at-artifacts : (v : Value) → On (pack set) s v (c .place) (c .left) r → ListStands (artifact set) (entries (partOf artifacts v)) s r′
+  at-artifacts : (v : Value) → On (pack set) s v (c .place) (c .left) r
+      → ListStands (artifact set) (entries (partOf artifacts v)) s r′
   unfolding section partOf
   at-artifacts v o = on-list (h .on v (c .place) (c .left) o) (h .ready)
 
@@ -49,7 +51,8 @@ module _ {set : Settings} {s : List ℕ} {r r′ : Step} {c : Cursor} (w : Whole
     located-look l = record { is = λ v o. let k = at-artifacts v o in let i : k .cursor ≡ a = cc (k .is) in l .looks .is ∙ rw (k .entries, i); room = l .looks .room }
 
 module _ (set : Settings) {s : List ℕ} {r : Step} where
-  whole-of : {b : ℕ} {c : Cursor} {r′ : Step} → Passed (pack set) (wholeTrace set s) s 0 b r r′ → r′ ≡ Taken c → Ready s r → (w : Whole set s r c) × (settle b (wholeTrace set s) ≡ taken (w .value) (c .place) (c .left))
+  whole-of : {b : ℕ} {c : Cursor} {r′ : Step} → Passed (pack set) (wholeTrace set s) s 0 b r r′ → r′ ≡ Taken c
+      → Ready s r → (w : Whole set s r c) × (settle b (wholeTrace set s) ≡ taken (w .value) (c .place) (c .left))
   whole-of {b} {c} (passed {v = v} {c = d} o i k m) e y =
       let x : d ≡ c = cc in
       let k′ : settle b (trace (pack set) s 0) ≡ taken v (c .place) (c .left) = rw x at k in
@@ -57,7 +60,8 @@ module _ (set : Settings) {s : List ℕ} {r : Step} where
       (record { value = v; on = record { cursor = from 0 b; is = o; settles = k′ }; ready = y }, i′)
   whole-of (denied i) e y = let no : _≡_ {A = ℕ} 0 1 = cc in absurd (omega arith)
 
-  denied-of : {b : ℕ} {x : Refusal} {r′ : Step} → Passed (pack set) (wholeTrace set s) s 0 b r r′ → r′ ≡ Refused x → settle b (wholeTrace set s) ≡ refused (wrongOf x) (x .place) (x .left)
+  denied-of : {b : ℕ} {x : Refusal} {r′ : Step} → Passed (pack set) (wholeTrace set s) s 0 b r r′ → r′ ≡ Refused x
+      → settle b (wholeTrace set s) ≡ refused (wrongOf x) (x .place) (x .left)
   denied-of (denied {x = y} i) e = i ∙ cc
   denied-of (passed o i k m) e = let no : _≡_ {A = ℕ} 0 1 = cc in absurd (omega arith)
 
@@ -65,7 +69,8 @@ module _ (set : Settings) {s : List ℕ} {r₀ r r′ : Step} {t e : List ℕ} (
   pub locate-whole : {c : Cursor} → r′ ≡ Taken c → Whole set s r₀ c
   locate-whole i = whole-of set (read-passed set o k g) i (o .ready) .0
 
-  pub locate-found : {name : List ℕ} {c : Cursor} {q : Found} → r′ ≡ Taken c → Located set s r₀ name c q → LocateCall set s name q
+  pub locate-found : {name : List ℕ} {c : Cursor} {q : Found} → r′ ≡ Taken c → Located set s r₀ name c q
+      → LocateCall set s name q
   unfolding findOutcome
   locate-found i l = let w = whole-of set (read-passed set o k g) i (o .ready) in record { is = l .is (w .0 .value) (w .0 .on) ∙ rw (w .1); room = l .room }
 

@@ -22,5 +22,6 @@ pub record Whole (set : Settings) (s : List ℕ) (r : Step) (c : Cursor) : Type 
 
 -- The lookup in it.
 pub record Located (set : Settings) (s : List ℕ) (r : Step) (name : List ℕ) (c : Cursor) (q : Found) : Type 0 where
-  pub is : (v : Value) → On (pack set) s v (c .place) (c .left) r → foundOf q ≡ lookIn name (entries (partOf vob.artifacts v)) (c .place) (c .left)
+  pub is : (v : Value) → On (pack set) s v (c .place) (c .left) r
+      → foundOf q ≡ lookIn name (entries (partOf vob.artifacts v)) (c .place) (c .left)
   pub room : Room s q

@@ -22,7 +22,8 @@ const OWN: usize = 64;
 // A small pack: where its record fits the call's own tape, it is copied from there.
 fn read_once(pack: &[u8], set: &Settings, start: Step, budget: u64, tape: &mut [u32]) -> Answer
     requires { ⌜ Opens (now pack) 0 budget start ⌝ }
-    ensures { λ q. ⌜ ReadCall (settingsOf (now (set .entry))) (now (pack .entry)) budget (now (tape .entry)) q (now (tape .exit)) ⌝ }
+    ensures { λ q. ⌜ ReadCall (settingsOf (now (set .entry))) (now (pack .entry)) budget (now (tape .entry)) q
+        (now (tape .exit)) ⌝ }
 {
     let mut own = [0u32; OWN];
     let first = deserialize::deserialize(pack, set, start, false, &mut own);

@@ -34,7 +34,8 @@ abbrev pub StaysWithin : ℕ → ℕ → Answer → Type 0
 StaysWithin a e (Taken w n c l) = a + n ≤ e
 StaysWithin a e (Refused x p l) = (a ≤ p) × (p ≤ e)
 
--- The answer q and the tape t′ at exit are those of reading f from the place a on, by this charge list, under the budget b.
+-- The answer q and the tape t′ at exit are those of reading f from the place a on, by this charge list, under the
+-- budget b.
 pub record Call (f : Format) (tr : Trace Value) (a b : ℕ) (t : List ℕ) (q : Answer) (t′ : List ℕ) : Type 0 where
   pub is : closing f a b t (settle b tr) ≡ record { answer = q; tape = t′ }
 
@@ -53,31 +54,37 @@ room f a b t P v p l h k = go (leb (length (words f v)) (length t)) (λ d. h (le
     go true h k = h tt
     go false h k = k tt
 
-closing-kept : (f : Format) (a b : ℕ) (t : List ℕ) (r : Settled Value) → Kept (closing f a b t r .answer) t (closing f a b t r .tape)
+closing-kept : (f : Format) (a b : ℕ) (t : List ℕ) (r : Settled Value)
+    → Kept (closing f a b t r .answer) t (closing f a b t r .tape)
 closing-kept f a b t (refused x p l) = refl
 closing-kept f a b t (taken v p l) =
     room f a b t (λ o. Kept (o .answer) t (o .tape)) v p l
     (λ h. (simp (length-append, length-drop) (omega arith), drop-append-seam (words f v) (drop (length (words f v)) t)))
     (λ _. refl)
 
-closing-within : (f : Format) (a b e : ℕ) (t : List ℕ) (r : Settled Value) → a ≤ placeOf r → placeOf r ≤ e → StaysWithin a e (closing f a b t r .answer)
+closing-within : (f : Format) (a b e : ℕ) (t : List ℕ) (r : Settled Value) → a ≤ placeOf r → placeOf r ≤ e
+    → StaysWithin a e (closing f a b t r .answer)
 unfolding placeOf
 closing-within f a b e t (refused x p l) h k = (h, k)
 closing-within f a b e t (taken v p l) h k = room f a b t (λ o. StaysWithin a e (o .answer)) v p l (λ _. omega arith) (λ _. (h, k))
 
 -- the charges of a list that ends with a value are the value's cost
-pub ends-cost : {f : Format} {tr : Trace Value} {s : List ℕ} {a : ℕ} {cost : Value → ℕ} → Reads f tr s a → Costs f cost → {v : Value} {p : ℕ} → Ends tr v p → total tr ≡ cost v
+pub ends-cost : {f : Format} {tr : Trace Value} {s : List ℕ} {a : ℕ} {cost : Value → ℕ} → Reads f tr s a → Costs f cost
+    → {v : Value} {p : ℕ} → Ends tr v p → total tr ≡ cost v
 ends-cost {f} {s = s} {a = a} reads costs {v} h = let e = reads .inner h in e .1 ∙ trace-charges f s a (e .0) ∙ costs .is v
 
--- Some budget and tape do where the list ends with a value, and only there: its total, and a tape of as many words as the record has.
+-- Some budget and tape do where the list ends with a value, and only there: its total, and a tape of as many words as
+-- the record has.
 pub some-when : (f : Format) (a : ℕ) (t : Trace Value) (most : ℕ) → ((v : Value) (q : ℕ) → Ends t v q → total t < most)
     → ((b : ℕ) × (tape : List ℕ) × (w n c l : ℕ) × (b < most) × (closing f a b tape (settle b t) .answer ≡ Taken w n c l)) ↔ ((v : Value) × (q : ℕ) × Ends t v q)
 some-when f a t most fits = (to, from)
   where
-    to : (b : ℕ) × (tape : List ℕ) × (w n c l : ℕ) × (b < most) × (closing f a b tape (settle b t) .answer ≡ Taken w n c l) → (v : Value) × (q : ℕ) × Ends t v q
+    to : (b : ℕ) × (tape : List ℕ) × (w n c l : ℕ) × (b < most) × (closing f a b tape (settle b t) .answer ≡ Taken w n c l)
+        → (v : Value) × (q : ℕ) × Ends t v q
     to h = let k = of.only-when f a (h .0) (h .1) t (h .7) in (k .value, k .place, k .ends)
 
-    from : (v : Value) × (q : ℕ) × Ends t v q → (b : ℕ) × (tape : List ℕ) × (w n c l : ℕ) × (b < most) × (closing f a b tape (settle b t) .answer ≡ Taken w n c l)
+    from : (v : Value) × (q : ℕ) × Ends t v q
+        → (b : ℕ) × (tape : List ℕ) × (w n c l : ℕ) × (b < most) × (closing f a b tape (settle b t) .answer ≡ Taken w n c l)
     from h =
         let m = length (words f (h .0)) in
         let tape = replicate {A = ℕ} m 0 in
@@ -91,7 +98,8 @@ module _ {f : Format} {tr : Trace Value} {a b : ℕ} {t : List ℕ} {q : Answer}
   tape : closing f a b t (settle b tr) .tape ≡ t′
   tape = ap (λ o. o .tape) (call .is)
 
-  so : {q₁ : Answer} {t₁ : List ℕ} → closing f a b t (settle b tr) ≡ record { answer = q₁; tape = t₁ } → (q ≡ q₁) × (t′ ≡ t₁)
+  so : {q₁ : Answer} {t₁ : List ℕ} → closing f a b t (settle b tr) ≡ record { answer = q₁; tape = t₁ }
+      → (q ≡ q₁) × (t′ ≡ t₁)
   so e = (sym answer ∙ ap (λ o. o .answer) e, sym tape ∙ ap (λ o. o .tape) e)
 
   pub kept : Kept q t t′
@@ -107,7 +115,8 @@ module _ {f : Format} {tr : Trace Value} {a b : ℕ} {t : List ℕ} {q : Answer}
       → (q ≡ Taken (length (words f v)) (p - a) (total tr) (b - total tr)) × (t′ ≡ words f v ++ drop (length (words f v)) t)
   taken-at e h k = so (of.taken-when f a b t tr e h k)
 
-  pub stopped-at : {x : Wrong} {p : ℕ} → out tr ≡ stopped x p → total tr ≤ b → (q ≡ Refused x p (b - total tr)) × (t′ ≡ t)
+  pub stopped-at : {x : Wrong} {p : ℕ} → out tr ≡ stopped x p → total tr ≤ b
+      → (q ≡ Refused x p (b - total tr)) × (t′ ≡ t)
   stopped-at e h = so (of.stopped-at f a b t tr e h)
 
   pub broke-at : b < total tr → IsBroke tr b q × (t′ ≡ t)
@@ -121,11 +130,13 @@ module _ {f : Format} {tr : Trace Value} {a b : ℕ} {t : List ℕ} {q : Answer}
   pub only : {w n c l : ℕ} → q ≡ Taken w n c l → IsTaken f tr a b t w n c l
   only e = of.only-when f a b t tr (answer ∙ e)
 
-  pub short-only : {x : Wrong} {p l : ℕ} → ((y : Wrong) (i j : ℕ) → settle b tr ≡ refused y i j → Listed y) → q ≡ Refused x p l → x .number ≡ Refusals.noRoom
+  pub short-only : {x : Wrong} {p l : ℕ} → ((y : Wrong) (i j : ℕ) → settle b tr ≡ refused y i j → Listed y)
+      → q ≡ Refused x p l → x .number ≡ Refusals.noRoom
       → (v : Value) × Ends tr v p × (total tr ≤ b) × (length t < length (words f v))
   short-only {x} {p} {l} listed e n = go (settle b tr) refl (answer ∙ e)
     where
-      go : (r : Settled Value) → settle b tr ≡ r → closing f a b t r .answer ≡ Refused x p l → (v : Value) × Ends tr v p × (total tr ≤ b) × (length t < length (words f v))
+      go : (r : Settled Value) → settle b tr ≡ r → closing f a b t r .answer ≡ Refused x p l
+          → (v : Value) × Ends tr v p × (total tr ≤ b) × (length t < length (words f v))
       go (refused y i j) s e = let same : y ≡ x = cc in absurd (omega (arith, listed y i j s .most, ap (λ w. w .number) same))
       go (taken v i j) s e =
           room f a b t (λ o. o .answer ≡ Refused x p l → (v : Value) × Ends tr v p × (total tr ≤ b) × (length t < length (words f v))) v i j
@@ -143,7 +154,8 @@ module _ {f : Format} {tr : Trace Value} {a b : ℕ} {t : List ℕ} {q : Answer}
   -- what is read is a file's
   module _ {s : List ℕ} (reads : Reads f tr s a) {cost : Value → ℕ} (costs : Costs f cost) where
     -- taken exactly where the list ends with a value of the kind that the file may hold, and budget and tape reach
-    pub taken-where : (Lays : Value → Type 0) → ((v : Value) (p : ℕ) → Ends tr v p → Lays v) → ((v : Value) → Lays v → (p : ℕ) × Ends tr v p)
+    pub taken-where : (Lays : Value → Type 0) → ((v : Value) (p : ℕ) → Ends tr v p → Lays v)
+        → ((v : Value) → Lays v → (p : ℕ) × Ends tr v p)
         → AnswersTaken q ↔ ((v : Value) × Lays v × (cost v ≤ b) × (length (words f v) ≤ length t))
     taken-where Lays to from = (
       λ h. let k = only (h .4) in (k .value, to (k .value) (k .place) (k .ends), omega (arith, ends-cost reads costs (k .ends), k .reaches), omega (arith, k .counts, k .room)),
@@ -162,7 +174,8 @@ module _ {f : Format} {tr : Trace Value} {a b : ℕ} {t : List ℕ} {q : Answer}
       texts = rw (decoded .0) (call-texts reads (only e))
 
 -- read again by the same charge list, with tape enough
-pub again : {f : Format} {tr : Trace Value} {a b : ℕ} {t : List ℕ} {q : Answer} {t′ : List ℕ} → Call f tr a b t q t′ → {w n c l : ℕ} → q ≡ Taken w n c l
+pub again : {f : Format} {tr : Trace Value} {a b : ℕ} {t : List ℕ} {q : Answer} {t′ : List ℕ} → Call f tr a b t q t′
+    → {w n c l : ℕ} → q ≡ Taken w n c l
     → {b₂ : ℕ} {t₂ : List ℕ} {q₂ : Answer} {t₂′ : List ℕ} → Call f tr a b₂ t₂ q₂ t₂′ → w ≤ length t₂
     → (((q₂ ≡ Taken w n c (b₂ - c)) × (take w t₂′ ≡ take w t′)) ↔ (c ≤ b₂)) × (b₂ < c → IsBroke tr b₂ q₂ × (t₂′ ≡ t₂))
 again {f} {tr} {a} {b} {t} {q} {t′} call {w} {n} {c} {l} e {b₂} {t₂} {q₂} {t₂′} call₂ room = ((to, from), λ h. broke-at call₂ (omega (arith, k .charged)))

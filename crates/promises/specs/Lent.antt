@@ -1,5 +1,6 @@
--- The demands, of a section call that is lent its place and budget: what a caller knows of the answer q, of the tape t′ and of the position at′
--- that `read_section(pack, section, at, tape)` leaves. It is the section call from that place under that budget (`by-section`).
+-- The demands, of a section call that is lent its place and budget: what a caller knows of the answer q, of the tape t′
+-- and of the position at′ that `read_section(pack, section, at, tape)` leaves. It is the section call from that place
+-- under that budget (`by-section`).
 use Prim.Native.Nat.{ℕ, _+_, _-_, _^_, _≤_, _<_}
 use mathlib.Core.Path.{_≡_, ap, sym, _∙_}
 use mathlib.Core.List.{List, [], _++_}
@@ -44,7 +45,8 @@ moves : (a : vob.Answer) (at at′ : Position) → positionOf at′ ≡ vob.move
 moves (Taken w n c l) at at′ e = (ap (λ p. p .place) e, ap (λ p. p .budget) e)
 moves (Refused x p l) at at′ e = ap lentAs e
 
-lent : {m : ℕ} {x : Section} {s : List ℕ} {a b : ℕ} {t : List ℕ} {q : Answer} {t′ : List ℕ} → SectionCall settings m x s a b t q t′
+lent : {m : ℕ} {x : Section} {s : List ℕ} {a b : ℕ} {t : List ℕ} {q : Answer} {t′ : List ℕ}
+    → SectionCall settings m x s a b t q t′
     → LentCall m x s (record { place = a; budget = b }) t q (lentAs (vob.moved (record { place = a; budget = b }) (answerOf q))) t′
 unfolding vob.lentOutcome
 lent {a = a} {b = b} call = record { is = ap (vob.advancing (record { place = a; budget = b })) (call .is) }
@@ -71,7 +73,8 @@ module _ {m : ℕ} {x : Section} {s : List ℕ} {at : Position} {t : List ℕ} {
   pub one-answer : Answered (answerOf q)
   one-answer = alone.one-answer by-section
 
-  -- "A refusal changes no lent memory, an acceptance only the tape's counted words, a section call's lent place and budget."
+  -- "A refusal changes no lent memory, an acceptance only the tape's counted words, a section call's lent place and
+  -- budget."
   pub memory : Kept (answerOf q) t t′ × Moved (answerOf q) at at′
   memory = (alone.memory by-section, moved)
 
@@ -81,14 +84,15 @@ module _ {m : ℕ} {x : Section} {s : List ℕ} {at : Position} {t : List ℕ} {
 
   -- ---- demand 2
 
-  -- "Layout ..: given budget and tape enough, what they admit is taken, nothing else." `Bytes s` holds of any caller's slice of bytes.
+  -- "Layout ..: given budget and tape enough, what they admit is taken, nothing else." `Bytes s` holds of any caller's
+  -- slice of bytes.
   pub layout : Bytes s
       → AnswersTaken (answerOf q)
       ↔ ((v : Value) × LaysOut settings m x s (at .place) v × (sectionCost settings x v ≤ at .budget) × (length (words (section settings m x) v) ≤ length t))
   layout = alone.layout by-section
 
-  -- "It writes its own section's words from the tape's first word on": those of the value that stands at the place; the place at exit is
-  -- where that value's bytes end.
+  -- "It writes its own section's words from the tape's first word on": those of the value that stands at the place; the
+  -- place at exit is where that value's bytes end.
   pub record-holds : {w n c l : ℕ} → answerOf q ≡ Taken w n c l → Bytes s
       → (v : Value) × LaysOut settings m x s (at .place) v
       × (take w t′ ≡ words (section settings m x) v) × (decode (section settings m x) (take w t′) s ≡ (v, []))
@@ -99,13 +103,14 @@ module _ {m : ℕ} {x : Section} {s : List ℕ} {at : Position} {t : List ℕ} {
 
   -- ---- demand 3
 
-  -- "The sum charged plus the budget left is the starting budget, for packs taken and refused. The sum is that of the longest opening part of
-  -- the charge list that the starting budget covers": the budget lent is the starting one.
+  -- "The sum charged plus the budget left is the starting budget, for packs taken and refused. The sum is that of the
+  -- longest opening part of the charge list that the starting budget covers": the budget lent is the starting one.
   pub account : Account (amounts (list m x s at)) (at .budget) (leftOf (answerOf q))
   account = alone.account by-section
 
   -- "In a taken answer charged is the sum of the whole list": the budget at exit is what it leaves.
-  pub charged : {w n c l : ℕ} → answerOf q ≡ Taken w n c l → (c ≡ total (list m x s at)) × (c + at′ .budget ≡ at .budget)
+  pub charged : {w n c l : ℕ} → answerOf q ≡ Taken w n c l
+      → (c ≡ total (list m x s at)) × (c + at′ .budget ≡ at .budget)
   charged {c = c} e = let r = alone.charged by-section e in (r .0, ap (λ i. c + i) (advanced e .1) ∙ r .1)
 
   -- "The sum equals the cost that document 01 works out from the finished record and its texts alone."
@@ -138,12 +143,13 @@ module _ {m : ℕ} {x : Section} {s : List ℕ} {at : Position} {t : List ℕ} {
   answered-no e h = let r = alone.answered-no by-section e h in (r .0, r .1, unmoved (r .0))
 
   -- and 5 at the first charge that can't be paid.
-  pub broke-where : at .budget < total (list m x s at) → IsBroke (list m x s at) (at .budget) (answerOf q) × (t′ ≡ t) × (at′ ≡ at)
+  pub broke-where : at .budget < total (list m x s at)
+      → IsBroke (list m x s at) (at .budget) (answerOf q) × (t′ ≡ t) × (at′ ≡ at)
   broke-where h = let r = alone.broke-where by-section h in (r .0, r .1, unmoved (r .0 .is))
 
--- "Read again under any starting budget, with tape enough and nothing else changed, [it] is taken with the same record, bytes taken and sum
--- exactly when the budget reaches this cost; otherwise it is refused with AllocationBudgetExceeded at the first charge of the list that
--- can't be paid": from the same place.
+-- "Read again under any starting budget, with tape enough and nothing else changed, [it] is taken with the same record,
+-- bytes taken and sum exactly when the budget reaches this cost; otherwise it is refused with AllocationBudgetExceeded
+-- at the first charge of the list that can't be paid": from the same place.
 pub read-again : {m : ℕ} {x : Section} {s : List ℕ} {a b : ℕ} {t : List ℕ} {q : Answer} {at′ : Position} {t′ : List ℕ}
     → LentCall m x s (record { place = a; budget = b }) t q at′ t′
     → {w n c l : ℕ} → answerOf q ≡ Taken w n c l
@@ -156,8 +162,8 @@ read-again call e call₂ room =
     let r = alone.read-again (by-section call) e (by-section call₂) room in
     (r .0, λ h. let k = r .1 h in (k .0, k .1, unmoved call₂ (k .0 .is)))
 
--- "Exactly the files whose charge list ends with the pack, not at a question, are taken under some starting budget with tape enough": with the
--- section, from this place on, under one of 64 bits.
+-- "Exactly the files whose charge list ends with the pack, not at a question, are taken under some starting budget with
+-- tape enough": with the section, from this place on, under one of 64 bits.
 pub some-budget : (m : ℕ) (x : Section) (s : List ℕ) (a : ℕ) → Bytes s
     → ((b : ℕ) × (t : List ℕ) × (q : Answer) × (at′ : Position) × (t′ : List ℕ)
     × (b < 2 ^ 64) × LentCall m x s (record { place = a; budget = b }) t q at′ t′ × AnswersTaken (answerOf q))

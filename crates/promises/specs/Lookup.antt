@@ -1,5 +1,6 @@
--- The demands, of the lookup: what a caller knows of the answer q that `locate_artifact(pack, name)` gives, and of the part that
--- `find_artifact(pack, name)` returns. s is the pack; set the sizes and limits, which for both are `settings`.
+-- The demands, of the lookup: what a caller knows of the answer q that `locate_artifact(pack, name)` gives, and of the
+-- part that `find_artifact(pack, name)` returns. s is the pack; set the sizes and limits, which for both are
+-- `settings`.
 use Prim.Native.Nat.{ℕ, _+_, _-_, _≤_}
 use mathlib.Core.Path.{_≡_, refl, ap, _∙_}
 use mathlib.Core.List.{List, []}
@@ -65,7 +66,8 @@ module _ {set : Settings} {s name : List ℕ} {q : Found} (call : LocateCall set
   located-refused e = call .is ∙ spec.find-refused set s name e .0
 
   -- "the payload of the first artifact with exactly these name bytes"
-  pub located-first : {v : Value} {p l : ℕ} → reread set s ≡ taken v p l → {a : Value} → FirstNamed name a (artifactsOf v)
+  pub located-first : {v : Value} {p l : ℕ} → reread set s ≡ taken v p l → {a : Value}
+      → FirstNamed name a (artifactsOf v)
       → foundOf q ≡ At (start (payloadOf a)) (length (content (payloadOf a)))
   located-first e f = call .is ∙ spec.find-first set s name e f
 
@@ -78,14 +80,16 @@ module _ {set : Settings} {s name : List ℕ} {q : Found} (call : LocateCall set
       → (v : Value) × (reread set s ≡ taken v p l) × NoneNamed name (artifactsOf v)
   located-none-only {x} {p} {l} e n = go (reread set s) refl
     where
-      go : (r : Settled Value) → reread set s ≡ r → (v : Value) × (reread set s ≡ taken v p l) × NoneNamed name (artifactsOf v)
+      go : (r : Settled Value) → reread set s ≡ r
+          → (v : Value) × (reread set s ≡ taken v p l) × NoneNamed name (artifactsOf v)
       go (refused y i j) h =
           let k = located-refused h in
           let same : y ≡ x = cc in
           absurd (omega (arith, whole-listed set s startingBudget h .most, ap (λ w. w .number) same))
       go (taken v i j) h = by (spec.find-looked set s name h .0)
         where
-          by : spec.Looked name (artifactsOf v) i j → (v : Value) × (reread set s ≡ taken v p l) × NoneNamed name (artifactsOf v)
+          by : spec.Looked name (artifactsOf v) i j
+              → (v : Value) × (reread set s ≡ taken v p l) × NoneNamed name (artifactsOf v)
           by (spec.missing k c) =
               let z = located-none h k in
               let at : i ≡ p = cc in

@@ -1,5 +1,6 @@
--- The demands, of the call on a whole pack: what a caller knows of the answer q and of the tape t′ that `read(pack, budget, tape)` leaves.
--- s is the pack, b the starting budget, t the tape at entry; set the sizes and limits, which for `read` are `settings`.
+-- The demands, of the call on a whole pack: what a caller knows of the answer q and of the tape t′ that `read(pack,
+-- budget, tape)` leaves. s is the pack, b the starting budget, t the tape at entry; set the sizes and limits, which for
+-- `read` are `settings`.
 use Prim.Native.Nat.{ℕ, _+_, _-_, _^_, _≤_, _<_}
 use mathlib.Core.Path.{_≡_, refl, ap}
 use mathlib.Core.List.{List, [], _++_}
@@ -55,16 +56,18 @@ module _ {set : Settings} {s : List ℕ} {b : ℕ} {t : List ℕ} {q : Answer} {
 
   -- ---- demand 2
 
-  -- "Layout ..: given budget and tape enough, what they admit is taken, nothing else." Budget enough is the value's cost, tape enough the
-  -- words of its record. `Bytes s`, each element below 256, holds of any caller's slice of bytes.
-  pub layout : Bytes s → AnswersTaken (answerOf q) ↔ ((v : Value) × LaysOut set s v × (packCost set v ≤ b) × (length (words (pack set) v) ≤ length t))
+  -- "Layout ..: given budget and tape enough, what they admit is taken, nothing else." Budget enough is the value's
+  -- cost, tape enough the words of its record. `Bytes s`, each element below 256, holds of any caller's slice of bytes.
+  pub layout : Bytes s
+      → AnswersTaken (answerOf q) ↔ ((v : Value) × LaysOut set s v × (packCost set v ≤ b) × (length (words (pack set) v) ≤ length t))
   layout bs =
       common.taken-where (called call) (spec.whole-reads set s) (pack-costs set) (LaysOut set s)
       (λ v p h. let r = spec.whole-layout set s v p bs .0 h in (r .0, r .1, r .2))
       (λ v h. (length s, spec.whole-layout set s v (length s) bs .1 (h .0, h .1, h .2, refl)))
 
-  -- "Where a pack is taken, its record holds the file's fields as document 01 lays them on the tape": the counted words are the words of the
-  -- value that the file lays out, and give it back, with no word left over. The whole pack was taken.
+  -- "Where a pack is taken, its record holds the file's fields as document 01 lays them on the tape": the counted words
+  -- are the words of the value that the file lays out, and give it back, with no word left over. The whole pack was
+  -- taken.
   pub record-holds : {w n c l : ℕ} → answerOf q ≡ Taken w n c l → Bytes s
       → (v : Value) × LaysOut set s v × (take w t′ ≡ words (pack set) v) × (decode (pack set) (take w t′) s ≡ (v, []))
       × (length (take w t′) ≡ w) × (w ≤ n) × (n ≡ length s)
@@ -76,8 +79,8 @@ module _ {set : Settings} {s : List ℕ} {b : ℕ} {t : List ℕ} {q : Answer} {
 
   -- ---- demand 3
 
-  -- "The sum charged plus the budget left is the starting budget, for packs taken and refused. The sum is that of the longest opening part of
-  -- the file's charge list that the starting budget covers."
+  -- "The sum charged plus the budget left is the starting budget, for packs taken and refused. The sum is that of the
+  -- longest opening part of the file's charge list that the starting budget covers."
   pub account : Account (amounts (charges set s)) b (leftOf (answerOf q))
   account = common.account (called call)
 
@@ -85,17 +88,17 @@ module _ {set : Settings} {s : List ℕ} {b : ℕ} {t : List ℕ} {q : Answer} {
   pub charged : {w n c l : ℕ} → answerOf q ≡ Taken w n c l → (c ≡ total (charges set s)) × (c + l ≡ b)
   charged = common.charged (called call)
 
-  -- "The sum equals the cost that document 01 works out from the finished record and its texts alone": any other file s′ that has these texts
-  -- where the record says gives the same cost.
+  -- "The sum equals the cost that document 01 works out from the finished record and its texts alone": any other file
+  -- s′ that has these texts where the record says gives the same cost.
   pub charged-cost : {w n c l : ℕ} → answerOf q ≡ Taken w n c l
       → (c ≡ recordCost set (take w t′) s) × ((s′ : List ℕ) → Held (decode (pack set) (take w t′) s .0) s′ → c ≡ recordCost set (take w t′) s′)
   charged-cost e =
       let cost = common.charged-cost (called call) (spec.whole-reads set s) (pack-costs set) e in
       (cost s (common.texts (called call) (spec.whole-reads set s) (pack-costs set) e), cost)
 
-  -- "Read again under any starting budget, with tape enough and nothing else changed, that pack is taken with the same record, bytes taken and
-  -- sum exactly when the budget reaches this cost; otherwise it is refused with AllocationBudgetExceeded at the first charge of the list that
-  -- can't be paid."
+  -- "Read again under any starting budget, with tape enough and nothing else changed, that pack is taken with the same
+  -- record, bytes taken and sum exactly when the budget reaches this cost; otherwise it is refused with
+  -- AllocationBudgetExceeded at the first charge of the list that can't be paid."
   pub read-again : {w n c l : ℕ} → answerOf q ≡ Taken w n c l
       → {b₂ : ℕ} {t₂ : List ℕ} {q₂ : Answer} {t₂′ : List ℕ} → ReadCall set s b₂ t₂ q₂ t₂′ → w ≤ length t₂
       → (((answerOf q₂ ≡ Taken w n c (b₂ - c)) × (take w t₂′ ≡ take w t′)) ↔ (recordCost set (take w t′) s ≤ b₂))
@@ -103,13 +106,15 @@ module _ {set : Settings} {s : List ℕ} {b : ℕ} {t : List ℕ} {q : Answer} {
   read-again e call₂ room = rw (← (charged-cost e .0)) (common.again (called call) e (called call₂) room)
 
   -- The four answers, by the charge list. It ends with the pack, and budget and tape reach: taken.
-  pub taken-where : {v : Value} {p : ℕ} → Ends (charges set s) v p → total (charges set s) ≤ b → length (words (pack set) v) ≤ length t
+  pub taken-where : {v : Value} {p : ℕ} → Ends (charges set s) v p → total (charges set s) ≤ b
+      → length (words (pack set) v) ≤ length t
       → (answerOf q ≡ Taken (length (words (pack set) v)) (length s) (total (charges set s)) (b - total (charges set s)))
       × (t′ ≡ words (pack set) v ++ drop (length (words (pack set) v)) t)
   taken-where {p = p} e h k = let all : p - 0 ≡ length s = omega (arith, spec.whole-end set s e) in rw all at (common.taken-at (called call) e h k)
 
   -- The tape does not: "26 NoRoom (d1 needed, d2 length)", after all charges; and 26 only there.
-  pub no-room : {v : Value} {p : ℕ} → Ends (charges set s) v p → total (charges set s) ≤ b → length t < length (words (pack set) v)
+  pub no-room : {v : Value} {p : ℕ} → Ends (charges set s) v p → total (charges set s) ≤ b
+      → length t < length (words (pack set) v)
       → (answerOf q ≡ Refused (noRoomFor (length (words (pack set) v)) (length t)) (length s) (b - total (charges set s))) × (t′ ≡ t)
   no-room e h k = rw (spec.whole-end set s e) at (common.short-at (called call) e h k)
 
@@ -126,8 +131,8 @@ module _ {set : Settings} {s : List ℕ} {b : ℕ} {t : List ℕ} {q : Answer} {
   pub broke-where : b < total (charges set s) → IsBroke (charges set s) b (answerOf q) × (t′ ≡ t)
   broke-where = common.broke-at (called call)
 
--- "Exactly the files whose charge list ends with the pack, not at a question, are taken under some starting budget with tape enough": one of
--- 64 bits.
+-- "Exactly the files whose charge list ends with the pack, not at a question, are taken under some starting budget with
+-- tape enough": one of 64 bits.
 pub some-budget : (set : Settings) → Licensed set → (s : List ℕ) → Bytes s
     → ((b : ℕ) × (t : List ℕ) × (q : Answer) × (t′ : List ℕ) × (b < 2 ^ 64) × ReadCall set s b t q t′ × AnswersTaken (answerOf q))
     ↔ ((v : Value) × (p : ℕ) × Ends (charges set s) v p)

@@ -1,6 +1,7 @@
--- The demands, of a section call: what a caller knows of the answer q and of the tape t′ that `read_section(pack, section, place, budget, tape)`
--- leaves. s is the pack, x the section, m the number of functions that bounds the inline sources, a the place, b the budget, t the tape at entry;
--- set the sizes and limits, which for `read_section` are `settings`.
+-- The demands, of a section call: what a caller knows of the answer q and of the tape t′ that `read_section(pack,
+-- section, place, budget, tape)` leaves. s is the pack, x the section, m the number of functions that bounds the inline
+-- sources, a the place, b the budget, t the tape at entry; set the sizes and limits, which for `read_section` are
+-- `settings`.
 use Prim.Native.Nat.{ℕ, _+_, _-_, _^_, _≤_, _<_}
 use mathlib.Core.Path.{_≡_, refl, ap}
 use mathlib.Core.List.{List, [], _++_}
@@ -57,7 +58,8 @@ module _ {set : Settings} {m : ℕ} {x : Section} {s : List ℕ} {a b : ℕ} {t 
 
   -- ---- demand 2
 
-  -- "Layout ..: given budget and tape enough, what they admit is taken, nothing else." `Bytes s` holds of any caller's slice of bytes.
+  -- "Layout ..: given budget and tape enough, what they admit is taken, nothing else." `Bytes s` holds of any caller's
+  -- slice of bytes.
   pub layout : Bytes s
       → AnswersTaken (answerOf q) ↔ ((v : Value) × LaysOut set m x s a v × (sectionCost set x v ≤ b) × (length (words (section set m x) v) ≤ length t))
   layout bs =
@@ -65,8 +67,9 @@ module _ {set : Settings} {m : ℕ} {x : Section} {s : List ℕ} {a b : ℕ} {t 
       (λ v p h. let r = spec.section-layout set m x s a v p bs .0 h in (r .0, r .1, r .2, r .3))
       (λ v h. let e = a + length (bytes (section set m x) v) in (e, spec.section-layout set m x s a v e bs .1 (h .0, h .1, h .2, h .3, refl)))
 
-  -- "It writes its own section's words from the tape's first word on": the counted words are the words of the value that stands at the place,
-  -- and give it back, with no word left over. "A section counts its bytes from its given place."
+  -- "It writes its own section's words from the tape's first word on": the counted words are the words of the value
+  -- that stands at the place, and give it back, with no word left over. "A section counts its bytes from its given
+  -- place."
   pub record-holds : {w n c l : ℕ} → answerOf q ≡ Taken w n c l → Bytes s
       → (v : Value) × LaysOut set m x s a v × (take w t′ ≡ words (section set m x) v) × (decode (section set m x) (take w t′) s ≡ (v, []))
       × (length (take w t′) ≡ w) × (w ≤ n) × (n ≡ length (bytes (section set m x) v))
@@ -78,8 +81,8 @@ module _ {set : Settings} {m : ℕ} {x : Section} {s : List ℕ} {a b : ℕ} {t 
 
   -- ---- demand 3
 
-  -- "The sum charged plus the budget left is the starting budget, for packs taken and refused. The sum is that of the longest opening part of
-  -- the charge list that the starting budget covers." "Its given budget is the starting one."
+  -- "The sum charged plus the budget left is the starting budget, for packs taken and refused. The sum is that of the
+  -- longest opening part of the charge list that the starting budget covers." "Its given budget is the starting one."
   pub account : Account (amounts (charges set m x s a)) b (leftOf (answerOf q))
   account = common.account (called call)
 
@@ -95,9 +98,9 @@ module _ {set : Settings} {m : ℕ} {x : Section} {s : List ℕ} {a b : ℕ} {t 
       let cost = common.charged-cost (called call) (spec.section-reads set m x s a) (section-costs set m x) e in
       (cost s (common.texts (called call) (spec.section-reads set m x s a) (section-costs set m x) e), cost)
 
-  -- "Read again under any starting budget, with tape enough and nothing else changed, [it] is taken with the same record, bytes taken and sum
-  -- exactly when the budget reaches this cost; otherwise it is refused with AllocationBudgetExceeded at the first charge of the list that
-  -- can't be paid."
+  -- "Read again under any starting budget, with tape enough and nothing else changed, [it] is taken with the same
+  -- record, bytes taken and sum exactly when the budget reaches this cost; otherwise it is refused with
+  -- AllocationBudgetExceeded at the first charge of the list that can't be paid."
   pub read-again : {w n c l : ℕ} → answerOf q ≡ Taken w n c l
       → {b₂ : ℕ} {t₂ : List ℕ} {q₂ : Answer} {t₂′ : List ℕ} → SectionCall set m x s a b₂ t₂ q₂ t₂′ → w ≤ length t₂
       → (((answerOf q₂ ≡ Taken w n c (b₂ - c)) × (take w t₂′ ≡ take w t′)) ↔ (sectionRecordCost set m x (take w t′) s ≤ b₂))
@@ -105,13 +108,15 @@ module _ {set : Settings} {m : ℕ} {x : Section} {s : List ℕ} {a b : ℕ} {t 
   read-again e call₂ room = rw (← (charged-cost e .0)) (common.again (called call) e (called call₂) room)
 
   -- The four answers, by the charge list. It ends with the section, and budget and tape reach: taken.
-  pub taken-where : {v : Value} {p : ℕ} → Ends (charges set m x s a) v p → total (charges set m x s a) ≤ b → length (words (section set m x) v) ≤ length t
+  pub taken-where : {v : Value} {p : ℕ} → Ends (charges set m x s a) v p → total (charges set m x s a) ≤ b
+      → length (words (section set m x) v) ≤ length t
       → (answerOf q ≡ Taken (length (words (section set m x) v)) (p - a) (total (charges set m x s a)) (b - total (charges set m x s a)))
       × (t′ ≡ words (section set m x) v ++ drop (length (words (section set m x) v)) t)
   taken-where = common.taken-at (called call)
 
   -- The tape does not: "26 counts those" words; and 26 only there.
-  pub no-room : {v : Value} {p : ℕ} → Ends (charges set m x s a) v p → total (charges set m x s a) ≤ b → length t < length (words (section set m x) v)
+  pub no-room : {v : Value} {p : ℕ} → Ends (charges set m x s a) v p → total (charges set m x s a) ≤ b
+      → length t < length (words (section set m x) v)
       → (answerOf q ≡ Refused (noRoomFor (length (words (section set m x) v)) (length t)) p (b - total (charges set m x s a))) × (t′ ≡ t)
   no-room = common.short-at (called call)
 
@@ -128,8 +133,8 @@ module _ {set : Settings} {m : ℕ} {x : Section} {s : List ℕ} {a b : ℕ} {t 
   pub broke-where : b < total (charges set m x s a) → IsBroke (charges set m x s a) b (answerOf q) × (t′ ≡ t)
   broke-where = common.broke-at (called call)
 
--- "Exactly the files whose charge list ends with the pack, not at a question, are taken under some starting budget with tape enough": with the
--- section, from this place on, under one of 64 bits.
+-- "Exactly the files whose charge list ends with the pack, not at a question, are taken under some starting budget with
+-- tape enough": with the section, from this place on, under one of 64 bits.
 pub some-budget : (set : Settings) → Licensed set → (m : ℕ) (x : Section) (s : List ℕ) (a : ℕ) → Bytes s
     → ((b : ℕ) × (t : List ℕ) × (q : Answer) × (t′ : List ℕ) × (b < 2 ^ 64) × SectionCall set m x s a b t q t′ × AnswersTaken (answerOf q))
     ↔ ((v : Value) × (p : ℕ) × Ends (charges set m x s a) v p)

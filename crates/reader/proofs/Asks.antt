@@ -20,12 +20,14 @@ use Rattle.reader.proofs.Settles.{pay-yes, pay-no}
 use Rattle.reader.proofs.Paying.{paid-spent, paid-bought}
 
 -- two runs of questions
-asks-both : (l m : List Ask) (p b : ℕ) → settle b (traceAsk (l ++ m) p) ≡ thenS (settle b (traceAsk l p)) (λ v q k. settle k (traceAsk m p))
+asks-both : (l m : List Ask) (p b : ℕ)
+    → settle b (traceAsk (l ++ m) p) ≡ thenS (settle b (traceAsk l p)) (λ v q k. settle k (traceAsk m p))
 unfolding traceAsk settle thenS pick
 asks-both [] m p b = refl
 asks-both (pay c n ∷ l) m p b = go (leb n b) (asks-both l m p (b - n))
   where
-    go : (d : Bool) → settle (b - n) (traceAsk (l ++ m) p) ≡ thenS (settle (b - n) (traceAsk l p)) (λ v q k. settle k (traceAsk m p))
+    go : (d : Bool)
+        → settle (b - n) (traceAsk (l ++ m) p) ≡ thenS (settle (b - n) (traceAsk l p)) (λ v q k. settle k (traceAsk m p))
         → pick d (settle (b - n) (traceAsk (l ++ m) p)) (refused (spent c n b) p b) ≡ thenS (pick d (settle (b - n) (traceAsk l p)) (refused (spent c n b) p b)) (λ v q k. settle k (traceAsk m p))
     go true e = e
     go false e = refl
@@ -37,7 +39,8 @@ unfolding traceAsk settle pick
 asks-place [] p b e = cc
 asks-place (pay c n ∷ l) p b {v} {q} {k} e = go (leb n b) (asks-place l p (b - n)) e
   where
-    go : (d : Bool) → (settle (b - n) (traceAsk l p) ≡ taken v q k → q ≡ p) → pick d (settle (b - n) (traceAsk l p)) (refused (spent c n b) p b) ≡ taken v q k → q ≡ p
+    go : (d : Bool) → (settle (b - n) (traceAsk l p) ≡ taken v q k → q ≡ p)
+        → pick d (settle (b - n) (traceAsk l p)) (refused (spent c n b) p b) ≡ taken v q k → q ≡ p
     go true i e = i e
     go false i e = let z : _≡_ {A = ℕ} 0 1 = cc in absurd (omega arith)
 asks-place (deny w ∷ l) p b e = let z : _≡_ {A = ℕ} 0 1 = cc in absurd (omega arith)
@@ -50,7 +53,9 @@ module _ {l : List Ask} (m : List Ask) {c : Cursor} where
       let y : d .place ≡ c .place = asks-place l (c .place) (c .left) e in
       go k y (asks-both l m (c .place) (c .left) ∙ rw e)
     where
-      go : {q : Step} → Asks m d q → d .place ≡ c .place → settle (c .left) (traceAsk (l ++ m) (c .place)) ≡ settle (d .left) (traceAsk m (c .place)) → Asks (l ++ m) c q
+      go : {q : Step} → Asks m d q → d .place ≡ c .place
+          → settle (c .left) (traceAsk (l ++ m) (c .place)) ≡ settle (d .left) (traceAsk m (c .place))
+          → Asks (l ++ m) c q
       go (passes a b) y w = passes (w ∙ (rw y at a)) (b ∙ i)
       go (denies a) y w = denies (w ∙ (rw y at a))
 
@@ -76,19 +81,22 @@ module _ {k n : ℕ} {l : List Ask} {c : Cursor} {p : Step} (h : Paid k n c p) w
   unfolding traceAsk
   asks-paid {d} e a = let w = paid-bought e h in go (w .rich) (rw (w .is) at a)
     where
-      go : {q : Step} → n ≤ c .left → Asks l (record { place = c .place; left = c .left - n; at = c .at }) q → Asks (pay k n ∷ l) c q
+      go : {q : Step} → n ≤ c .left → Asks l (record { place = c .place; left = c .left - n; at = c .at }) q
+          → Asks (pay k n ∷ l) c q
       go r (passes e i) = passes (pay-yes (c .left) k n (c .place) _ r ∙ e) i
       go r (denies e) = denies (pay-yes (c .left) k n (c .place) _ r ∙ e)
 
 -- the questions as a part of a format
-pub asks-reads : {l : List Ask} {s : List ℕ} {c : Cursor} {t : List ℕ} {q : Step} → Asks l c q → Reads (leaf (ask l)) s (Taken c) t q t
+pub asks-reads : {l : List Ask} {s : List ℕ} {c : Cursor} {t : List ℕ} {q : Step} → Asks l c q
+    → Reads (leaf (ask l)) s (Taken c) t q t
 unfolding trace traceLeaf words wordsLeaf
 asks-reads {l} {s} {c} (passes {d} e i) = takes {v = none} {c = c} {c′ = d} (record { settles = e; moves = i ∙ omega arith; writes = refl })
 asks-reads {l} {s} {c} (denies {x} e) = refuses {c = c} {x = x} (record { settles = e })
 
 -- ---- a part, and the questions on its value
 
-pub behind : {f : Format} {s : List ℕ} {t t₁ : List ℕ} {r r₁ : Step} → Ready s r → Reader f s r t r₁ t₁ → Behind f s r r₁
+pub behind : {f : Format} {s : List ℕ} {t t₁ : List ℕ} {r r₁ : Step} → Ready s r → Reader f s r t r₁ t₁
+    → Behind f s r r₁
 behind {f} {s} {t} {t₁} {r} {r₁} h k = record { before = h; ready = k .ready; comes = λ c d e i. go (rw (e, i) at (k .reads)) }
   where
     go : {c d : Cursor} → Reads f s (Taken c) t (Taken d) t₁ → (v : Value) × Ends (trace f s (c .place)) v (d .place)
@@ -98,10 +106,13 @@ asks-ready : {l : List Ask} {s : List ℕ} {c : Cursor} {q : Step} → ReadyAt s
 asks-ready {l} {s} {c} r (passes {d} e i) = let y : d .place ≡ c .place = asks-place l (c .place) (c .left) e in record { small = r .small; within = omega (arith, r .within); behind = omega (arith, r .behind) }
 asks-ready r (denies e) = tt
 
-pub followThen : {f : Format} {l : Value → List Ask} {s : List ℕ} {t t₁ : List ℕ} {r r₁ q : Step} → Reader f s r t r₁ t₁ → Follows f l s r r₁ q → Reader (seq f (λ v. leaf (ask (l v)))) s r t q t₁
+pub followThen : {f : Format} {l : Value → List Ask} {s : List ℕ} {t t₁ : List ℕ} {r r₁ q : Step} → Reader f s r t r₁ t₁
+    → Follows f l s r r₁ q → Reader (seq f (λ v. leaf (ask (l v)))) s r t q t₁
 followThen {f} {l} {s} {t} {t₁} {r} {r₁} {q} h k = go r r₁ (h .reads) (h .ready) (k .stays) (k .asks)
   where
-    go : (r r₁ : Step) → Reads f s r t r₁ t₁ → Ready s r₁ → ((x : Refusal) → r₁ ≡ Refused x → q ≡ r₁) → ((c d : Cursor) (v : Value) → r ≡ Taken c → r₁ ≡ Taken d → Ends (trace f s (c .place)) v (d .place) → Asks (l v) d q) → Reader (seq f (λ v. leaf (ask (l v)))) s r t q t₁
+    go : (r r₁ : Step) → Reads f s r t r₁ t₁ → Ready s r₁ → ((x : Refusal) → r₁ ≡ Refused x → q ≡ r₁)
+        → ((c d : Cursor) (v : Value) → r ≡ Taken c → r₁ ≡ Taken d → Ends (trace f s (c .place)) v (d .place) → Asks (l v) d q)
+        → Reader (seq f (λ v. leaf (ask (l v)))) s r t q t₁
     go (Taken c) (Taken d) (takes {v = v} a) y i j = let b = j c d v refl refl (takes-ends a) in record { reads = thenReads a (asks-reads b); ready = asks-ready y b }
     go (Taken c) (Refused x) (refuses a) y i j = rw (i x refl) (record { reads = refuses (seq-refuses a); ready = tt })
     go (Refused x) (Refused z) skips y i j = rw (i z refl) (record { reads = skips; ready = tt })

@@ -34,7 +34,8 @@ abbrev gathered : ℕ → ℕ → ℕ → List ℕ → ℕ
 gathered w k v [] = v
 gathered w k v (b ∷ bs) = gathered w (8 + k) (bitOr v ((b * 2 ^ k) % 2 ^ w)) bs
 
-gathered-little : (w k v : ℕ) (bs : List ℕ) → v < 2 ^ k → Bytes bs → 8 * length bs + k ≤ w → gathered w k v bs ≡ little bs * 2 ^ k + v
+gathered-little : (w k v : ℕ) (bs : List ℕ) → v < 2 ^ k → Bytes bs → 8 * length bs + k ≤ w
+    → gathered w k v bs ≡ little bs * 2 ^ k + v
 unfolding little
 gathered-little w k v [] hv hb h = omega arith
 gathered-little w k v (b ∷ bs) hv hb h =
@@ -52,7 +53,8 @@ length-read zero l at = refl
 length-read (suc k) l at = ap suc (length-read k l (at + 1))
 
 -- an array of k + 1 bytes, put together by shifts and ors in w bits, is its little-endian number
-pub put : (w k : ℕ) (l : List ℕ) → length l ≡ suc k → 8 * k + 8 ≤ w → ((i : ℕ) → getD l i 0 < 256) → gathered w 8 (getD l 0 0) (read k l 1) ≡ little l
+pub put : (w k : ℕ) (l : List ℕ) → length l ≡ suc k → 8 * k + 8 ≤ w → ((i : ℕ) → getD l i 0 < 256)
+    → gathered w 8 (getD l 0 0) (read k l 1) ≡ little l
 unfolding little
 put w k l n h f =
     gathered-little w 8 (getD l 0 0) (read k l 1) (f 0) (bytes-read k l 1 f) (rw length-read h)

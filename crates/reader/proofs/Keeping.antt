@@ -56,7 +56,8 @@ module _ {f : Format} {s : List ℕ} {c : Cursor} {t t₁ : List ℕ} where
   refusesSpan : {x : Refusal} → Refuses f s c x → SpanOf f s c t (Payload.Not x) t₁
   refusesSpan h = record { reads = lostSpan h; ready = tt }
 
-  takesSpan : {p n : ℕ} {d : Cursor} → ReadyAt s c → p + n ≤ length s → Takes f s c t (text p (part s p n)) d t₁ → SpanOf f s c t (Payload.Got p n d) t₁
+  takesSpan : {p n : ℕ} {d : Cursor} → ReadyAt s c → p + n ≤ length s → Takes f s c t (text p (part s p n)) d t₁
+      → SpanOf f s c t (Payload.Got p n d) t₁
   takesSpan r i h = record { reads = gotSpan i h; ready = takes-ready r h }
 
 denied-refuses : {l : Leaf} {s : List ℕ} {c : Cursor} {x : Refusal} → Denied l s c x → Refuses (leaf l) s c x
@@ -79,7 +80,8 @@ one-word n (one-fixed narrow-word) = refl
 one-word n one-packed = refl
 one-word n one-count = refl
 
-answered-takes : {l : Leaf} {s : List ℕ} {c : Cursor} {t t₁ : List ℕ} {n : ℕ} {d g : Cursor} → OneWord l → Answered l s c n d → Kept d n t g t₁ → Takes (leaf l) s c t (num n) g t₁
+answered-takes : {l : Leaf} {s : List ℕ} {c : Cursor} {t t₁ : List ℕ} {n : ℕ} {d g : Cursor} → OneWord l
+    → Answered l s c n d → Kept d n t g t₁ → Takes (leaf l) s c t (num n) g t₁
 unfolding trace words
 answered-takes {n = n} o a k =
     rw (k .is)
@@ -109,17 +111,21 @@ module _ {l : Leaf} {s : List ℕ} {c : Cursor} {q : Number} where
     pub number-lost : {of : Value → ℕ} {x : Refusal} → q ≡ Not x → Answers l s c q → NumberOf (leaf l) of s c t q t₁
     number-lost e h = let a = denied-refuses (answers-not e h) in rw e (refusesNumber a)
 
-    pub number-kept : {n : ℕ} {d g : Cursor} → ReadyAt s c → q ≡ Got n d → Answers l s c q → OneWord l → Kept d n t g t₁ → NumberOf (leaf l) number s c t (Got n g) t₁
+    pub number-kept : {n : ℕ} {d g : Cursor} → ReadyAt s c → q ≡ Got n d → Answers l s c q → OneWord l → Kept d n t g t₁
+        → NumberOf (leaf l) number s c t (Got n g) t₁
     number-kept r e h o k = takesNumber r (answered-takes o (answers-got e h) k)
 
-    pub field-lost : {x : Refusal} {p : Step} → q ≡ Not x → p ≡ stepOf q → Answers l s c q → Reader (leaf l) s (Taken c) t p t₁
+    pub field-lost : {x : Refusal} {p : Step} → q ≡ Not x → p ≡ stepOf q → Answers l s c q
+        → Reader (leaf l) s (Taken c) t p t₁
     field-lost e i h = let a = denied-refuses (answers-not e h) in rw (i, e) (refusesReader a)
 
-    pub field-kept : {n : ℕ} {d g : Cursor} → ReadyAt s c → q ≡ Got n d → Answers l s c q → OneWord l → Kept d n t g t₁ → Reader (leaf l) s (Taken c) t (Taken g) t₁
+    pub field-kept : {n : ℕ} {d g : Cursor} → ReadyAt s c → q ≡ Got n d → Answers l s c q → OneWord l → Kept d n t g t₁
+        → Reader (leaf l) s (Taken c) t (Taken g) t₁
     field-kept r e h o k = takesReader r (answered-takes o (answers-got e h) k)
 
 -- numbers of a fixed width and no rule
-pub fetches-answers : {w : Width} {s : List ℕ} {c : Cursor} {q : Number} → Narrow w → Fetches (size w) s c q → Answers (fixed w free) s c q
+pub fetches-answers : {w : Width} {s : List ℕ} {c : Cursor} {q : Number} → Narrow w → Fetches (size w) s c q
+    → Answers (fixed w free) s c q
 fetches-answers {w} {s} {c} {q} m h = go q refl
   where
     go : (o : Number) → q ≡ o → Answers (fixed w free) s c q
@@ -150,7 +156,9 @@ module _ {s : List ℕ} {c d : Cursor} {q : Number} {n : ℕ} (r : ReadyAt s c) 
 
 -- ---- what stands on the tape as two words
 
-pair-takes : {l : Leaf} {s : List ℕ} {c d g : Cursor} {v : Value} {a b : ℕ} {t t₁ : List ℕ} → settle (c .left) (traceLeaf l s (c .place)) ≡ taken v (d .place) (d .left) → d .at ≡ c .at → wordsLeaf l v ≡ a ∷ b ∷ [] → KeptPair d a b t g t₁ → Takes (leaf l) s c t v g t₁
+pair-takes : {l : Leaf} {s : List ℕ} {c d g : Cursor} {v : Value} {a b : ℕ} {t t₁ : List ℕ}
+    → settle (c .left) (traceLeaf l s (c .place)) ≡ taken v (d .place) (d .left) → d .at ≡ c .at
+    → wordsLeaf l v ≡ a ∷ b ∷ [] → KeptPair d a b t g t₁ → Takes (leaf l) s c t v g t₁
 unfolding trace words
 pair-takes h i w k =
     rw (k .is)
@@ -161,11 +169,13 @@ pair-takes h i w k =
     })
 
 -- any number of a fixed width and no rule
-fixed-settles : (w : Width) {s : List ℕ} {c d : Cursor} {n : ℕ} → Fetched (size w) s c n d → settle (c .left) (traceLeaf (fixed w free) s (c .place)) ≡ taken (num n) (d .place) (d .left)
+fixed-settles : (w : Width) {s : List ℕ} {c d : Cursor} {n : ℕ} → Fetched (size w) s c n d
+    → settle (c .left) (traceLeaf (fixed w free) s (c .place)) ≡ taken (num n) (d .place) (d .left)
 unfolding traceLeaf settle
 fixed-settles w {s} {c} f = rw (f .next) (field-yes (c .left) (size w) s (c .place) _ (f .room) ∙ rw (← f .is) (guard-yes (c .left) _ _ _ refl))
 
-fixed-pair : (w : Width) {s : List ℕ} {c d g : Cursor} {n a b : ℕ} {t t₁ : List ℕ} → Fetched (size w) s c n d → shown w n ≡ a ∷ b ∷ [] → KeptPair d a b t g t₁ → Takes (leaf (fixed w free)) s c t (num n) g t₁
+fixed-pair : (w : Width) {s : List ℕ} {c d g : Cursor} {n a b : ℕ} {t t₁ : List ℕ} → Fetched (size w) s c n d
+    → shown w n ≡ a ∷ b ∷ [] → KeptPair d a b t g t₁ → Takes (leaf (fixed w free)) s c t (num n) g t₁
 unfolding wordsLeaf
 fixed-pair w f i k = pair-takes (fixed-settles w f) (ap (λ (x : Cursor). x .at) (f .next)) i k
 
@@ -178,29 +188,37 @@ unfolding pick
 option-some n i = rw (ne-eqb _ _ i)
 
 module _ {s : List ℕ} {c : Cursor} {q : Number} {t t₁ : List ℕ} where
-  pub long-lost : {of : Value → ℕ} {x : Refusal} → q ≡ Not x → Fetches 8 s c q → NumberOf (leaf (fixed long free)) of s c t q t₁
+  pub long-lost : {of : Value → ℕ} {x : Refusal} → q ≡ Not x → Fetches 8 s c q
+      → NumberOf (leaf (fixed long free)) of s c t q t₁
   long-lost e h = number-lost e (fixed-short e h)
 
-  pub option-lost : {of : Value → ℕ} {x : Refusal} → q ≡ Not x → Fetches 4 s c q → NumberOf (leaf (fixed option free)) of s c t q t₁
+  pub option-lost : {of : Value → ℕ} {x : Refusal} → q ≡ Not x → Fetches 4 s c q
+      → NumberOf (leaf (fixed option free)) of s c t q t₁
   option-lost e h = number-lost e (fixed-short e h)
 
-  pub option-field-lost : {x : Refusal} {p : Step} → q ≡ Not x → p ≡ stepOf q → Fetches 4 s c q → Reader (leaf (fixed option free)) s (Taken c) t p t₁
+  pub option-field-lost : {x : Refusal} {p : Step} → q ≡ Not x → p ≡ stepOf q → Fetches 4 s c q
+      → Reader (leaf (fixed option free)) s (Taken c) t p t₁
   option-field-lost e i h = field-lost e i (fixed-short e h)
 
   module _ {n : ℕ} {d g : Cursor} (r : ReadyAt s c) (e : q ≡ Got n d) where
-    pub long-kept : Fetches 8 s c q → KeptPair d (n % 4294967296) (n / 4294967296) t g t₁ → NumberOf (leaf (fixed long free)) number s c t (Got n g) t₁
+    pub long-kept : Fetches 8 s c q → KeptPair d (n % 4294967296) (n / 4294967296) t g t₁
+        → NumberOf (leaf (fixed long free)) number s c t (Got n g) t₁
     long-kept h k = takesNumber r (fixed-pair long (fetched e h) refl k)
 
-    pub option-absent : n ≡ 0 → Fetches 4 s c q → KeptPair d 0 0 t g t₁ → NumberOf (leaf (fixed option free)) number s c t (Got n g) t₁
+    pub option-absent : n ≡ 0 → Fetches 4 s c q → KeptPair d 0 0 t g t₁
+        → NumberOf (leaf (fixed option free)) number s c t (Got n g) t₁
     option-absent i h k = takesNumber r (fixed-pair option (fetched e h) (option-none n i) k)
 
-    pub option-id : (n ≡ 0 → ⊥) → Fetches 4 s c q → KeptPair d 1 (n - 1) t g t₁ → NumberOf (leaf (fixed option free)) number s c t (Got n g) t₁
+    pub option-id : (n ≡ 0 → ⊥) → Fetches 4 s c q → KeptPair d 1 (n - 1) t g t₁
+        → NumberOf (leaf (fixed option free)) number s c t (Got n g) t₁
     option-id i h k = takesNumber r (fixed-pair option (fetched e h) (option-some n i) k)
 
-    pub option-field-absent : n ≡ 0 → Fetches 4 s c q → KeptPair d 0 0 t g t₁ → Reader (leaf (fixed option free)) s (Taken c) t (Taken g) t₁
+    pub option-field-absent : n ≡ 0 → Fetches 4 s c q → KeptPair d 0 0 t g t₁
+        → Reader (leaf (fixed option free)) s (Taken c) t (Taken g) t₁
     option-field-absent i h k = takesReader r (fixed-pair option (fetched e h) (option-none n i) k)
 
-    pub option-field-id : (n ≡ 0 → ⊥) → Fetches 4 s c q → KeptPair d 1 (n - 1) t g t₁ → Reader (leaf (fixed option free)) s (Taken c) t (Taken g) t₁
+    pub option-field-id : (n ≡ 0 → ⊥) → Fetches 4 s c q → KeptPair d 1 (n - 1) t g t₁
+        → Reader (leaf (fixed option free)) s (Taken c) t (Taken g) t₁
     option-field-id i h k = takesReader r (fixed-pair option (fetched e h) (option-some n i) k)
 
 -- texts and payloads
@@ -214,7 +232,8 @@ two-words p bs two-string = refl
 two-words p bs two-payload = refl
 
 module _ {l : Leaf} {s : List ℕ} {c : Cursor} {p n : ℕ} {d : Cursor} where
-  span-takes : {t t₁ : List ℕ} {g : Cursor} → TwoWords l → Spanned l s c p n d → KeptPair d p n t g t₁ → Takes (leaf l) s c t (text p (part s p n)) g t₁
+  span-takes : {t t₁ : List ℕ} {g : Cursor} → TwoWords l → Spanned l s c p n d → KeptPair d p n t g t₁
+      → Takes (leaf l) s c t (text p (part s p n)) g t₁
   span-takes o h k = pair-takes (h .settles) (h .stays) (two-words p (part s p n) o ∙ rw (part-length s p n (h .room))) k
 
   span-wordy : ReadyAt s c → Spanned l s c p n d → WordyPair d p n
@@ -242,10 +261,12 @@ module _ {l : Leaf} {s : List ℕ} {c : Cursor} {q : Payload} where
   payload-wordy r e h = span-wordy r (spans-got e h)
 
   module _ {t t₁ : List ℕ} where
-    pub payload-lost : {x : Refusal} {r : Step} → q ≡ Payload.Not x → r ≡ payloadStep q → Spans l s c q → Reader (leaf l) s (Taken c) t r t₁
+    pub payload-lost : {x : Refusal} {r : Step} → q ≡ Payload.Not x → r ≡ payloadStep q → Spans l s c q
+        → Reader (leaf l) s (Taken c) t r t₁
     payload-lost e i h = let a = denied-refuses (spans-not e h) in rw (i, e) (refusesReader a)
 
-    pub payload-kept : {p n : ℕ} {d g : Cursor} → ReadyAt s c → q ≡ Payload.Got p n d → Spans l s c q → TwoWords l → KeptPair d p n t g t₁ → Reader (leaf l) s (Taken c) t (Taken g) t₁
+    pub payload-kept : {p n : ℕ} {d g : Cursor} → ReadyAt s c → q ≡ Payload.Got p n d → Spans l s c q → TwoWords l
+        → KeptPair d p n t g t₁ → Reader (leaf l) s (Taken c) t (Taken g) t₁
     payload-kept r e h o k = takesReader r (span-takes o (spans-got e h) k)
 
 module _ {l : Leaf} {s : List ℕ} {c : Cursor} {q : Text} where
@@ -265,20 +286,25 @@ module _ {l : Leaf} {s : List ℕ} {c : Cursor} {q : Text} where
   text-wordy r e h = span-wordy r (texts-got e h)
 
   module _ {t t₁ : List ℕ} where
-    pub text-span-lost : {x : Refusal} {r : Payload} → q ≡ Text.Not x → r ≡ textSpan q → Texts l s c q → SpanOf (leaf l) s c t r t₁
+    pub text-span-lost : {x : Refusal} {r : Payload} → q ≡ Text.Not x → r ≡ textSpan q → Texts l s c q
+        → SpanOf (leaf l) s c t r t₁
     text-span-lost e i h = let a = denied-refuses (texts-not e h) in rw (i, e) (refusesSpan a)
 
-    pub text-span-kept : {p n m : ℕ} {d g : Cursor} → ReadyAt s c → q ≡ Text.Got p n m d → Texts l s c q → TwoWords l → KeptPair d p n t g t₁ → SpanOf (leaf l) s c t (Payload.Got p n g) t₁
+    pub text-span-kept : {p n m : ℕ} {d g : Cursor} → ReadyAt s c → q ≡ Text.Got p n m d → Texts l s c q → TwoWords l
+        → KeptPair d p n t g t₁ → SpanOf (leaf l) s c t (Payload.Got p n g) t₁
     text-span-kept r e h o k = let a = texts-got e h in takesSpan r (a .room) (span-takes o a k)
 
-    pub text-lost : {x : Refusal} {r : Step} → q ≡ Text.Not x → r ≡ textStep q → Texts l s c q → Reader (leaf l) s (Taken c) t r t₁
+    pub text-lost : {x : Refusal} {r : Step} → q ≡ Text.Not x → r ≡ textStep q → Texts l s c q
+        → Reader (leaf l) s (Taken c) t r t₁
     text-lost e i h = let a = denied-refuses (texts-not e h) in rw (i, e) (refusesReader a)
 
-    pub text-kept : {p n m : ℕ} {d g : Cursor} → ReadyAt s c → q ≡ Text.Got p n m d → Texts l s c q → TwoWords l → KeptPair d p n t g t₁ → Reader (leaf l) s (Taken c) t (Taken g) t₁
+    pub text-kept : {p n m : ℕ} {d g : Cursor} → ReadyAt s c → q ≡ Text.Got p n m d → Texts l s c q → TwoWords l
+        → KeptPair d p n t g t₁ → Reader (leaf l) s (Taken c) t (Taken g) t₁
     text-kept r e h o k = takesReader r (span-takes o (texts-got e h) k)
 
 -- ---- marks, which stand on the tape as nothing
-pub mark-read : {m : List ℕ} {y : ℕ → Wrong} {s : List ℕ} {c : Cursor} {t : List ℕ} {r : Step} → ReadyAt s c → Marks (mark m y) s c r → Reader (leaf (mark m y)) s (Taken c) t r t
+pub mark-read : {m : List ℕ} {y : ℕ → Wrong} {s : List ℕ} {c : Cursor} {t : List ℕ} {r : Step} → ReadyAt s c
+    → Marks (mark m y) s c r → Reader (leaf (mark m y)) s (Taken c) t r t
 unfolding trace words wordsLeaf
 mark-read r (marked {d} e i) = takesReader {v = none} {d = d} r (record { settles = e; moves = i ∙ omega arith; writes = refl })
 mark-read r (unmarked h) = refusesReader (denied-refuses h)

@@ -59,7 +59,8 @@ text-refusal (Text.Not y) e = cc
 
 -- ---- fixed widths
 
-pub fetched : {k : ℕ} {s : List ℕ} {c : Cursor} {q : Number} {n : ℕ} {d : Cursor} → q ≡ Got n d → Fetches k s c q → Fetched k s c n d
+pub fetched : {k : ℕ} {s : List ℕ} {c : Cursor} {q : Number} {n : ℕ} {d : Cursor} → q ≡ Got n d → Fetches k s c q
+    → Fetched k s c n d
 fetched {k} {s} {c} {q} {n} {d} e h = go (rw e at h)
   where
     go : Fetches k s c (Got n d) → Fetched k s c n d
@@ -77,10 +78,12 @@ below {k} {s} {c} {n} {d} h =
     let b = digits-little (part s (c .place) k) (h .bytes) .1 in
     rw (h .is) (rw e at b)
 
-pub fetch-short : {k : ℕ} {s : List ℕ} {c : Cursor} {x : Refusal} → ReadyAt s c → length s - c .place < k → x ≡ refusal (wrong unexpectedEof 0) (c .place) (c .left) → Fetches k s c (Not x)
+pub fetch-short : {k : ℕ} {s : List ℕ} {c : Cursor} {x : Refusal} → ReadyAt s c → length s - c .place < k
+    → x ≡ refusal (wrong unexpectedEof 0) (c .place) (c .left) → Fetches k s c (Not x)
 fetch-short r h e = short (record { room = omega (arith, r .within); is = e })
 
-fetch-there : {k n : ℕ} {s : List ℕ} {c : Cursor} → ReadyAt s c → k ≤ length s - c .place → n ≡ little (read k s (c .place)) → ((i : ℕ) → getD s i 0 < 256) → Fetches k s c (Got n (past k c))
+fetch-there : {k n : ℕ} {s : List ℕ} {c : Cursor} → ReadyAt s c → k ≤ length s - c .place
+    → n ≡ little (read k s (c .place)) → ((i : ℕ) → getD s i 0 < 256) → Fetches k s c (Got n (past k c))
 fetch-there {k} {n} {s} {c} r h e b =
     let i : c .place + k ≤ length s = omega (arith, r .within) in
     let g = read-take k s (c .place) i in
@@ -88,14 +91,18 @@ fetch-there {k} {n} {s} {c} r h e b =
 
 -- the codes of the leaves, by their bytes
 module _ {n : ℕ} {s : List ℕ} {c : Cursor} (r : ReadyAt s c) where
-  pub fetch1 : 1 ≤ length s - c .place → n ≡ getD s (c .place) 0 → ((i : ℕ) → getD s i 0 < 256) → Fetches 1 s c (Got n (past 1 c))
+  pub fetch1 : 1 ≤ length s - c .place → n ≡ getD s (c .place) 0 → ((i : ℕ) → getD s i 0 < 256)
+      → Fetches 1 s c (Got n (past 1 c))
   unfolding little
   fetch1 h e b = fetch-there r h (omega arith) b
 
-  pub fetch2 : 2 ≤ length s - c .place → n ≡ little (getD s (c .place) 0 ∷ getD s (c .place + 1) 0 ∷ []) → ((i : ℕ) → getD s i 0 < 256) → Fetches 2 s c (Got n (past 2 c))
+  pub fetch2 : 2 ≤ length s - c .place → n ≡ little (getD s (c .place) 0 ∷ getD s (c .place + 1) 0 ∷ [])
+      → ((i : ℕ) → getD s i 0 < 256) → Fetches 2 s c (Got n (past 2 c))
   fetch2 h e b = fetch-there r h e b
 
-  pub fetch4 : 4 ≤ length s - c .place → n ≡ little (getD s (c .place) 0 ∷ getD s (c .place + 1) 0 ∷ getD s (c .place + 2) 0 ∷ getD s (c .place + 3) 0 ∷ []) → ((i : ℕ) → getD s i 0 < 256) → Fetches 4 s c (Got n (past 4 c))
+  pub fetch4 : 4 ≤ length s - c .place
+      → n ≡ little (getD s (c .place) 0 ∷ getD s (c .place + 1) 0 ∷ getD s (c .place + 2) 0 ∷ getD s (c .place + 3) 0 ∷ [])
+      → ((i : ℕ) → getD s i 0 < 256) → Fetches 4 s c (Got n (past 4 c))
   fetch4 h e b = fetch-there r h (e ∙ simp add-assoc) b
 
   pub fetch8 : 8 ≤ length s - c .place
@@ -105,20 +112,24 @@ module _ {n : ℕ} {s : List ℕ} {c : Cursor} (r : ReadyAt s c) where
 
 -- the same eight bytes, signed and as a float
 module _ {s : List ℕ} {c : Cursor} {q : Number} where
-  pub signed-got : {n : ℕ} {d : Cursor} {i : ℤ} → q ≡ Got n d → Fetches 8 s c q → i ≡ toZ w64 n → FetchesSigned s c (Signed.Got i n d)
+  pub signed-got : {n : ℕ} {d : Cursor} {i : ℤ} → q ≡ Got n d → Fetches 8 s c q → i ≡ toZ w64 n
+      → FetchesSigned s c (Signed.Got i n d)
   signed-got e h i = signed (fetched e h) i
 
-  pub signed-not : {r : Signed} {x : Refusal} → q ≡ Not x → signedStep r ≡ stepOf q → Fetches 8 s c q → FetchesSigned s c r
+  pub signed-not : {r : Signed} {x : Refusal} → q ≡ Not x → signedStep r ≡ stepOf q → Fetches 8 s c q
+      → FetchesSigned s c r
   signed-not {r} e i h = rw (signed-refusal r (i ∙ ap stepOf e)) (shortSigned (shorts e h))
 
-  pub float-got : {n : ℕ} {d : Cursor} {y : ieee.Float} → q ≡ Got n d → Fetches 8 s c q → y ≡ ofBits binary64 n → FetchesFloat s c (Float.Got y n d)
+  pub float-got : {n : ℕ} {d : Cursor} {y : ieee.Float} → q ≡ Got n d → Fetches 8 s c q → y ≡ ofBits binary64 n
+      → FetchesFloat s c (Float.Got y n d)
   float-got e h i = float (fetched e h) i
 
   pub float-not : {r : Float} {x : Refusal} → q ≡ Not x → floatStep r ≡ stepOf q → Fetches 8 s c q → FetchesFloat s c r
   float-not {r} e i h = rw (float-refusal r (i ∙ ap stepOf e)) (shortFloat (shorts e h))
 
 -- past a number of a fixed width
-pub past-ready : {k : ℕ} {s : List ℕ} {c d : Cursor} {q : Number} {n : ℕ} → ReadyAt s c → q ≡ Got n d → Fetches k s c q → ReadyAt s d
+pub past-ready : {k : ℕ} {s : List ℕ} {c d : Cursor} {q : Number} {n : ℕ} → ReadyAt s c → q ≡ Got n d → Fetches k s c q
+    → ReadyAt s d
 past-ready r e h = let f = fetched e h in rw (f .next) (record { small = r .small; within = f .room; behind = omega (arith, r .behind) })
 
 -- ---- numbers held to a rule
@@ -155,7 +166,8 @@ module _ {w : Width} {r : Rule} {s : List ℕ} {c : Cursor} {q : Number} where
           stays = refl;
         })
 
-    pub fixed-no : {x : Refusal} → r .test n ≡ false → x ≡ refusal (r .why n) (d .place) (d .left) → Answers (fixed w r) s c (Not x)
+    pub fixed-no : {x : Refusal} → r .test n ≡ false → x ≡ refusal (r .why n) (d .place) (d .left)
+        → Answers (fixed w r) s c (Not x)
     fixed-no i j = rw j (denied (fixed-denied i))
 
     pub fixed-got : Narrow w → r .test n ≡ true → Answers (fixed w r) s c (Got n d)
@@ -163,11 +175,13 @@ module _ {w : Width} {r : Rule} {s : List ℕ} {c : Cursor} {q : Number} where
 
 -- packed words
 module _ {s : List ℕ} {c d : Cursor} {q : Number} {n : ℕ} {x : Refusal} (y : ℕ) (e : q ≡ Got n d) (h : Fetches 4 s c q) where
-  pub word-kind : 24 < n % 256 → x ≡ refusal (wrong invalidValueKind (n % 256)) (d .place) (d .left) → Answers (fixed word (packedWord y)) s c (Not x)
+  pub word-kind : 24 < n % 256 → x ≡ refusal (wrong invalidValueKind (n % 256)) (d .place) (d .left)
+      → Answers (fixed word (packedWord y)) s c (Not x)
   unfolding pick
   word-kind b j = let i : kindOk n ≡ false = lt-leb _ _ b in fixed-no e h (rw i) (j ∙ rw i)
 
-  pub word-id : n % 256 ≤ 24 → 0xffffff ≤ n / 256 → x ≡ refusal (wrong y n) (d .place) (d .left) → Answers (fixed word (packedWord y)) s c (Not x)
+  pub word-id : n % 256 ≤ 24 → 0xffffff ≤ n / 256 → x ≡ refusal (wrong y n) (d .place) (d .left)
+      → Answers (fixed word (packedWord y)) s c (Not x)
   unfolding pick
   word-id b k j = let i : kindOk n ≡ true = le-leb _ _ b in fixed-no e h (rw (i, le-ltb _ _ k)) (j ∙ rw i)
 
@@ -200,35 +214,41 @@ product-fits n z h k =
     let b : z ≤ 4294967295 = omega arith in
     record { fits = lt-of-le-of-lt (mul-le-mul a b) (lit< tt) }
 
-entries-there : (b n m k z : ℕ) (s : List ℕ) (p : ℕ) → p ≤ length s → n * m ≤ length s - p → settle b (entriesTrace s p n m k z) ≡ settle b (charge k (n * z) p (end (num n) p))
+entries-there : (b n m k z : ℕ) (s : List ℕ) (p : ℕ) → p ≤ length s → n * m ≤ length s - p
+    → settle b (entriesTrace s p n m k z) ≡ settle b (charge k (n * z) p (end (num n) p))
 unfolding entriesTrace
 entries-there b n m k z s p r h = room-yes b _ s _ _ (omega arith)
 
 -- what follows the count
 module _ {s : List ℕ} {d : Cursor} {n m k z : ℕ} (r : ReadyAt s d) where
-  pub counted-few : {x : Refusal} → length s - d .place < n * m → x ≡ refusal (wrong unexpectedEof 0) (d .place) (d .left) → Counted s d n m k z (Not x)
+  pub counted-few : {x : Refusal} → length s - d .place < n * m
+      → x ≡ refusal (wrong unexpectedEof 0) (d .place) (d .left) → Counted s d n m k z (Not x)
   unfolding entriesTrace
   counted-few h e = rw e (few (room-no (d .left) _ s _ _ (omega (arith, r .within))))
 
-  counted-got : {p : Step} {g : Cursor} → n * m ≤ length s - d .place → Paid k (n * z) d p → p ≡ Taken g → Counted s d n m k z (Got n g)
+  counted-got : {p : Step} {g : Cursor} → n * m ≤ length s - d .place → Paid k (n * z) d p → p ≡ Taken g
+      → Counted s d n m k z (Got n g)
   unfolding settle
   counted-got h y i =
       let a = paid-bought i y in
       rw (a .is) (enough {e = record { place = d .place; left = d .left - n * z; at = d .at }} (entries-there (d .left) n m k z s (d .place) (r .within) h ∙ pay-yes (d .left) k (n * z) (d .place) (end (num n) (d .place)) (a .rich)) refl)
 
-  counted-poor : {p : Step} {x : Refusal} → n * m ≤ length s - d .place → Paid k (n * z) d p → p ≡ Refused x → Counted s d n m k z (Not x)
+  counted-poor : {p : Step} {x : Refusal} → n * m ≤ length s - d .place → Paid k (n * z) d p → p ≡ Refused x
+      → Counted s d n m k z (Not x)
   counted-poor h y i =
       let a = paid-spent i y in
       rw (a .is) (few (entries-there (d .left) n m k z s (d .place) (r .within) h ∙ pay-no (d .left) k (n * z) (d .place) (end (num n) (d .place)) (a .poor)))
 
-  pub counted-paid : {p : Step} {q : Number} → n * m ≤ length s - d .place → Paid k (n * z) d p → q ≡ numberOf n p → Counted s d n m k z q
+  pub counted-paid : {p : Step} {q : Number} → n * m ≤ length s - d .place → Paid k (n * z) d p → q ≡ numberOf n p
+      → Counted s d n m k z q
   counted-paid {p} {q} h y e = rw e (go p refl)
     where
       go : (o : Step) → p ≡ o → Counted s d n m k z (numberOf n o)
       go (Taken g) i = counted-got h y i
       go (Refused x) i = counted-poor h y i
 
-count-leads : (ρ : Rule) (m k z : ℕ) {s : List ℕ} {c d : Cursor} {n : ℕ} → Fetched 4 s c n d → ρ .test n ≡ true → settle (c .left) (traceLeaf (count ρ m k z) s (c .place)) ≡ settle (d .left) (entriesTrace s (d .place) n m k z)
+count-leads : (ρ : Rule) (m k z : ℕ) {s : List ℕ} {c d : Cursor} {n : ℕ} → Fetched 4 s c n d → ρ .test n ≡ true
+    → settle (c .left) (traceLeaf (count ρ m k z) s (c .place)) ≡ settle (d .left) (entriesTrace s (d .place) n m k z)
 unfolding traceLeaf entriesTrace
 count-leads ρ m k z {s} {c} f i = rw (f .next) (field-yes (c .left) 4 s (c .place) _ (f .room) ∙ rw (← f .is) (guard-yes (c .left) _ _ _ i))
 
@@ -242,28 +262,33 @@ module _ {s : List ℕ} {c : Cursor} {q : Number} {ρ : Rule} {m k z : ℕ} wher
     unfolding traceLeaf
     count-denied i = let f = fetched e h in rw (f .next) (record { settles = field-yes (c .left) 4 s (c .place) _ (f .room) ∙ rw (← f .is) (guard-no (c .left) _ _ _ i) })
 
-    pub count-no : {x : Refusal} → ρ .test n ≡ false → x ≡ refusal (ρ .why n) (d .place) (d .left) → Answers (count ρ m k z) s c (Not x)
+    pub count-no : {x : Refusal} → ρ .test n ≡ false → x ≡ refusal (ρ .why n) (d .place) (d .left)
+        → Answers (count ρ m k z) s c (Not x)
     count-no i j = rw j (denied (count-denied i))
 
     pub count-then : {p : Number} → ρ .test n ≡ true → Counted s d n m k z p → Answers (count ρ m k z) s c p
     count-then i (few x) = denied (record { settles = count-leads ρ m k z (fetched e h) i ∙ x })
     count-then i (enough x y) = let f = fetched e h in answered (record { settles = count-leads ρ m k z f i ∙ x; word = omega (arith, below f); stays = y ∙ rw (f .next) })
 
-    pub count-size : {p : Number} {z′ : ℕ} → ρ .test n ≡ true → z′ ≡ z → Counted s d n m k z′ p → Answers (count ρ m k z) s c p
+    pub count-size : {p : Number} {z′ : ℕ} → ρ .test n ≡ true → z′ ≡ z → Counted s d n m k z′ p
+        → Answers (count ρ m k z) s c p
     count-size i j a = count-then i (rw j at a)
 
-pub count-below : {s : List ℕ} {c d : Cursor} {q : Number} {n m z : ℕ} → ReadyAt s c → q ≡ Got n d → Fetches 4 s c q → m < 4294967296 → z < 4294967296 → CountAt s d n m z
+pub count-below : {s : List ℕ} {c d : Cursor} {q : Number} {n m z : ℕ} → ReadyAt s c → q ≡ Got n d → Fetches 4 s c q
+    → m < 4294967296 → z < 4294967296 → CountAt s d n m z
 count-below r e h i j = record { ready = past-ready r e h; word = omega (arith, below (fetched e h)); least = i; size = j }
 
 -- a size of the table
-pub count-at : {s : List ℕ} {c d : Cursor} {q : Number} {n m z : ℕ} → ReadyAt s c → q ≡ Got n d → Fetches 4 s c q → m < 4294967296 → z < 65536 → CountAt s d n m z
+pub count-at : {s : List ℕ} {c d : Cursor} {q : Number} {n m z : ℕ} → ReadyAt s c → q ≡ Got n d → Fetches 4 s c q
+    → m < 4294967296 → z < 65536 → CountAt s d n m z
 count-at r e h i j = count-below r e h i (omega arith)
 
 -- ---- payloads
 
 -- what follows the length
 module _ {s : List ℕ} {d : Cursor} {n k : ℕ} (r : ReadyAt s d) where
-  pub bytes-few : {x : Refusal} → length s - d .place < n → x ≡ refusal (wrong unexpectedEof 0) (d .place) (d .left) → Bought s d n k (Payload.Not x)
+  pub bytes-few : {x : Refusal} → length s - d .place < n → x ≡ refusal (wrong unexpectedEof 0) (d .place) (d .left)
+      → Bought s d n k (Payload.Not x)
   unfolding bytesTrace
   bytes-few h e = rw e (unbought (field-no (d .left) _ s _ _ (omega (arith, r .within))))
 
@@ -282,12 +307,14 @@ module _ {s : List ℕ} {d : Cursor} {n k : ℕ} (r : ReadyAt s d) where
     unfolding settle
     bytes-got i = let a = paid-bought i y in rw (a .is) (bought {e = record { place = d .place + n; left = d .left - n; at = d .at }} inside (bytes-there ∙ pay-yes (d .left) k n (d .place + n) (end (text (d .place) (part s (d .place) n)) (d .place + n)) (a .rich)) refl)
 
-payload-leads : (ρ : Rule) (k : ℕ) {s : List ℕ} {c d : Cursor} {n : ℕ} → Fetched 4 s c n d → ρ .test n ≡ true → settle (c .left) (traceLeaf (payload ρ k) s (c .place)) ≡ settle (d .left) (bytesTrace s (d .place) n k)
+payload-leads : (ρ : Rule) (k : ℕ) {s : List ℕ} {c d : Cursor} {n : ℕ} → Fetched 4 s c n d → ρ .test n ≡ true
+    → settle (c .left) (traceLeaf (payload ρ k) s (c .place)) ≡ settle (d .left) (bytesTrace s (d .place) n k)
 unfolding traceLeaf bytesTrace
 payload-leads ρ k {s} {c} f i = rw (f .next) (field-yes (c .left) 4 s (c .place) _ (f .room) ∙ rw (← f .is) (guard-yes (c .left) _ _ _ i))
 
 module _ {s : List ℕ} {c : Cursor} {q : Number} {ρ : Rule} {k : ℕ} where
-  pub payload-short : {p : Payload} {x : Refusal} → q ≡ Not x → payloadStep p ≡ stepOf q → Fetches 4 s c q → Spans (payload ρ k) s c p
+  pub payload-short : {p : Payload} {x : Refusal} → q ≡ Not x → payloadStep p ≡ stepOf q → Fetches 4 s c q
+      → Spans (payload ρ k) s c p
   unfolding traceLeaf
   payload-short {p} e i h = let j = shorts e h in rw (payload-refusal p (i ∙ ap stepOf e), j .is) (unspanned (record { settles = field-no (c .left) 4 s (c .place) _ (j .room) }))
 
@@ -296,7 +323,8 @@ module _ {s : List ℕ} {c : Cursor} {q : Number} {ρ : Rule} {k : ℕ} where
     unfolding traceLeaf
     payload-denied i = let f = fetched e h in rw (f .next) (record { settles = field-yes (c .left) 4 s (c .place) _ (f .room) ∙ rw (← f .is) (guard-no (c .left) _ _ _ i) })
 
-    pub payload-no : {x : Refusal} → ρ .test n ≡ false → x ≡ refusal (ρ .why n) (d .place) (d .left) → Spans (payload ρ k) s c (Payload.Not x)
+    pub payload-no : {x : Refusal} → ρ .test n ≡ false → x ≡ refusal (ρ .why n) (d .place) (d .left)
+        → Spans (payload ρ k) s c (Payload.Not x)
     payload-no i j = rw j (unspanned (payload-denied i))
 
     pub payload-then : {p : Payload} → ρ .test n ≡ true → Bought s d n k p → Spans (payload ρ k) s c p

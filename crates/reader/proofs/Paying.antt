@@ -34,7 +34,9 @@ pub paid-spent : {k n : ℕ} {c : Cursor} {r : Step} {x : Refusal} → r ≡ Ref
 unfolding pick
 paid-spent {k} {n} {c} {r} {x} e h = go (leb n (c .left)) refl (sym e ∙ h .is)
   where
-    go : (d : Bool) → leb n (c .left) ≡ d → Refused x ≡ pick d (Taken (record { place = c .place; left = c .left - n; at = c .at })) (Refused (refusal (spent k n (c .left)) (c .place) (c .left))) → Spent k n c x
+    go : (d : Bool) → leb n (c .left) ≡ d
+        → Refused x ≡ pick d (Taken (record { place = c .place; left = c .left - n; at = c .at })) (Refused (refusal (spent k n (c .left)) (c .place) (c .left)))
+        → Spent k n c x
     go true i j = let z : _≡_ {A = ℕ} 0 1 = cc in absurd (omega arith)
     go false i j = record { poor = leb-false _ _ i; is = cc }
 
@@ -42,6 +44,8 @@ pub paid-bought : {k n : ℕ} {c d : Cursor} {r : Step} → r ≡ Taken d → Pa
 unfolding pick
 paid-bought {k} {n} {c} {d} {r} e h = go (leb n (c .left)) refl (sym e ∙ h .is)
   where
-    go : (b : Bool) → leb n (c .left) ≡ b → Taken d ≡ pick b (Taken (record { place = c .place; left = c .left - n; at = c .at })) (Refused (refusal (spent k n (c .left)) (c .place) (c .left))) → Afforded n c d
+    go : (b : Bool) → leb n (c .left) ≡ b
+        → Taken d ≡ pick b (Taken (record { place = c .place; left = c .left - n; at = c .at })) (Refused (refusal (spent k n (c .left)) (c .place) (c .left)))
+        → Afforded n c d
     go true i j = record { rich = leb-true _ _ i; is = cc }
     go false i j = let z : _≡_ {A = ℕ} 0 1 = cc in absurd (omega arith)

@@ -21,15 +21,18 @@ module _ {A : Type 0} (b : ℕ) where
   unfolding room settle
   room-yes n s p t h = guard-yes _ _ (needs n p t) (le-leb _ _ h)
 
-  pub room-no : (n : ℕ) (s : List ℕ) (p : ℕ) (t : Trace A) → length s < n → settle b (room n s p t) ≡ refused (wrong unexpectedEof 0) p b
+  pub room-no : (n : ℕ) (s : List ℕ) (p : ℕ) (t : Trace A) → length s < n
+      → settle b (room n s p t) ≡ refused (wrong unexpectedEof 0) p b
   unfolding room
   room-no n s p t h = guard-no _ _ (needs n p t) (lt-leb _ _ h)
 
-  pub field-yes : (n : ℕ) (s : List ℕ) (p : ℕ) (k : List ℕ → Trace A) → p + n ≤ length s → settle b (field n s p k) ≡ settle b (k (part s p n))
+  pub field-yes : (n : ℕ) (s : List ℕ) (p : ℕ) (k : List ℕ → Trace A) → p + n ≤ length s
+      → settle b (field n s p k) ≡ settle b (k (part s p n))
   unfolding field
   field-yes n s p k h = room-yes (p + n) s p (k (part s p n)) h
 
-  pub field-no : (n : ℕ) (s : List ℕ) (p : ℕ) (k : List ℕ → Trace A) → length s < p + n → settle b (field n s p k) ≡ refused (wrong unexpectedEof 0) p b
+  pub field-no : (n : ℕ) (s : List ℕ) (p : ℕ) (k : List ℕ → Trace A) → length s < p + n
+      → settle b (field n s p k) ≡ refused (wrong unexpectedEof 0) p b
   unfolding field
   field-no n s p k h = room-no (p + n) s p (k (part s p n)) h
 

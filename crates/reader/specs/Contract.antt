@@ -104,16 +104,19 @@ pub record On (f : Format) (s : List ℕ) (v : Value) (q l : ℕ) (r : Step) : T
 
 -- The contract of a reader at a cursor that also hands out a number of the value that it read.
 pub data ReadsOf (f : Format) (of : Value → ℕ) (s : List ℕ) (c : Cursor) (t : List ℕ) : Number → List ℕ → Type 0 where
-  got : {v : Value} {n : ℕ} {c′ : Cursor} {t′ : List ℕ} → n ≡ of v → Takes f s c t v c′ t′ → ReadsOf f of s c t (Got n c′) t′
+  got : {v : Value} {n : ℕ} {c′ : Cursor} {t′ : List ℕ} → n ≡ of v → Takes f s c t v c′ t′
+      → ReadsOf f of s c t (Got n c′) t′
   lost : {x : Refusal} {t′ : List ℕ} → Refuses f s c x → ReadsOf f of s c t (Not x) t′
 
 pub record NumberOf (f : Format) (of : Value → ℕ) (s : List ℕ) (c : Cursor) (t : List ℕ) (q : Number) (t′ : List ℕ) : Type 0 where
   pub reads : ReadsOf f of s c t q t′
   pub ready : Ready s (stepOf q)
 
--- The contract of a reader at a cursor that also hands out the start and the length of the text or payload that it read.
+-- The contract of a reader at a cursor that also hands out the start and the length of the text or payload that it
+-- read.
 pub data ReadsSpan (f : Format) (s : List ℕ) (c : Cursor) (t : List ℕ) : Payload → List ℕ → Type 0 where
-  gotSpan : {p n : ℕ} {c′ : Cursor} {t′ : List ℕ} → p + n ≤ length s → Takes f s c t (text p (part s p n)) c′ t′ → ReadsSpan f s c t (Payload.Got p n c′) t′
+  gotSpan : {p n : ℕ} {c′ : Cursor} {t′ : List ℕ} → p + n ≤ length s → Takes f s c t (text p (part s p n)) c′ t′
+      → ReadsSpan f s c t (Payload.Got p n c′) t′
   lostSpan : {x : Refusal} {t′ : List ℕ} → Refuses f s c x → ReadsSpan f s c t (Payload.Not x) t′
 
 pub record SpanOf (f : Format) (s : List ℕ) (c : Cursor) (t : List ℕ) (q : Payload) (t′ : List ℕ) : Type 0 where
@@ -149,8 +152,10 @@ pub record Paid (k n : ℕ) (c : Cursor) (r : Step) : Type 0 where
 
 -- Questions with no bytes, at a cursor.
 pub data Asks (l : List Ask) (c : Cursor) : Step → Type 0 where
-  passes : {d : Cursor} → settle (c .left) (traceAsk l (c .place)) ≡ taken none (d .place) (d .left) → d .at ≡ c .at → Asks l c (Taken d)
-  denies : {x : Refusal} → settle (c .left) (traceAsk l (c .place)) ≡ refused (wrongOf x) (x .place) (x .left) → Asks l c (Refused x)
+  passes : {d : Cursor} → settle (c .left) (traceAsk l (c .place)) ≡ taken none (d .place) (d .left) → d .at ≡ c .at
+      → Asks l c (Taken d)
+  denies : {x : Refusal} → settle (c .left) (traceAsk l (c .place)) ≡ refused (wrongOf x) (x .place) (x .left)
+      → Asks l c (Refused x)
 
 -- What a part that went from r to r₁ has left behind in the bytes.
 pub record Behind (f : Format) (s : List ℕ) (r r₁ : Step) : Type 0 where
@@ -161,4 +166,5 @@ pub record Behind (f : Format) (s : List ℕ) (r r₁ : Step) : Type 0 where
 -- The answer after such a part, of questions on its value.
 pub record Follows (f : Format) (l : Value → List Ask) (s : List ℕ) (r r₁ q : Step) : Type 0 where
   pub stays : (x : Refusal) → r₁ ≡ Refused x → q ≡ r₁
-  pub asks : (c d : Cursor) (v : Value) → r ≡ Taken c → r₁ ≡ Taken d → Ends (trace f s (c .place)) v (d .place) → Asks (l v) d q
+  pub asks : (c d : Cursor) (v : Value) → r ≡ Taken c → r₁ ≡ Taken d → Ends (trace f s (c .place)) v (d .place)
+      → Asks (l v) d q

@@ -59,8 +59,10 @@ pub record CountAt (s : List ℕ) (d : Cursor) (n m z : ℕ) : Type 0 where
   pub size : z < 4294967296
 
 pub data Counted (s : List ℕ) (d : Cursor) (n m k z : ℕ) : Number → Type 0 where
-  enough : {e : Cursor} → settle (d .left) (entriesTrace s (d .place) n m k z) ≡ taken (num n) (e .place) (e .left) → e .at ≡ d .at → Counted s d n m k z (Got n e)
-  few : {x : Refusal} → settle (d .left) (entriesTrace s (d .place) n m k z) ≡ refused (wrongOf x) (x .place) (x .left) → Counted s d n m k z (Not x)
+  enough : {e : Cursor} → settle (d .left) (entriesTrace s (d .place) n m k z) ≡ taken (num n) (e .place) (e .left)
+      → e .at ≡ d .at → Counted s d n m k z (Got n e)
+  few : {x : Refusal} → settle (d .left) (entriesTrace s (d .place) n m k z) ≡ refused (wrongOf x) (x .place) (x .left)
+      → Counted s d n m k z (Not x)
 
 -- Eight bytes as a signed number or as a float, and their bits.
 pub data FetchesSigned (s : List ℕ) (c : Cursor) : Signed → Type 0 where
@@ -68,7 +70,8 @@ pub data FetchesSigned (s : List ℕ) (c : Cursor) : Signed → Type 0 where
   shortSigned : {x : Refusal} → Short 8 s c x → FetchesSigned s c (Signed.Not x)
 
 pub data FetchesFloat (s : List ℕ) (c : Cursor) : FloatAnswer → Type 0 where
-  float : {y : Float} {n : ℕ} {d : Cursor} → Fetched 8 s c n d → y ≡ ofBits binary64 n → FetchesFloat s c (FloatAnswer.Got y n d)
+  float : {y : Float} {n : ℕ} {d : Cursor} → Fetched 8 s c n d → y ≡ ofBits binary64 n
+      → FetchesFloat s c (FloatAnswer.Got y n d)
   shortFloat : {x : Refusal} → Short 8 s c x → FetchesFloat s c (FloatAnswer.Not x)
 
 -- The trace of the leaf l at c under c's budget gives the number n, which fits a word, and goes on at d.
@@ -99,21 +102,28 @@ pub data Spans (l : Leaf) (s : List ℕ) (c : Cursor) : Payload → Type 0 where
 
 -- What follows a length.
 pub data Bought (s : List ℕ) (d : Cursor) (n k : ℕ) : Payload → Type 0 where
-  bought : {e : Cursor} → d .place + n ≤ length s → settle (d .left) (bytesTrace s (d .place) n k) ≡ taken (text (d .place) (part s (d .place) n)) (e .place) (e .left) → e .at ≡ d .at → Bought s d n k (Payload.Got (d .place) n e)
-  unbought : {x : Refusal} → settle (d .left) (bytesTrace s (d .place) n k) ≡ refused (wrongOf x) (x .place) (x .left) → Bought s d n k (Payload.Not x)
+  bought : {e : Cursor} → d .place + n ≤ length s
+      → settle (d .left) (bytesTrace s (d .place) n k) ≡ taken (text (d .place) (part s (d .place) n)) (e .place) (e .left)
+      → e .at ≡ d .at → Bought s d n k (Payload.Got (d .place) n e)
+  unbought : {x : Refusal} → settle (d .left) (bytesTrace s (d .place) n k) ≡ refused (wrongOf x) (x .place) (x .left)
+      → Bought s d n k (Payload.Not x)
 
 -- A mark of the file: passed or refused.
 pub data Marks (l : Leaf) (s : List ℕ) (c : Cursor) : Step → Type 0 where
-  marked : {d : Cursor} → settle (c .left) (traceLeaf l s (c .place)) ≡ taken none (d .place) (d .left) → d .at ≡ c .at → Marks l s c (Taken d)
+  marked : {d : Cursor} → settle (c .left) (traceLeaf l s (c .place)) ≡ taken none (d .place) (d .left) → d .at ≡ c .at
+      → Marks l s c (Taken d)
   unmarked : {x : Refusal} → Denied l s c x → Marks l s c (Refused x)
 
 -- The contract of a leaf that answers a text: a payload whose bytes are well-formed, and how many characters they are.
 pub data Texts (l : Leaf) (s : List ℕ) (c : Cursor) : Text → Type 0 where
-  written : {p n k : ℕ} {d : Cursor} → Spanned l s c p n d → scan (part s p n) ≡ characters k → Texts l s c (Text.Got p n k d)
+  written : {p n k : ℕ} {d : Cursor} → Spanned l s c p n d → scan (part s p n) ≡ characters k
+      → Texts l s c (Text.Got p n k d)
   unwritten : {x : Refusal} → Denied l s c x → Texts l s c (Text.Not x)
 
 -- A payload's bytes as a text, or 6.
 pub data Checked (s : List ℕ) : Payload → Text → Type 0 where
-  formed : {p n k : ℕ} {d : Cursor} → scan (part s p n) ≡ characters k → Checked s (Payload.Got p n d) (Text.Got p n k d)
-  malformed : {p n : ℕ} {d : Cursor} {x : Refusal} → scan (part s p n) ≡ illFormed → x ≡ refusal (wrong invalidUtf8 0) (d .place) (d .left) → Checked s (Payload.Got p n d) (Text.Not x)
+  formed : {p n k : ℕ} {d : Cursor} → scan (part s p n) ≡ characters k
+      → Checked s (Payload.Got p n d) (Text.Got p n k d)
+  malformed : {p n : ℕ} {d : Cursor} {x : Refusal} → scan (part s p n) ≡ illFormed
+      → x ≡ refusal (wrong invalidUtf8 0) (d .place) (d .left) → Checked s (Payload.Got p n d) (Text.Not x)
   passed : {x : Refusal} → Checked s (Payload.Not x) (Text.Not x)

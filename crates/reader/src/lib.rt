@@ -1,6 +1,6 @@
 // The types that readers pass on, the contract that they share and its laws, numbers of fixed width, and charges.
-// Ports `struct ByteReader` of serialize.rs and its plainest methods: place and budget go in by value, as a Cursor, and come back in the answer.
-// No leaf writes to the tape; the field readers of crate fields do, by `keep`.
+// Ports `struct ByteReader` of serialize.rs and its plainest methods: place and budget go in by value, as a Cursor, and
+// come back in the answer. No leaf writes to the tape; the field readers of crate fields do, by `keep`.
 ghost use Prim.Native.Nat.{_+_};
 ghost use mathlib.Core.Path.{_≡_};
 ghost use lib.ListN.{set};

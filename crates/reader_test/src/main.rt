@@ -1,5 +1,5 @@
-// Runs document 01's marked cases through the leaves. A line says what was taken, for a text how many characters, or the
-// refusal's number; then the place.
+// Runs document 01's marked cases through the leaves. A line says what was taken, for a text how many characters, or
+// the refusal's number; then the place.
 ghost use mathlib.Core.Path.{_≡_};
 use libc::STDOUT_FILENO;
 use reader::Cursor;

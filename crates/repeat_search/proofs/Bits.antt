@@ -15,7 +15,8 @@ bits-stay w = bin-ind (λ (n : ℕ). (v m : ℕ) → bitAnd n m ≡ m → bitAnd
     base : (v m : ℕ) → 0 ≡ m → bitAnd v m ≡ m
     base v m e = rw (← e) (and-zero-r v)
 
-    step : (n : ℕ) → ((v m : ℕ) → bitAnd (n / 2) m ≡ m → bitAnd (bitOr (n / 2) v) m ≡ m) → (v m : ℕ) → bitAnd n m ≡ m → bitAnd (bitOr n v) m ≡ m
+    step : (n : ℕ) → ((v m : ℕ) → bitAnd (n / 2) m ≡ m → bitAnd (bitOr (n / 2) v) m ≡ m) → (v m : ℕ) → bitAnd n m ≡ m
+        → bitAnd (bitOr n v) m ≡ m
     step n ih v m e =
         let d = and-step n m in
         let o = or-step n v in

@@ -31,7 +31,8 @@ use Rattle.repeat_search.proofs.Tables.{walking-stands, standing-key, s
 pub spot-fits : (f : List ℕ) (h : ℕ) → 0 < length f → spot f h < length f
 spot-fits f h z = omega (arith, and-le-r h (length f - 1))
 
-word-stays : (f : List ℕ) (i j v m : ℕ) → i < length f → bitAnd (getD f j 0) m ≡ m → bitAnd (getD (set f i (bitOr (getD f i 0) v)) j 0) m ≡ m
+word-stays : (f : List ℕ) (i j v m : ℕ) → i < length f → bitAnd (getD f j 0) m ≡ m
+    → bitAnd (getD (set f i (bitOr (getD f i 0) v)) j 0) m ≡ m
 word-stays f i j v m small e = go (eqb j i) refl
   where
     go : (t : Bool) → eqb j i ≡ t → bitAnd (getD (set f i (bitOr (getD f i 0) v)) j 0) m ≡ m
@@ -45,7 +46,8 @@ module _ {f : List ℕ} {h m : ℕ} (e : m ≡ maskOf h) where
   pub lacks-is : Lacks f h (not (eqb (bitAnd (getD f (spot f h) 0) m) m))
   lacks-is = record { lacks = lacks-bits }
 
-  pub enters : 0 < length f → Entered f h (set f (spot f h) (bitOr (getD f (spot f h) 0) m)) (not (eqb (bitAnd (getD f (spot f h) 0) m) m))
+  pub enters : 0 < length f
+      → Entered f h (set f (spot f h) (bitOr (getD f (spot f h) 0) m)) (not (eqb (bitAnd (getD f (spot f h) 0) m) m))
   enters z =
       let w = bitOr (getD f (spot f h) 0) m in
       let small = spot-fits f h z in
@@ -96,7 +98,8 @@ pub ruleset noting = (note-outside, note-new, note-suspect)
 
 -- ---- the hashes of keys in a filter
 
-pub filter-none : {Kind : ℕ → Type 0} {seed : ℕ} {keys : ℕ → Key} {f : List ℕ} → 0 < length f → Filter Kind seed keys 0 f
+pub filter-none : {Kind : ℕ → Type 0} {seed : ℕ} {keys : ℕ → Key} {f : List ℕ} → 0 < length f
+    → Filter Kind seed keys 0 f
 filter-none z = record { size = z; has = λ k d. absurd (omega arith) }
 
 module _ {Kind : ℕ → Type 0} {seed : ℕ} {keys : ℕ → Key} {i : ℕ} {f : List ℕ} (l : Filter Kind seed keys i f) where
@@ -109,11 +112,14 @@ module _ {Kind : ℕ → Type 0} {seed : ℕ} {keys : ℕ → Key} {i : ℕ} {f 
   pub filter-repeat : Kind (keyHash seed (keys i)) → repeatAt keys i ≡ true → Has f (keyHash seed (keys i))
   filter-repeat c r = go (eqb (bitAnd (getD f (spot f (keyHash seed (keys i))) 0) (maskOf (keyHash seed (keys i)))) (maskOf (keyHash seed (keys i)))) refl
     where
-      go : (b : Bool) → eqb (bitAnd (getD f (spot f (keyHash seed (keys i))) 0) (maskOf (keyHash seed (keys i)))) (maskOf (keyHash seed (keys i))) ≡ b → Has f (keyHash seed (keys i))
+      go : (b : Bool)
+          → eqb (bitAnd (getD f (spot f (keyHash seed (keys i))) 0) (maskOf (keyHash seed (keys i)))) (maskOf (keyHash seed (keys i))) ≡ b
+          → Has f (keyHash seed (keys i))
       go true e = record { bits = eqb-true _ _ e }
       go false e = let x = filter-new c (λ w. eqb-false _ _ e (w .bits)) in let z : _≡_ {A = ℕ} 0 1 = cc in absurd (omega arith)
 
-  pub filter-more : {g : List ℕ} → length g ≡ length f → ((k : ℕ) → Has f k → Has g k) → (Kind (keyHash seed (keys i)) → Has g (keyHash seed (keys i))) → Filter Kind seed keys (i + 1) g
+  pub filter-more : {g : List ℕ} → length g ≡ length f → ((k : ℕ) → Has f k → Has g k)
+      → (Kind (keyHash seed (keys i)) → Has g (keyHash seed (keys i))) → Filter Kind seed keys (i + 1) g
   filter-more {g} z keeps here = record { size = omega (arith, l .size); has = below-more (λ k. Kind (keyHash seed (keys k)) → Has g (keyHash seed (keys k))) i (λ k d c. keeps _ (l .has k d c)) here }
 
 -- the answers of `probed`, for an item of hash h
@@ -125,10 +131,12 @@ module _ {seed : ℕ} {t : Table} {s : List ℕ} {from i p h : ℕ} (w : Standin
     not-chosen : {left : ℕ} → (Chosen lo hi u h → ⊥) → Probed (Chosen lo hi u) seed (keysAt t s from) i f (Next left)
     not-chosen {left} n = let z = hash-is in let o : Chosen lo hi u (keyHash seed (keysAt t s from i)) → ⊥ = λ c. n (rw z at c) in isNext {left = left} (filter-more l refl (λ k i. i) (λ c. absurd (o c))) (λ c. absurd (o c))
 
-    pub probed-outside : {left : ℕ} {q : Bool} → Outside lo hi h q → q ≡ true → Probed (Chosen lo hi u) seed (keysAt t s from) i f (Next left)
+    pub probed-outside : {left : ℕ} {q : Bool} → Outside lo hi h q → q ≡ true
+        → Probed (Chosen lo hi u) seed (keysAt t s from) i f (Next left)
     probed-outside o r = not-chosen (λ c. o .out r (c .classed))
 
-    pub probed-lacks : {left : ℕ} {q : Bool} → Lacks u h q → q ≡ true → Probed (Chosen lo hi u) seed (keysAt t s from) i f (Next left)
+    pub probed-lacks : {left : ℕ} {q : Bool} → Lacks u h q → q ≡ true
+        → Probed (Chosen lo hi u) seed (keysAt t s from) i f (Next left)
     probed-lacks o r = not-chosen (λ c. o .lacks r (c .suspect))
 
     module _ {g : List ℕ} {n : Bool} (x : Entered f h g n) where
@@ -142,13 +150,17 @@ module _ {seed : ℕ} {t : Table} {s : List ℕ} {from i p h : ℕ} (w : Standin
         pub probed-exempt : {left : ℕ} → b ≡ true → Probed (Chosen lo hi u) seed (keysAt t s from) i g (Next left)
         probed-exempt {left} r = isNext {left = left} entered (λ c. standing-exempt w y r)
 
-        pub probed-unseen : {left : ℕ} {q : Bool} → b ≡ false → Seen t s from i p q → q ≡ false → Probed (Chosen lo hi u) seed (keysAt t s from) i g (Next left)
+        pub probed-unseen : {left : ℕ} {q : Bool} → b ≡ false → Seen t s from i p q → q ≡ false
+            → Probed (Chosen lo hi u) seed (keysAt t s from) i g (Next left)
         probed-unseen {left} d v r = isNext {left = left} entered (λ c. standing-seen w y d v ∙ r)
 
-pub probed-seen : {Kind : ℕ → Type 0} {seed : ℕ} {t : Table} {s : List ℕ} {from i p : ℕ} {f : List ℕ} {b q : Bool} → Standing t s from i p → ExemptIs t s p b → b ≡ false → Seen t s from i p q → q ≡ true → Probed Kind seed (keysAt t s from) i f Repeat
+pub probed-seen : {Kind : ℕ → Type 0} {seed : ℕ} {t : Table} {s : List ℕ} {from i p : ℕ} {f : List ℕ} {b q : Bool}
+    → Standing t s from i p → ExemptIs t s p b → b ≡ false → Seen t s from i p q → q ≡ true
+    → Probed Kind seed (keysAt t s from) i f Repeat
 probed-seen w y d v r = isRepeat (standing-seen w y d v ∙ r)
 
-pub probed-many : {Kind : ℕ → Type 0} {seed : ℕ} {keys : ℕ → Key} {i : ℕ} {f : List ℕ} → Probed Kind seed keys i f TooMany
+pub probed-many : {Kind : ℕ → Type 0} {seed : ℕ} {keys : ℕ → Key} {i : ℕ} {f : List ℕ}
+    → Probed Kind seed keys i f TooMany
 probed-many = isTooMany
 
 pub ruleset probing = (probed-outside, probed-lacks, probed-new, probed-exempt, probed-unseen, probed-seen, probed-many)
@@ -174,7 +186,8 @@ module _ {Kind : ℕ → Type 0} {seed : ℕ} {t : Table} {s : List ℕ} {from n
           go : Probed Kind seed (keysAt t s from) i g Repeat → PassedOr Kind seed (keysAt t s from) n (First i)
           go (isRepeat x) = passed {q = i} (record { within = omega arith; new = l .new; found = λ d. x })
 
-      pub passing-more : {left z : ℕ} → r ≡ Next left → Past (formatIn t) s p z → Passing Kind seed t s from n g z (i + 1)
+      pub passing-more : {left z : ℕ} → r ≡ Next left → Past (formatIn t) s p z
+          → Passing Kind seed t s from n g z (i + 1)
       passing-more {left} {z} e w = go (rw e at k)
         where
           go : Probed Kind seed (keysAt t s from) i g (Next left) → Passing Kind seed t s from n g z (i + 1)
@@ -193,14 +206,16 @@ pub record Suspecting (lo hi seed : ℕ) (t : Table) (s : List ℕ) (from n : �
   pub width : 0 < length u
 
 module _ {lo hi seed : ℕ} {t : Table} {s : List ℕ} {from n : ℕ} where
-  pub suspecting-start : {f u : List ℕ} → Items (formatIn t) n s from → 0 < length f → 0 < length u → Suspecting lo hi seed t s from n f u from 0
+  pub suspecting-start : {f u : List ℕ} → Items (formatIn t) n s from → 0 < length f → 0 < length u
+      → Suspecting lo hi seed t s from n f u from 0
   suspecting-start h z y = record { walk = walking-start h; filter = filter-none z; suspects = record { has = λ k d. absurd (omega arith) }; width = y }
 
   module _ {f u : List ℕ} {p i : ℕ} (l : Suspecting lo hi seed t s from n f u p i) where
     pub suspecting-done : n ≤ i → Suspects lo hi seed (keysAt t s from) n u
     suspecting-done h = record { has = λ k d. l .suspects .has k (omega arith) }
 
-    pub suspecting-more : {h z : ℕ} {f′ u′ : List ℕ} → i < n → KeyHash seed t s p h → Noted lo hi h f f′ u u′ → Past (formatIn t) s p z → Suspecting lo hi seed t s from n f′ u′ z (i + 1)
+    pub suspecting-more : {h z : ℕ} {f′ u′ : List ℕ} → i < n → KeyHash seed t s p h → Noted lo hi h f f′ u u′
+        → Past (formatIn t) s p z → Suspecting lo hi seed t s from n f′ u′ z (i + 1)
     suspecting-more {h} {z} {f′} {u′} d e m w =
         let x : keyHash seed (keysAt t s from i) ≡ h = hash-is (walking-stands d (l .walk)) e in
         record {
@@ -212,15 +227,18 @@ module _ {lo hi seed : ℕ} {t : Table} {s : List ℕ} {from n : ℕ} where
 
 pub ruleset suspecting = (suspecting-start, suspecting-done)
 
-suspects-passed : {lo hi seed : ℕ} {keys : ℕ → Key} {n q : ℕ} {u : List ℕ} → Suspects lo hi seed keys n u → Passed (Chosen lo hi u) seed keys n q → Passed (Classed lo hi) seed keys n q
+suspects-passed : {lo hi seed : ℕ} {keys : ℕ → Key} {n q : ℕ} {u : List ℕ} → Suspects lo hi seed keys n u
+    → Passed (Chosen lo hi u) seed keys n q → Passed (Classed lo hi) seed keys n q
 suspects-passed {lo} {hi} {seed} {keys} {q = q} l p = record { within = p .within; new = λ k d c. go k d c (repeatAt keys k) refl; found = p .found }
   where
-    go : (k : ℕ) → k < q → Classed lo hi (keyHash seed (keys k)) → (b : Bool) → repeatAt keys k ≡ b → repeatAt keys k ≡ false
+    go : (k : ℕ) → k < q → Classed lo hi (keyHash seed (keys k)) → (b : Bool) → repeatAt keys k ≡ b
+        → repeatAt keys k ≡ false
     go k d c true e = p .new k d (record { classed = c; suspect = l .has k (omega (arith, p .within)) c e })
     go k d c false e = e
 
 -- what a pass over the suspects finds is the first repeat of their classes
-pub suspects-first : {lo hi seed : ℕ} {keys : ℕ → Key} {n : ℕ} {u : List ℕ} {o : Outcome} → Suspects lo hi seed keys n u → PassedOr (Chosen lo hi u) seed keys n o → PassedOr (Classed lo hi) seed keys n o
+pub suspects-first : {lo hi seed : ℕ} {keys : ℕ → Key} {n : ℕ} {u : List ℕ} {o : Outcome} → Suspects lo hi seed keys n u
+    → PassedOr (Chosen lo hi u) seed keys n o → PassedOr (Classed lo hi) seed keys n o
 suspects-first l (passed p) = passed (suspects-passed l p)
 suspects-first l gaveUp = gaveUp
 
@@ -229,7 +247,8 @@ module _ {seed : ℕ} {keys : ℕ → Key} {n : ℕ} where
   pub firsts-start : Passed (Classed 0 0) seed keys n n
   firsts-start = record { within = omega arith; new = λ k d c. absurd (omega (arith, c .high)); found = λ d. absurd (omega arith) }
 
-  firsts-passed : {lo hi m q : ℕ} → Passed (Classed lo hi) seed keys m q → Passed (Classed 0 lo) seed keys n m → Passed (Classed 0 hi) seed keys n q
+  firsts-passed : {lo hi m q : ℕ} → Passed (Classed lo hi) seed keys m q → Passed (Classed 0 lo) seed keys n m
+      → Passed (Classed 0 hi) seed keys n q
   firsts-passed {lo} {hi} {m} {q} p l =
       record {
         within = omega (arith, p .within, l .within);
@@ -237,7 +256,8 @@ module _ {seed : ℕ} {keys : ℕ → Key} {n : ℕ} where
         found = λ d. ends d (ltb q m) refl;
       }
     where
-      below : (k : ℕ) → k < q → Classed 0 hi (keyHash seed (keys k)) → (b : Bool) → ltb (class (keyHash seed (keys k))) lo ≡ b → repeatAt keys k ≡ false
+      below : (k : ℕ) → k < q → Classed 0 hi (keyHash seed (keys k)) → (b : Bool)
+          → ltb (class (keyHash seed (keys k))) lo ≡ b → repeatAt keys k ≡ false
       below k d c true e = l .new k (omega (arith, p .within)) (record { low = omega arith; high = ltb-true _ _ e })
       below k d c false e = p .new k d (record { low = ltb-false _ _ e; high = c .high })
 
@@ -245,7 +265,8 @@ module _ {seed : ℕ} {keys : ℕ → Key} {n : ℕ} where
       ends d true e = p .found (ltb-true _ _ e)
       ends d false e = let z : q ≡ m = omega (arith, p .within, ltb-false q m e) in rw z (l .found (omega arith))
 
-  pub firsts-more : {lo hi m q : ℕ} {o : Outcome} → PassedOr (Classed lo hi) seed keys m o → o ≡ First q → Passed (Classed 0 lo) seed keys n m → Passed (Classed 0 hi) seed keys n q
+  pub firsts-more : {lo hi m q : ℕ} {o : Outcome} → PassedOr (Classed lo hi) seed keys m o → o ≡ First q
+      → Passed (Classed 0 lo) seed keys n m → Passed (Classed 0 hi) seed keys n q
   firsts-more {lo} {hi} {m} {q} p e l = go (rw e at p)
     where
       go : PassedOr (Classed lo hi) seed keys m (First q) → Passed (Classed 0 hi) seed keys n q
@@ -259,7 +280,8 @@ module _ {seed : ℕ} {keys : ℕ → Key} {n : ℕ} where
   firsts-done l z = all-first (λ h. record { low = omega arith; high = omega arith }) l
 
   -- one pass over all classes, each key being a suspect
-  pub pass-first : {o : Outcome} → PassedOr (Chosen 0 65536 (replicate 1 18446744073709551615)) seed keys n o → FirstOr keys n o
+  pub pass-first : {o : Outcome} → PassedOr (Chosen 0 65536 (replicate 1 18446744073709551615)) seed keys n o
+      → FirstOr keys n o
   pass-first (passed p) = all-first (λ h. record { classed = record { low = omega arith; high = omega arith }; suspect = has-all h }) p
   pass-first gaveUp = none
 

@@ -72,7 +72,8 @@ module _ {seed : ℕ} {s : List ℕ} {start n : ℕ} (f : PartAt seed s start n)
     unfolding shortHash pick
     short-none e = record { is = sym (short-bytes h (omega arith) ∙ rw (part-length s start n (f .room), eq-eqb n 0 e)) }
 
-    pub short-three : {v₁ v₂ v₃ q : ℕ} → (n ≡ 0 → ⊥) → n < 4 → v₁ ≡ getD s start 0 → v₂ ≡ getD s (start + n / 2) 0 → v₃ ≡ getD s (start + n - 1) 0
+    pub short-three : {v₁ v₂ v₃ q : ℕ} → (n ≡ 0 → ⊥) → n < 4 → v₁ ≡ getD s start 0 → v₂ ≡ getD s (start + n / 2) 0
+        → v₃ ≡ getD s (start + n - 1) 0
         → q ≡ folded seed h (v₁ + 256 * v₂) v₃ → HashIs seed h (part s start n) q
     unfolding shortHash pick
     short-three d l x y z i =
@@ -84,7 +85,8 @@ module _ {seed : ℕ} {s : List ℕ} {start n : ℕ} (f : PartAt seed s start n)
               ∙ sym (short-bytes h (omega arith) ∙ rw (part-length s start n (f .room), ne-eqb n 0 d, lt-ltb n 4 l, byte-in s start n 0 (omega arith), byte-in s start n (n / 2) (omega arith), byte-in s start n (n - 1) (omega arith), m, o, x, y, z));
         }
 
-    pub short-words : {v w q : ℕ} → 4 ≤ n → n < 8 → WordIs s start v → WordIs s (start + n - 4) w → q ≡ folded seed h v w → HashIs seed h (part s start n) q
+    pub short-words : {v w q : ℕ} → 4 ≤ n → n < 8 → WordIs s start v → WordIs s (start + n - 4) w
+        → q ≡ folded seed h v w → HashIs seed h (part s start n) q
     unfolding shortHash pick
     short-words d l x y i =
         record {
@@ -93,22 +95,27 @@ module _ {seed : ℕ} {s : List ℕ} {start n : ℕ} (f : PartAt seed s start n)
         }
 
 -- ---- two lanes
-lanes-bytes : (seed h : ℕ) (s : List ℕ) (start n : ℕ) → start + n ≤ length s → 8 ≤ n → bytesHash seed h (part s start n) ≡ lanesHash seed h h (part s start n) 0 ((n - 1) / 16)
+lanes-bytes : (seed h : ℕ) (s : List ℕ) (start n : ℕ) → start + n ≤ length s → 8 ≤ n
+    → bytesHash seed h (part s start n) ≡ lanesHash seed h h (part s start n) 0 ((n - 1) / 16)
 unfolding bytesHash pick
 lanes-bytes seed h s start n f d = rw (part-length s start n f, le-ltb n 8 d)
 
 -- the last block, whose first half stands at p
-lanes-last : {seed g e : ℕ} {s : List ℕ} (start n j : ℕ) {p q : ℕ} → start + n ≤ length s → 8 ≤ n → p ≡ start + (n - 16) → JoinIs seed g e s p (start + n) q → lanesHash seed g e (part s start n) j 0 ≡ q
+lanes-last : {seed g e : ℕ} {s : List ℕ} (start n j : ℕ) {p q : ℕ} → start + n ≤ length s → 8 ≤ n → p ≡ start + (n - 16)
+    → JoinIs seed g e s p (start + n) q → lanesHash seed g e (part s start n) j 0 ≡ q
 unfolding lanesHash
 lanes-last {s = s} start n j {p} f d e i =
     rw (part-length s start n f, word-in s start n (n - 16) p (omega arith) (omega arith), word-in s start n (n - 16 + 4) (p + 4) (omega arith) (omega arith), word-in s start n (n - 8) (start + n - 8) (omega arith) (omega arith), word-in s start n (n - 4) (start + n - 4) (omega arith) (omega arith))
     (sym (i .is))
 
-pub joined : {seed b g e : ℕ} {s : List ℕ} {p end v₁ w₁ v₂ w₂ x y : ℕ} → WordIs s p v₁ → WordIs s (p + 4) w₁ → WordIs s (end - 8) v₂ → WordIs s (end - 4) w₂ → b ≡ secondSeed seed → x ≡ folded seed g v₁ w₁ → y ≡ folded b e v₂ w₂
+pub joined : {seed b g e : ℕ} {s : List ℕ} {p end v₁ w₁ v₂ w₂ x y : ℕ} → WordIs s p v₁ → WordIs s (p + 4) w₁
+    → WordIs s (end - 8) v₂ → WordIs s (end - 4) w₂ → b ≡ secondSeed seed → x ≡ folded seed g v₁ w₁
+    → y ≡ folded b e v₂ w₂
     → JoinIs seed g e s p end (bitXor x y)
 joined i₁ j₁ i₂ j₂ k x y = record { is = rw (x, y, k, i₁ .is, j₁ .is, i₂ .is, j₂ .is) }
 
-pub lanes-joined : {seed h : ℕ} {s : List ℕ} {start n q : ℕ} → PartAt seed s start n → 8 ≤ n → n ≤ 16 → JoinIs seed h h s start (start + n) q → HashIs seed h (part s start n) q
+pub lanes-joined : {seed h : ℕ} {s : List ℕ} {start n q : ℕ} → PartAt seed s start n → 8 ≤ n → n ≤ 16
+    → JoinIs seed h h s start (start + n) q → HashIs seed h (part s start n) q
 lanes-joined {seed} {h} {s} {start} {n} f d l i = let z : (n - 1) / 16 ≡ 0 = omega arith in record { is = sym (lanes-bytes seed h s start n (f .room) d ∙ rw z (lanes-last start n 0 (f .room) d (omega arith) i)) }
 
 -- the loop of `hash_long`: of n bytes at start, k from p on are left
@@ -121,7 +128,8 @@ pub record Blocks (seed b h : ℕ) (s : List ℕ) (start n g e p k : ℕ) : Type
   pub fit : p + k ≡ start + n
   pub leads : bytesHash seed h (part s start n) ≡ lanesHash seed g e (part s start n) (p - start) ((k - 1) / 16)
 
-block : (seed g e : ℕ) (x : List ℕ) (j m : ℕ) → lanesHash seed g e x j (suc m) ≡ lanesHash seed (folded seed g (wordIn x j) (wordIn x (j + 4))) (folded (secondSeed seed) e (wordIn x (j + 8)) (wordIn x (j + 12))) x (j + 16) m
+block : (seed g e : ℕ) (x : List ℕ) (j m : ℕ)
+    → lanesHash seed g e x j (suc m) ≡ lanesHash seed (folded seed g (wordIn x j) (wordIn x (j + 4))) (folded (secondSeed seed) e (wordIn x (j + 8)) (wordIn x (j + 12))) x (j + 16) m
 unfolding lanesHash
 block seed g e x j m = refl
 
@@ -136,7 +144,8 @@ module _ {seed b h : ℕ} {s : List ℕ} {start n : ℕ} where
     pub blocks-room : p + k ≤ length s
     blocks-room = omega (arith, l .fit, l .room)
 
-    pub blocks-more : {v₁ w₁ v₂ w₂ g′ e′ : ℕ} → 16 < k → WordIs s p v₁ → WordIs s (p + 4) w₁ → WordIs s (p + 8) v₂ → WordIs s (p + 12) w₂
+    pub blocks-more : {v₁ w₁ v₂ w₂ g′ e′ : ℕ} → 16 < k → WordIs s p v₁ → WordIs s (p + 4) w₁ → WordIs s (p + 8) v₂
+        → WordIs s (p + 12) w₂
         → g′ ≡ folded seed g v₁ w₁ → e′ ≡ folded b e v₂ w₂ → Blocks seed b h s start n g′ e′ (p + 16) (k - 16)
     blocks-more d i₁ j₁ i₂ j₂ x y =
         let i : (k - 1) / 16 ≡ suc ((k - 16 - 1) / 16) = omega arith in
@@ -165,7 +174,8 @@ module _ {seed b h : ℕ} {s : List ℕ} {start n : ℕ} where
 
 -- ---- the hash of a text, and of a key
 
-pub text-hash : {seed h g q : ℕ} {s : List ℕ} {p n : ℕ} → TextAt s p → WordIs s p n → g ≡ mixed seed h n → HashIs seed g (part s (p + 4) n) q → TextHash seed h s p q
+pub text-hash : {seed h g q : ℕ} {s : List ℕ} {p n : ℕ} → TextAt s p → WordIs s p n → g ≡ mixed seed h n
+    → HashIs seed g (part s (p + 4) n) q → TextHash seed h s p q
 unfolding textHash
 text-hash {seed} {h} {s = s} {p} {n} t e i l = record { is = l .is ∙ sym (rw (text-part t e, part-length s (p + 4) n (text-room t e), ← i)) }
 
@@ -184,7 +194,8 @@ module _ {t : Table} {seed : ℕ} {s : List ℕ} {p : ℕ} where
   pub hash-identity : {x q : ℕ} → t ≡ Identities → PackageIs s p x → TextHash seed 0 s x q → PackageHash seed t s p q
   hash-identity e w i = rw e (record { is = i .is ∙ rw (w .is) })
 
-  pub hash-key : {h g x q : ℕ} → Placed (formatIn t) s p → PackageHash seed t s p h → TextHash seed h s p g → x ≡ mixed seed g 0 → q ≡ mixed seed x 0 → KeyHash seed t s p q
+  pub hash-key : {h g x q : ℕ} → Placed (formatIn t) s p → PackageHash seed t s p h → TextHash seed h s p g
+      → x ≡ mixed seed g 0 → q ≡ mixed seed x 0 → KeyHash seed t s p q
   unfolding keyHash
   hash-key w i j k l = record { is = l ∙ rw (k, j .is, i .is, key-name t (w .stands), key-package t (w .stands)) }
 

@@ -23,11 +23,13 @@ use Rattle.repeat_search.proofs.Hashes.{byte-in}
 
 -- ---- a text's mark
 
-word-bytes : (s : List ℕ) (p : ℕ) → p + 4 ≤ length s → part s p 4 ≡ getD s p 0 ∷ getD s (p + 1) 0 ∷ getD s (p + 1 + 1) 0 ∷ getD s (p + 1 + 1 + 1) 0 ∷ []
+word-bytes : (s : List ℕ) (p : ℕ) → p + 4 ≤ length s
+    → part s p 4 ≡ getD s p 0 ∷ getD s (p + 1) 0 ∷ getD s (p + 1 + 1) 0 ∷ getD s (p + 1 + 1 + 1) 0 ∷ []
 word-bytes s p f = rw (piece s p 4 (omega arith) f, piece s (p + 1) 3 (omega arith) (omega arith), piece s (p + 1 + 1) 2 (omega arith) (omega arith), piece s (p + 1 + 1 + 1) 1 (omega arith) (omega arith))
 
 -- the last byte of a text; the length's, which is 0, where the text is empty
-last-byte : (n : ℕ) {s : List ℕ} {p : ℕ} → TextAt s p → WordIs s p n → getD s (p + 3 + n) 0 ≡ getD (part s (p + 4) n) (n - 1) 0
+last-byte : (n : ℕ) {s : List ℕ} {p : ℕ} → TextAt s p → WordIs s p n
+    → getD s (p + 3 + n) 0 ≡ getD (part s (p + 4) n) (n - 1) 0
 unfolding little
 last-byte zero {s} {p} h e =
     let x : little (part s p 4) ≡ getD s p 0 + 256 * (getD s (p + 1) 0 + 256 * (getD s (p + 1 + 1) 0 + 256 * getD s (p + 1 + 1 + 1) 0)) = ap little (word-bytes s p (omega (arith, h .room))) ∙ omega arith in
@@ -37,7 +39,8 @@ last-byte (suc n) {s} {p} h e =
     let i : p + 3 + suc n ≡ p + 4 + (suc n - 1) = omega arith in
     rw i (sym (byte-in s (p + 4) (suc n) (suc n - 1) (omega arith)))
 
-pub mark-is : {s : List ℕ} {p n b q : ℕ} → TextAt s p → WordIs s p n → b ≡ getD s (p + 3 + n) 0 → q ≡ 1 * 2 ^ ((n + b) % 64) % 2 ^ 64 → MarkIs s p q
+pub mark-is : {s : List ℕ} {p n b q : ℕ} → TextAt s p → WordIs s p n → b ≡ getD s (p + 3 + n) 0
+    → q ≡ 1 * 2 ^ ((n + b) % 64) % 2 ^ 64 → MarkIs s p q
 unfolding markOf
 mark-is {s} {p} {n} h e i j = record { is = j ∙ rw (i, text-length h e, text-part h e, last-byte n h e) }
 
@@ -77,12 +80,14 @@ module _ {t : Table} {s : List ℕ} {from n : ℕ} where
         pub scanning-found : b ≡ true → FirstRepeat (keysAt t s from) n i
         scanning-found r = record { within = omega arith; new = l .new; found = λ d. sym e ∙ r }
 
-        pub scanning-more : {q z : ℕ} → b ≡ false → MarkIs s p q → Past (formatIn t) s p z → Scanning t s from n z (i + 1) (bitOr m q)
+        pub scanning-more : {q z : ℕ} → b ≡ false → MarkIs s p q → Past (formatIn t) s p z
+            → Scanning t s from n z (i + 1) (bitOr m q)
         scanning-more r g w =
             record { walk = walking-next h (l .walk) w; marked = marked-more (walking-stands h (l .walk)) (l .marked) g; new = below-more _ i (l .new) (sym e ∙ r) }
 
       -- an item whose mark is new
-      pub scanning-new : {q z : ℕ} → MarkIs s p q → (bitAnd m q ≡ q → ⊥) → Past (formatIn t) s p z → Scanning t s from n z (i + 1) (bitOr m q)
+      pub scanning-new : {q z : ℕ} → MarkIs s p q → (bitAnd m q ≡ q → ⊥) → Past (formatIn t) s p z
+          → Scanning t s from n z (i + 1) (bitOr m q)
       scanning-new e d w = scanning-more (mark-new (walking-stands h (l .walk)) (l .marked) e d) refl e w
 
     pub all-new : n ≤ i → AllNew (keysAt t s from) n true

@@ -25,7 +25,8 @@ use Rattle.repeat_search.specs.Tables.{exempt, repeats, keyIn, keyAt, ke
 use Rattle.repeat_search.proofs.Keys.{repeat-exempt, repeat-asked}
 
 -- ---- by values
-keys-among : (t : Table) (s : List ℕ) (v : Value) (n from : ℕ) → among (keyIn t v) n (keysAt t s from) ≡ amongIdentities (keyOf t v) (map (keyOf t) (itemsAt (formatIn t) n s from))
+keys-among : (t : Table) (s : List ℕ) (v : Value) (n from : ℕ)
+    → among (keyIn t v) n (keysAt t s from) ≡ amongIdentities (keyOf t v) (map (keyOf t) (itemsAt (formatIn t) n s from))
 unfolding among amongIdentities itemsAt lastAt keysAt pick
 keys-among t s v zero from = refl
 keys-among t s v (suc n) from =
@@ -36,13 +37,15 @@ keys-among t s v (suc n) from =
     go true false e = e
     go false c e = e
 
-pub repeats-at : (t : Table) (s : List ℕ) (from i : ℕ) → repeatAt (keysAt t s from) i ≡ repeats t (itemsAt (formatIn t) i s from) (valueAt (formatIn t) s (lastAt (formatIn t) i s from))
+pub repeats-at : (t : Table) (s : List ℕ) (from i : ℕ)
+    → repeatAt (keysAt t s from) i ≡ repeats t (itemsAt (formatIn t) i s from) (valueAt (formatIn t) s (lastAt (formatIn t) i s from))
 unfolding repeatAt repeats keysAt
 repeats-at t s from i = ap (pick (exempt t (content (nameOf (itemOf t) (valueAt (formatIn t) s (lastAt (formatIn t) i s from))))) false) (keys-among t s (valueAt (formatIn t) s (lastAt (formatIn t) i s from)) i from)
 
 -- ---- the item at a place
 
-pub walking-stands : {t : Table} {s : List ℕ} {from n p i : ℕ} → i < n → Walking (formatIn t) s from n p i → Standing t s from i p
+pub walking-stands : {t : Table} {s : List ℕ} {from n p i : ℕ} → i < n → Walking (formatIn t) s from n p i
+    → Standing t s from i p
 walking-stands h l = record { after = walking-at h l; place = l .here }
 
 -- the answers of `exempt`

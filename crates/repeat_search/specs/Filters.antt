@@ -53,7 +53,8 @@ pub record Chosen (lo hi : ℕ) (suspects : List ℕ) (h : ℕ) : Type 0 where
   pub classed : Classed lo hi h
   pub suspect : Has suspects h
 
--- A filter and the suspects after a hash h: the filter has it if it is of such a class, and the suspects if the filter had it before.
+-- A filter and the suspects after a hash h: the filter has it if it is of such a class, and the suspects if the filter
+-- had it before.
 pub record Noted (lo hi h : ℕ) (filter filter′ suspects suspects′ : List ℕ) : Type 0 where
   pub has : Classed lo hi h → Has filter′ h
   pub keeps : (k : ℕ) → Has filter k → Has filter′ k
@@ -73,7 +74,8 @@ pub record Filter (Kind : ℕ → Type 0) (seed : ℕ) (keys : ℕ → Key) (i :
 pub data Probed (Kind : ℕ → Type 0) (seed : ℕ) (keys : ℕ → Key) (i : ℕ) (filter : List ℕ) : Probe → Type 0 where
   isRepeat : repeatAt keys i ≡ true → Probed Kind seed keys i filter Repeat
   isTooMany : Probed Kind seed keys i filter TooMany
-  isNext : {left : ℕ} → Filter Kind seed keys (i + 1) filter → (Kind (keyHash seed (keys i)) → repeatAt keys i ≡ false) → Probed Kind seed keys i filter (Next left)
+  isNext : {left : ℕ} → Filter Kind seed keys (i + 1) filter → (Kind (keyHash seed (keys i)) → repeatAt keys i ≡ false)
+      → Probed Kind seed keys i filter (Next left)
 
 -- the first repeat among n keys, of those of the kind
 pub record Passed (Kind : ℕ → Type 0) (seed : ℕ) (keys : ℕ → Key) (n q : ℕ) : Type 0 where
@@ -87,7 +89,8 @@ pub data PassedOr (Kind : ℕ → Type 0) (seed : ℕ) (keys : ℕ → Key) (n :
 
 -- each of n keys of such a class that repeats one before it is a suspect
 pub record Suspects (lo hi seed : ℕ) (keys : ℕ → Key) (n : ℕ) (suspects : List ℕ) : Type 0 where
-  pub has : (k : ℕ) → k < n → Classed lo hi (keyHash seed (keys k)) → repeatAt keys k ≡ true → Has suspects (keyHash seed (keys k))
+  pub has : (k : ℕ) → k < n → Classed lo hi (keyHash seed (keys k)) → repeatAt keys k ≡ true
+      → Has suspects (keyHash seed (keys k))
 
 pub data FirstOr (keys : ℕ → Key) (n : ℕ) : Outcome → Type 0 where
   first : {q : ℕ} → FirstRepeat keys n q → FirstOr keys n (First q)

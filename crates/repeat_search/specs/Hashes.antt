@@ -30,7 +30,8 @@ shortHash seed h x =
     (pick (ltb (length x) 4) (folded seed h (getD x 0 0 + 256 * getD x (length x / 2) 0) (getD x (length x - 1) 0))
     (folded seed h (wordIn x 0) (wordIn x (length x - 4))))
 
--- m blocks of sixteen bytes from j on in two lanes, and then the last sixteen, or of fewer the first eight and the last eight
+-- m blocks of sixteen bytes from j on in two lanes, and then the last sixteen, or of fewer the first eight and the last
+-- eight
 unfoldable pub lanesHash : ℕ → ℕ → ℕ → List ℕ → ℕ → ℕ → ℕ
 lanesHash seed lane1 lane2 x j zero =
     bitXor (folded seed lane1 (wordIn x (length x - 16)) (wordIn x (length x - 16 + 4)))

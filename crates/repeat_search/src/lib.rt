@@ -1,4 +1,5 @@
-// The first item of a table that repeats one before it. A filter says which items are to be compared with all before them.
+// The first item of a table that repeats one before it. A filter says which items are to be compared with all before
+// them.
 // Stands in for the HashMap and HashSet by which serialize.rs finds repeats.
 ghost use mathlib.Core.Path.{_≡_};
 ghost use Prim.Native.Nat.{_+_, _≤_, _<_};
@@ -69,7 +70,8 @@ fn mark(s: &[u8], p: usize) -> u64
 
 // Does the item at p, which has the mark m, repeat one of the i before it? It repeats none if its mark is new.
 fn repeats_one(s: &[u8], table: Table, from: usize, i: usize, p: usize, marks: u64, m: u64) -> bool
-    requires { ⌜ (Standing table (now s) from i p) × (Marked (keysAt table (now s) from) i marks) × (MarkIs (now s) p m) ⌝ }
+    requires { ⌜ (Standing table (now s) from i p) × (Marked (keysAt table (now s) from) i marks)
+        × (MarkIs (now s) p m) ⌝ }
     ensures { λ q. ⌜ q ≡ repeatAt (keysAt table (now (s .entry)) from) i ⌝ }
 {
     let x = marks & m;
@@ -103,7 +105,8 @@ fn all_new(s: &[u8], table: Table, from: usize, n: usize) -> bool
     true
 }
 
-// The first of the n items from `from` on that repeats one before it, or n: each whose mark is not new is compared with all before it.
+// The first of the n items from `from` on that repeats one before it, or n: each whose mark is not new is compared with
+// all before it.
 fn scan(s: &[u8], table: Table, from: usize, n: usize) -> usize
     requires { ⌜ Items (formatIn table) n (now s) from ⌝ }
     ensures { λ q. ⌜ FirstRepeat (keysAt table (now (s .entry)) from) n q ⌝ }
@@ -162,7 +165,8 @@ fn hash_short(s: &[u8], start: usize, len: usize, seed: u64, h: u64) -> u64
     fold(seed, h, v, w)
 }
 
-// Of the second lane. No two words are taken in by one factor, or a bit of one could make up for a bit of the other under many seeds.
+// Of the second lane. No two words are taken in by one factor, or a bit of one could make up for a bit of the other
+// under many seeds.
 fn second_seed(seed: u64) -> u64
     requires { ⌜ seed < 4294967296 ⌝ }
     ensures { λ q. ⌜ q ≡ secondSeed seed ⌝ }
@@ -220,8 +224,8 @@ fn hash_bytes(s: &[u8], start: usize, len: usize, seed: u64, h: u64) -> u64
     join(s, start, start + len, seed, h, h)
 }
 
-// Extends the hash h by the text at p. Its length goes in first, times the seed: else ("a", "bc") and ("ab", "c") collide, and two lanes that
-// start from known values could be made to cancel out under every seed.
+// Extends the hash h by the text at p. Its length goes in first, times the seed: else ("a", "bc") and ("ab", "c")
+// collide, and two lanes that start from known values could be made to cancel out under every seed.
 fn hash_text(s: &[u8], p: usize, seed: u64, h: u64) -> u64
     requires { ⌜ (TextAt (now s) p) × (seed < 4294967296) ⌝ }
     ensures { λ q. ⌜ TextHash seed h (now (s .entry)) p q ⌝ }
@@ -304,8 +308,8 @@ fn outside(h: u64, lo: u64, hi: u64) -> bool
 
 // ---- a pass over the items
 
-// Does the item at p repeat one of the i before it? Considers only suspects of class lo to hi. `left`: how many comparisons without a repeat
-// this pass still tolerates.
+// Does the item at p repeat one of the i before it? Considers only suspects of class lo to hi. `left`: how many
+// comparisons without a repeat this pass still tolerates.
 fn probed(
     s: &[u8],
     table: Table,
@@ -319,8 +323,11 @@ fn probed(
     filter: &mut [u64],
     suspects: &[u64],
 ) -> Probe
-    requires { ⌜ (Standing table (now s) from i p) × (Filter (Chosen lo hi (now suspects)) seed (keysAt table (now s) from) i (now filter)) × (seed < 4294967296) × (0 < length (now suspects)) ⌝ }
-    ensures { λ q. ⌜ Probed (Chosen lo hi (now (suspects .entry))) seed (keysAt table (now (s .entry)) from) i (now (filter .exit)) q ⌝ }
+    requires { ⌜ (Standing table (now s) from i p)
+        × (Filter (Chosen lo hi (now suspects)) seed (keysAt table (now s) from) i (now filter)) × (seed < 4294967296)
+        × (0 < length (now suspects)) ⌝ }
+    ensures { λ q. ⌜ Probed (Chosen lo hi (now (suspects .entry))) seed (keysAt table (now (s .entry)) from) i
+        (now (filter .exit)) q ⌝ }
 {
     let h = hash_key(s, table, p, seed);
     if outside(h, lo, hi) {
@@ -356,7 +363,8 @@ fn pass(
     filter: &mut [u64],
     suspects: &[u64],
 ) -> Outcome
-    requires { ⌜ (Items (formatIn table) n (now s) from) × (0 < length (now filter)) × (seed < 4294967296) × (0 < length (now suspects)) ⌝ }
+    requires { ⌜ (Items (formatIn table) n (now s) from) × (0 < length (now filter)) × (seed < 4294967296)
+        × (0 < length (now suspects)) ⌝ }
     ensures { λ q. ⌜ PassedOr (Chosen lo hi (now (suspects .entry))) seed (keysAt table (now (s .entry)) from) n q ⌝ }
 {
     let mut left: usize = 32;
@@ -383,7 +391,8 @@ fn pass(
 // Enters h, if it is of these classes, and among the suspects too if its bits were in the filter before.
 fn note(h: u64, lo: u64, hi: u64, filter: &mut [u64], suspects: &mut [u64])
     requires { ⌜ (0 < length (now filter)) × (0 < length (now suspects)) ⌝ }
-    ensures { λ q. ⌜ Noted lo hi h (now (filter .entry)) (now (filter .exit)) (now (suspects .entry)) (now (suspects .exit)) ⌝ }
+    ensures { λ q. ⌜ Noted lo hi h (now (filter .entry)) (now (filter .exit)) (now (suspects .entry))
+        (now (suspects .exit)) ⌝ }
 {
     if outside(h, lo, hi) {
         return;
@@ -406,7 +415,8 @@ fn suspect(
     filter: &mut [u64],
     suspects: &mut [u64],
 )
-    requires { ⌜ (Items (formatIn table) n (now s) from) × (0 < length (now filter)) × (seed < 4294967296) × (0 < length (now suspects)) ⌝ }
+    requires { ⌜ (Items (formatIn table) n (now s) from) × (0 < length (now filter)) × (seed < 4294967296)
+        × (0 < length (now suspects)) ⌝ }
     ensures { λ q. ⌜ Suspects lo hi seed (keysAt table (now (s .entry)) from) n (now (suspects .exit)) ⌝ }
 {
     let mut p = from;
@@ -448,8 +458,8 @@ fn middle(s: &[u8], table: Table, from: usize, n: usize, seed: u64) -> Outcome
     pass(s, table, from, n, 0, 65536, seed, &mut filter, &suspects)
 }
 
-// The first repeat of the items of these classes: a pass that finds the suspects, about one in thirty, and one that compares them. A filter that
-// the second alone could rest on has room for an eighth of the items.
+// The first repeat of the items of these classes: a pass that finds the suspects, about one in thirty, and one that
+// compares them. A filter that the second alone could rest on has room for an eighth of the items.
 fn two_passes(s: &[u8], table: Table, from: usize, n: usize, lo: u64, hi: u64, seed: u64) -> Outcome
     requires { ⌜ (Items (formatIn table) n (now s) from) × (seed < 4294967296) ⌝ }
     ensures { λ q. ⌜ PassedOr (Classed lo hi) seed (keysAt table (now (s .entry)) from) n q ⌝ }
@@ -498,7 +508,8 @@ fn past_items(s: &[u8], table: Table, from: usize, n: usize) -> usize
     p
 }
 
-// The next seed is a hash of the whole table, under a seed that no filter uses: names that collide under it cannot be chosen without changing it.
+// The next seed is a hash of the whole table, under a seed that no filter uses: names that collide under it cannot be
+// chosen without changing it.
 fn fresh_seed(s: &[u8], table: Table, from: usize, n: usize, seed: u64) -> u64
     requires { ⌜ (Items (formatIn table) n (now s) from) × (seed < 4294967296) ⌝ }
     ensures { λ q. ⌜ q < 4294967296 ⌝ }
@@ -512,7 +523,8 @@ fn fresh_seed(s: &[u8], table: Table, from: usize, n: usize, seed: u64) -> u64
 }
 
 // The first repeat, with a large filter or a small one. Names that were made to collide under one seed do not collide
-// under the next. `many` is called at two places so that the compiler does not inline it: its large frame must stay out of this one.
+// under the next. `many` is called at two places so that the compiler does not inline it: its large frame must stay out
+// of this one.
 fn searched(s: &[u8], table: Table, from: usize, n: usize, large: bool) -> usize
     requires { ⌜ Items (formatIn table) n (now s) from ⌝ }
     ensures { λ q. ⌜ FirstRepeat (keysAt table (now (s .entry)) from) n q ⌝ }
@@ -540,8 +552,8 @@ fn searched(s: &[u8], table: Table, from: usize, n: usize, large: bool) -> usize
     scan(s, table, from, n)
 }
 
-// The first of the n items from `from` on that repeats one before it, or n. `searched` is called twice, so that the filters' frames stay out of
-// this function: most tables need none.
+// The first of the n items from `from` on that repeats one before it, or n. `searched` is called twice, so that the
+// filters' frames stay out of this function: most tables need none.
 pub fn first_repeat(s: &[u8], table: Table, from: usize, n: usize) -> usize
     requires { ⌜ Items (formatIn table) n (now s) from ⌝ }
     ensures { λ q. ⌜ FirstRepeat (keysAt table (now (s .entry)) from) n q ⌝ }

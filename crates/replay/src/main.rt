@@ -1,5 +1,5 @@
-// Replays the lists of the oracle's answers that its arguments name: whole packs, section calls, lookups, and texts alone.
-// Prints each difference, and a line for each list.
+// Replays the lists of the oracle's answers that its arguments name: whole packs, section calls, lookups, and texts
+// alone. Prints each difference, and a line for each list.
 use lent_sections::Position;
 use lookup::Found;
 use reader::Step;

@@ -1,5 +1,5 @@
-// The members of runtime types: the fields of a struct, no two with the same identity, and the methods of an interface, no two
-// with the same name.
+// The members of runtime types: the fields of a struct, no two with the same identity, and the methods of an interface,
+// no two with the same name.
 // Ports StructField and InterfaceMethod of runtime_type.rs and their reading by read_runtime_type of serialize.rs.
 ghost use Rattle.vob24.specs.Settings.{settingsOf};
 ghost use Rattle.format.specs.Format.{counted};
@@ -30,7 +30,8 @@ fn field(s: &[u8], r: Step, tape: &mut [u32]) -> Step
 
 fn number_fields(s: &[u8], set: &Settings, c: Cursor, tape: &mut [u32]) -> Number
     requires { ⌜ ReadyAt (now s) c ⌝ }
-    ensures { λ q. ⌜ NumberOf (fieldList (settingsOf (now (set .entry)))) counted (now (s .entry)) c (now (tape .entry)) q (now (tape .exit)) ⌝ }
+    ensures { λ q. ⌜ NumberOf (fieldList (settingsOf (now (set .entry)))) counted (now (s .entry)) c
+        (now (tape .entry)) q (now (tape .exit)) ⌝ }
 {
     let q = fields::number_count(s, set, c, sizes::STRUCT_FIELD, tape);
     let Number::Got(n, d) = q else {
@@ -57,7 +58,8 @@ pub fn number_new_fields(
     tape: &mut [u32],
 ) -> Number
     requires { ⌜ (ReadyAt (now s) c) × (Accepted again (newFields (settingsOf (now set))) (now s) (Taken c)) ⌝ }
-    ensures { λ q. ⌜ NumberOf (newFields (settingsOf (now (set .entry)))) newCount (now (s .entry)) c (now (tape .entry)) q (now (tape .exit)) ⌝ }
+    ensures { λ q. ⌜ NumberOf (newFields (settingsOf (now (set .entry)))) newCount (now (s .entry)) c
+        (now (tape .entry)) q (now (tape .exit)) ⌝ }
 {
     let q = number_fields(s, set, c, tape);
     let Number::Got(n, d) = q else {
@@ -82,7 +84,8 @@ fn method(s: &[u8], r: Step, tape: &mut [u32]) -> Step
 
 fn number_methods(s: &[u8], set: &Settings, c: Cursor, tape: &mut [u32]) -> Number
     requires { ⌜ ReadyAt (now s) c ⌝ }
-    ensures { λ q. ⌜ NumberOf (methodList (settingsOf (now (set .entry)))) counted (now (s .entry)) c (now (tape .entry)) q (now (tape .exit)) ⌝ }
+    ensures { λ q. ⌜ NumberOf (methodList (settingsOf (now (set .entry)))) counted (now (s .entry)) c
+        (now (tape .entry)) q (now (tape .exit)) ⌝ }
 {
     let q = fields::number_count(s, set, c, sizes::INTERFACE_METHOD, tape);
     let Number::Got(n, d) = q else {
@@ -109,7 +112,8 @@ pub fn number_new_methods(
     tape: &mut [u32],
 ) -> Number
     requires { ⌜ (ReadyAt (now s) c) × (Accepted again (newMethods (settingsOf (now set))) (now s) (Taken c)) ⌝ }
-    ensures { λ q. ⌜ NumberOf (newMethods (settingsOf (now (set .entry)))) newCount (now (s .entry)) c (now (tape .entry)) q (now (tape .exit)) ⌝ }
+    ensures { λ q. ⌜ NumberOf (newMethods (settingsOf (now (set .entry)))) newCount (now (s .entry)) c
+        (now (tape .entry)) q (now (tape .exit)) ⌝ }
 {
     let q = number_methods(s, set, c, tape);
     let Number::Got(n, d) = q else {

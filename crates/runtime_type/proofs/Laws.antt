@@ -28,21 +28,26 @@ use Rattle.runtime_type.specs.Records.{optionalOf, listedAt, twoOf, past
 use Rattle.runtime_type.specs.Contract.{typeStep, TypeReader}
 
 -- rttids take four bytes each
-pub rttids-place : (set : Settings) {s : List ℕ} {c d : Cursor} {q : Number} {n : ℕ} {t t₁ : List ℕ} → q ≡ Got n d → NumberOf (rttids set) counted s c t q t₁ → d .place ≡ c .place + 4 + 4 * n
+pub rttids-place : (set : Settings) {s : List ℕ} {c d : Cursor} {q : Number} {n : ℕ} {t t₁ : List ℕ} → q ≡ Got n d
+    → NumberOf (rttids set) counted s c t q t₁ → d .place ≡ c .place + 4 + 4 * n
 rttids-place set e h = omega (arith, list-place word (packedWord invalidPackedValueRttid) e h)
 
 -- ---- the records of lists
 
-pub listed : {k : RuntimeType} {i : ListAt} {p q n : ℕ} → i ≡ record { start = p + 4; count = n } → p ≡ q → _≡_ {A = RuntimeTypeRecord} (record { kind = k; first = i; second = noList }) (listedAt k q n)
+pub listed : {k : RuntimeType} {i : ListAt} {p q n : ℕ} → i ≡ record { start = p + 4; count = n } → p ≡ q
+    → _≡_ {A = RuntimeTypeRecord} (record { kind = k; first = i; second = noList }) (listedAt k q n)
 listed e h = rw (e, h)
 
-pub listedTwo : {k : RuntimeType} {i j : ListAt} {p q p′ m n : ℕ} → i ≡ record { start = p + 4; count = m } → j ≡ record { start = q + 4; count = n } → p ≡ p′ → q ≡ pastRttids p m → _≡_ {A = RuntimeTypeRecord} (record { kind = k; first = i; second = j }) (twoOf k p′ m n)
+pub listedTwo : {k : RuntimeType} {i j : ListAt} {p q p′ m n : ℕ} → i ≡ record { start = p + 4; count = m }
+    → j ≡ record { start = q + 4; count = n } → p ≡ p′ → q ≡ pastRttids p m
+    → _≡_ {A = RuntimeTypeRecord} (record { kind = k; first = i; second = j }) (twoOf k p′ m n)
 listedTwo e i h y = rw (e, i, y, h)
 
 -- ---- a record by its tag
 
 -- the tag that is left for the last arm
-pub last-tag : {n : ℕ} → n ≤ 12 → (n ≡ 0 → ⊥) → (n ≡ 1 → ⊥) → (n ≡ 2 → ⊥) → (n ≡ 3 → ⊥) → (n ≡ 4 → ⊥) → (n ≡ 5 → ⊥) → (n ≡ 6 → ⊥) → (n ≡ 7 → ⊥) → (n ≡ 8 → ⊥) → (n ≡ 9 → ⊥) → (n ≡ 10 → ⊥) → (n ≡ 11 → ⊥) → n ≡ 12
+pub last-tag : {n : ℕ} → n ≤ 12 → (n ≡ 0 → ⊥) → (n ≡ 1 → ⊥) → (n ≡ 2 → ⊥) → (n ≡ 3 → ⊥) → (n ≡ 4 → ⊥) → (n ≡ 5 → ⊥)
+    → (n ≡ 6 → ⊥) → (n ≡ 7 → ⊥) → (n ≡ 8 → ⊥) → (n ≡ 9 → ⊥) → (n ≡ 10 → ⊥) → (n ≡ 11 → ⊥) → n ≡ 12
 last-tag {n} h a b c d e f g i j k l m =
     let z : 0 ≤ n = omega arith in
     let x : 12 ≤ n = above (above (above (above (above (above (above (above (above (above (above (above z a) b) c) d) e) f) g) i) j) k) l) m in
@@ -51,7 +56,8 @@ last-tag {n} h a b c d e f g i j k l m =
 -- ---- an item of the list that is refused
 
 module _ {item : RuntimeTypeRead} {x : Refusal} {r : Step} (e : item ≡ RuntimeTypeRead.Not x) (i : r ≡ typeStep item) where
-  pub typeRefused : {f : Format} {of : ℕ → Value → RuntimeTypeRecord} {s t t₁ : List ℕ} {b : Cursor} → TypeReader f of s b t item t₁ → Reader f s (Taken b) t r t₁
+  pub typeRefused : {f : Format} {of : ℕ → Value → RuntimeTypeRecord} {s t t₁ : List ℕ} {b : Cursor}
+      → TypeReader f of s b t item t₁ → Reader f s (Taken b) t r t₁
   typeRefused h = rw i (h .reader)
 
   pub refused-as : r ≡ Refused x
@@ -59,7 +65,8 @@ module _ {item : RuntimeTypeRead} {x : Refusal} {r : Step} (e : item ≡ Runtime
 
 -- ---- answers by their cases
 
-pub type-got : {q : RuntimeTypeRead} {x : RuntimeTypeRecord} {c : Cursor} → q ≡ RuntimeTypeRead.Got x c → Taken c ≡ typeStep q
+pub type-got : {q : RuntimeTypeRead} {x : RuntimeTypeRecord} {c : Cursor} → q ≡ RuntimeTypeRead.Got x c
+    → Taken c ≡ typeStep q
 type-got e = rw e
 
 pub type-not : {q : RuntimeTypeRead} {x : Refusal} → q ≡ RuntimeTypeRead.Not x → Refused x ≡ typeStep q

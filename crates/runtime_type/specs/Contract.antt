@@ -20,5 +20,6 @@ abbrev pub typeIn : RuntimeTypeRead → RuntimeTypeRecord
 typeIn (RuntimeTypeRead.Got x c) = x
 typeIn (RuntimeTypeRead.Not x) = bareOf kind.Island
 
-abbrev pub TypeReader : Format → (ℕ → Value → RuntimeTypeRecord) → List ℕ → Cursor → List ℕ → RuntimeTypeRead → List ℕ → Type 0
+abbrev pub TypeReader : Format → (ℕ → Value → RuntimeTypeRecord) → List ℕ → Cursor → List ℕ → RuntimeTypeRead → List ℕ
+    → Type 0
 TypeReader f of s c t q t′ = Recorded f of s c t (typeStep q) (typeIn q) t′

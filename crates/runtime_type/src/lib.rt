@@ -1,6 +1,6 @@
 // Runtime types, and the section that lists them.
-// Ports RuntimeType of runtime_type.rs and read_runtime_type of serialize.rs. A runtime type is answered as an enum without
-// lists, held in a record beside its lists' starts and counts.
+// Ports RuntimeType of runtime_type.rs and read_runtime_type of serialize.rs. A runtime type is answered as an enum
+// without lists, held in a record beside its lists' starts and counts.
 ghost use Rattle.vob24.specs.Settings.{settingsOf};
 ghost use mathlib.Core.Path.{_≡_};
 ghost use Prim.Native.Nat.{_<_};
@@ -25,7 +25,8 @@ pub enum OptionalId {
     Id(u32),
 }
 
-// A runtime type, without its lists. Other types are named by rttids; a direction is 0 for both, 1 for send, 2 for receive.
+// A runtime type, without its lists. Other types are named by rttids; a direction is 0 for both, 1 for send, 2 for
+// receive.
 pub enum RuntimeType {
     Basic(u8),
     Named { id: u32, struct_meta_id: OptionalId },
@@ -42,8 +43,8 @@ pub enum RuntimeType {
     Island,
 }
 
-// A runtime type and its lists in file order: a function's parameters and results, a struct's fields, an interface's methods,
-// a tuple's types. Absent lists are empty.
+// A runtime type and its lists in file order: a function's parameters and results, a struct's fields, an interface's
+// methods, a tuple's types. Absent lists are empty.
 pub struct RuntimeTypeRecord {
     pub kind: RuntimeType,
     pub first: ListAt,
@@ -58,7 +59,8 @@ pub enum RuntimeTypeRead {
 // A list of rttids. Also returns its count.
 fn number_rttids(s: &[u8], set: &Settings, c: Cursor, tape: &mut [u32]) -> Number
     requires { ⌜ ReadyAt (now s) c ⌝ }
-    ensures { λ q. ⌜ NumberOf (rttidList (settingsOf (now (set .entry)))) counted (now (s .entry)) c (now (tape .entry)) q (now (tape .exit)) ⌝ }
+    ensures { λ q. ⌜ NumberOf (rttidList (settingsOf (now (set .entry)))) counted (now (s .entry)) c
+        (now (tape .entry)) q (now (tape .exit)) ⌝ }
 {
     let q = fields::number_count(s, set, c, sizes::VALUE_RTTID, tape);
     let Number::Got(n, d) = q else {
@@ -223,7 +225,8 @@ fn chan(s: &[u8], c: Cursor, tape: &mut [u32]) -> RuntimeTypeRead
 // variadic, params, results
 fn func(s: &[u8], set: &Settings, c: Cursor, tape: &mut [u32]) -> RuntimeTypeRead
     requires { ⌜ ReadyAt (now s) c ⌝ }
-    ensures { λ q. ⌜ TypeReader (funcFormat (settingsOf (now (set .entry)))) funcOf (now (s .entry)) c (now (tape .entry)) q (now (tape .exit)) ⌝ }
+    ensures { λ q. ⌜ TypeReader (funcFormat (settingsOf (now (set .entry)))) funcOf (now (s .entry)) c
+        (now (tape .entry)) q (now (tape .exit)) ⌝ }
 {
     let q1 = fields::number_bool(s, c, tape);
     let Number::Got(variadic, d) = q1 else {
@@ -258,7 +261,8 @@ fn struct_type(
     tape: &mut [u32],
 ) -> RuntimeTypeRead
     requires { ⌜ (ReadyAt (now s) c) × (Accepted again (structFormat (settingsOf (now set))) (now s) (Taken c)) ⌝ }
-    ensures { λ q. ⌜ TypeReader (structFormat (settingsOf (now (set .entry)))) structOf (now (s .entry)) c (now (tape .entry)) q (now (tape .exit)) ⌝ }
+    ensures { λ q. ⌜ TypeReader (structFormat (settingsOf (now (set .entry)))) structOf (now (s .entry)) c
+        (now (tape .entry)) q (now (tape .exit)) ⌝ }
 {
     let q1 = fields::number_u32(s, c, tape);
     let Number::Got(id, d) = q1 else {
@@ -281,7 +285,8 @@ fn struct_type(
 // meta_id, methods
 fn interface(s: &[u8], set: &Settings, c: Cursor, again: bool, tape: &mut [u32]) -> RuntimeTypeRead
     requires { ⌜ (ReadyAt (now s) c) × (Accepted again (interfaceFormat (settingsOf (now set))) (now s) (Taken c)) ⌝ }
-    ensures { λ q. ⌜ TypeReader (interfaceFormat (settingsOf (now (set .entry)))) interfaceOf (now (s .entry)) c (now (tape .entry)) q (now (tape .exit)) ⌝ }
+    ensures { λ q. ⌜ TypeReader (interfaceFormat (settingsOf (now (set .entry)))) interfaceOf (now (s .entry)) c
+        (now (tape .entry)) q (now (tape .exit)) ⌝ }
 {
     let q1 = fields::number_u32(s, c, tape);
     let Number::Got(id, d) = q1 else {
@@ -303,7 +308,8 @@ fn interface(s: &[u8], set: &Settings, c: Cursor, again: bool, tape: &mut [u32])
 
 fn tuple(s: &[u8], set: &Settings, c: Cursor, tape: &mut [u32]) -> RuntimeTypeRead
     requires { ⌜ ReadyAt (now s) c ⌝ }
-    ensures { λ q. ⌜ TypeReader (rttidList (settingsOf (now (set .entry)))) tupleOf (now (s .entry)) c (now (tape .entry)) q (now (tape .exit)) ⌝ }
+    ensures { λ q. ⌜ TypeReader (rttidList (settingsOf (now (set .entry)))) tupleOf (now (s .entry)) c
+        (now (tape .entry)) q (now (tape .exit)) ⌝ }
 {
     let q = number_rttids(s, set, c, tape);
     let Number::Got(n, d) = q else {
@@ -349,7 +355,8 @@ pub fn runtime_type(
     tape: &mut [u32],
 ) -> RuntimeTypeRead
     requires { ⌜ (ReadyAt (now s) c) × (Accepted again (typeFormat (settingsOf (now set))) (now s) (Taken c)) ⌝ }
-    ensures { λ q. ⌜ TypeReader (typeFormat (settingsOf (now (set .entry)))) runtimeTypeOf (now (s .entry)) c (now (tape .entry)) q (now (tape .exit)) ⌝ }
+    ensures { λ q. ⌜ TypeReader (typeFormat (settingsOf (now (set .entry)))) runtimeTypeOf (now (s .entry)) c
+        (now (tape .entry)) q (now (tape .exit)) ⌝ }
 {
     let q = fields::number_runtime_tag(s, c, tape);
     let Number::Got(tag, d) = q else {
@@ -384,7 +391,8 @@ fn type_step(q: RuntimeTypeRead) -> Step
 
 pub fn runtime_types(s: &[u8], set: &Settings, r: Step, again: bool, tape: &mut [u32]) -> Step
     requires { ⌜ (Ready (now s) r) × (Accepted again (typeList (settingsOf (now set))) (now s) r) ⌝ }
-    ensures { λ q. ⌜ Reader (typeList (settingsOf (now (set .entry)))) (now (s .entry)) r (now (tape .entry)) q (now (tape .exit)) ⌝ }
+    ensures { λ q. ⌜ Reader (typeList (settingsOf (now (set .entry)))) (now (s .entry)) r (now (tape .entry)) q
+        (now (tape .exit)) ⌝ }
 {
     let Step::Taken(c) = r else {
         return r;

@@ -13,7 +13,8 @@ pub fn read_section(
     budget: u64,
     tape: &mut [u32],
 ) -> Answer
-    ensures { λ q. ⌜ SectionCall settings (functionsOf section) (sectionOf section) (now (pack .entry)) place budget (now (tape .entry)) q (now (tape .exit)) ⌝ }
+    ensures { λ q. ⌜ SectionCall settings (functionsOf section) (sectionOf section) (now (pack .entry)) place budget
+        (now (tape .entry)) q (now (tape .exit)) ⌝ }
 {
     let set = &vob24::MEASURED;
     let start = calls::opening(pack, place, budget);

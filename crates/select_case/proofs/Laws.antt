@@ -26,18 +26,22 @@ use Rattle.select_case.specs.declared.SelectCaseRead.{SelectCaseRead}
 
 -- ---- by the tag
 
-pub selectAt : (k : ℕ) {s : List ℕ} {c d : Cursor} {q : Number} {n : ℕ} {x : SelectCase} {r : Step} {t t₁ t₂ : List ℕ} → q ≡ Got n d → n ≡ k → NumberOf selectTag number s c t q t₁
-    → Recorded (getD selectVariants k empty) (λ p v. getD (sendOf p v ∷ recvOf p v ∷ []) k (Send 0 0 0)) s d t₁ r x t₂ → Recorded selectCase selectOf s c t r x t₂
+pub selectAt : (k : ℕ) {s : List ℕ} {c d : Cursor} {q : Number} {n : ℕ} {x : SelectCase} {r : Step} {t t₁ t₂ : List ℕ}
+    → q ≡ Got n d → n ≡ k → NumberOf selectTag number s c t q t₁
+    → Recorded (getD selectVariants k empty) (λ p v. getD (sendOf p v ∷ recvOf p v ∷ []) k (Send 0 0 0)) s d t₁ r x t₂
+    → Recorded selectCase selectOf s c t r x t₂
 unfolding selectCase selectOf
 selectAt k e i h m = variantAt selectVariants (λ p v. sendOf p v ∷ recvOf p v ∷ []) (Send 0 0 0) k e i h m
 
 -- a select case that is not 0 is 1
-pub select-one : {s : List ℕ} {c d : Cursor} {q : Number} {n : ℕ} {t t₁ : List ℕ} → q ≡ Got n d → (n ≡ 0 → ⊥) → NumberOf selectTag number s c t q t₁ → n ≡ 1
+pub select-one : {s : List ℕ} {c d : Cursor} {q : Number} {n : ℕ} {t t₁ : List ℕ} → q ≡ Got n d → (n ≡ 0 → ⊥)
+    → NumberOf selectTag number s c t q t₁ → n ≡ 1
 select-one e i h = let j = tag-most-bare e h in omega arith
 
 -- ---- answers by their cases
 
-pub select-got : {q : SelectCaseRead} {x : SelectCase} {c : Cursor} → q ≡ SelectCaseRead.Got x c → Taken c ≡ selectStep q
+pub select-got : {q : SelectCaseRead} {x : SelectCase} {c : Cursor} → q ≡ SelectCaseRead.Got x c
+    → Taken c ≡ selectStep q
 select-got e = rw e
 
 pub select-not : {q : SelectCaseRead} {x : Refusal} → q ≡ SelectCaseRead.Not x → Refused x ≡ selectStep q

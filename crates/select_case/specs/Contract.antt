@@ -18,5 +18,6 @@ abbrev pub selectIn : SelectCaseRead → SelectCase
 selectIn (SelectCaseRead.Got x c) = x
 selectIn (SelectCaseRead.Not x) = Send 0 0 0
 
-abbrev pub SelectReader : Format → (ℕ → Value → SelectCase) → List ℕ → Cursor → List ℕ → SelectCaseRead → List ℕ → Type 0
+abbrev pub SelectReader : Format → (ℕ → Value → SelectCase) → List ℕ → Cursor → List ℕ → SelectCaseRead → List ℕ
+    → Type 0
 SelectReader f of s c t q t′ = Recorded f of s c t (selectStep q) (selectIn q) t′

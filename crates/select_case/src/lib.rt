@@ -134,7 +134,8 @@ fn number_refusal(q: SelectCaseRead) -> Number
 // Also returns the count.
 pub fn number_select_cases(s: &[u8], set: &Settings, c: Cursor, tape: &mut [u32]) -> Number
     requires { ⌜ ReadyAt (now s) c ⌝ }
-    ensures { λ q. ⌜ NumberOf (selectList (settingsOf (now (set .entry)))) counted (now (s .entry)) c (now (tape .entry)) q (now (tape .exit)) ⌝ }
+    ensures { λ q. ⌜ NumberOf (selectList (settingsOf (now (set .entry)))) counted (now (s .entry)) c
+        (now (tape .entry)) q (now (tape .exit)) ⌝ }
 {
     let q = fields::number_count(s, set, c, sizes::SELECT_CASE_LAYOUT, tape);
     let Number::Got(n, d) = q else {

@@ -31,7 +31,9 @@ pub count-first : {n : ℕ} {s : List ℕ} {from at : ℕ} {t t₁ : List ℕ} �
 count-first e = rw e copied-start
 
 -- the item at p, the k-th, is one word more
-pub one-more : {n k v i p : ℕ} {s : List ℕ} {from at : ℕ} {t t₁ t₂ : List ℕ} → k < n → p ≡ from + k → i ≡ at + k → p + 1 ≤ length s → v ≡ getD s p 0 → getD s p 0 ≤ 5 → t₂ ≡ set t₁ i v → CopiedLow n s from 5 t at k t₁ → CopiedLow n s from 5 t at (k + 1) t₂
+pub one-more : {n k v i p : ℕ} {s : List ℕ} {from at : ℕ} {t t₁ t₂ : List ℕ} → k < n → p ≡ from + k → i ≡ at + k
+    → p + 1 ≤ length s → v ≡ getD s p 0 → getD s p 0 ≤ 5 → t₂ ≡ set t₁ i v → CopiedLow n s from 5 t at k t₁
+    → CopiedLow n s from 5 t at (k + 1) t₂
 unfolding wordsAt
 one-more {n} {k} {v} {i} {p} {s} {from} {at} {t} {t₁} {t₂} h e j r w m y l = copied-more (omega arith) low copied l
   where
@@ -42,7 +44,10 @@ one-more {n} {k} {v} {i} {p} {s} {from} {at} {t} {t₁} {t₂} h e j r w m y l =
     copied = record { is = y ∙ rw (j, w, ← byte-at s p r, e) }
 
 -- its count is what stands there
-pub good-of : {n m : ℕ} {s : List ℕ} {p at : ℕ} {t t′ : List ℕ} → ReadyAt s (cursorAt p 0 at) → 8 ≤ length s - p → m ≡ little (getD s p 0 ∷ getD s (p + 1) 0 ∷ getD s (p + 2) 0 ∷ getD s (p + 3) 0 ∷ []) → ((i : ℕ) → getD s i 0 < 256) → m ≡ n → 0 < n → n ≤ 4 → CopiedLow n s (p + 4) 5 (set t at n) (at + 1) n t′ → Keeps s p at t n t′
+pub good-of : {n m : ℕ} {s : List ℕ} {p at : ℕ} {t t′ : List ℕ} → ReadyAt s (cursorAt p 0 at) → 8 ≤ length s - p
+    → m ≡ little (getD s p 0 ∷ getD s (p + 1) 0 ∷ getD s (p + 2) 0 ∷ getD s (p + 3) 0 ∷ [])
+    → ((i : ℕ) → getD s i 0 < 256) → m ≡ n → 0 < n → n ≤ 4 → CopiedLow n s (p + 4) 5 (set t at n) (at + 1) n t′
+    → Keeps s p at t n t′
 good-of r l e b i h k m = let f = fetched refl (fetch4 r (omega arith) (sym i ∙ e) b) in kept (record { some = h; few = k; room = omega (arith, r .within); is = f .is; bytes = f .bytes; items = m })
 
 -- ---- what is known of it
@@ -51,7 +56,8 @@ pub keeps-few : {s : List ℕ} {p at : ℕ} {t : List ℕ} {n : ℕ} {t′ : Lis
 keeps-few (kept g) = g .few
 keeps-few other = omega arith
 
-pub keeps-good : {s : List ℕ} {p at : ℕ} {t : List ℕ} {n : ℕ} {t′ : List ℕ} → 0 < n → Keeps s p at t n t′ → Good s p at t n t′
+pub keeps-good : {s : List ℕ} {p at : ℕ} {t : List ℕ} {n : ℕ} {t′ : List ℕ} → 0 < n → Keeps s p at t n t′
+    → Good s p at t n t′
 keeps-good h (kept g) = g
 keeps-good h other = absurd (omega arith)
 
@@ -64,7 +70,9 @@ pub few-paid : (n y : ℕ) {l : ℕ} → n ≤ 4 → 4 * y ≤ l → n * y ≤ l
 few-paid n y h k = omega (arith, mul-le-mul-right y h)
 
 -- such a list is read
-pub good-list : {y z : ℕ} {s : List ℕ} {c g : Cursor} {t t′ : List ℕ} {n : ℕ} → ReadyAt s c → y ≡ z → 4 * y ≤ c .left → Good s (c .place) (c .at) t n t′ → g ≡ cursorAt (c .place + 4 + n) (c .left - n * y) (c .at + 1 + n) → NumberOf (listOf free z slotType) counted s c t (Got n g) t′
+pub good-list : {y z : ℕ} {s : List ℕ} {c g : Cursor} {t t′ : List ℕ} {n : ℕ} → ReadyAt s c → y ≡ z → 4 * y ≤ c .left
+    → Good s (c .place) (c .at) t n t′ → g ≡ cursorAt (c .place + 4 + n) (c .left - n * y) (c .at + 1 + n)
+    → NumberOf (listOf free z slotType) counted s c t (Got n g) t′
 good-list {y} {z} {s} {c} {g} {t} {t′} {n} r e l h i =
     let f : Fetches 4 s c (Got n (past 4 c)) = there (record { room = omega (arith, h .room); is = h .is; bytes = h .bytes; next = refl }) in
     let d : Cursor = cursorAt (c .place + 4) (c .left - n * z) (c .at) in

@@ -1,7 +1,7 @@
 // A list of slot types, which many records have: structs, globals, functions, instructions' metadata.
 // Ports `read_vec(read_slot_type)` of serialize.rs.
-// Most lists have one item or two: a list of at most four is tested whole, and then kept, without a loop. Where a test fails, nothing is
-// kept yet, and the answer is that of `number_any`, which reads any list and makes every refusal.
+// Most lists have one item or two: a list of at most four is tested whole, and then kept, without a loop. Where a test
+// fails, nothing is kept yet, and the answer is that of `number_any`, which reads any list and makes every refusal.
 ghost use Rattle.format.specs.Format.{counted};
 ghost use Rattle.vob24.specs.Settings.{settingsOf};
 ghost use Rattle.vob24.specs.Grammar.{slotTypes};
@@ -16,7 +16,8 @@ use vob24::Settings;
 // A list of any length.
 fn number_any(s: &[u8], set: &Settings, c: Cursor, tape: &mut [u32]) -> Number
     requires { ⌜ ReadyAt (now s) c ⌝ }
-    ensures { λ q. ⌜ NumberOf (slotTypes (settingsOf (now (set .entry)))) counted (now (s .entry)) c (now (tape .entry)) q (now (tape .exit)) ⌝ }
+    ensures { λ q. ⌜ NumberOf (slotTypes (settingsOf (now (set .entry)))) counted (now (s .entry)) c
+        (now (tape .entry)) q (now (tape .exit)) ⌝ }
 {
     let q = fields::number_count(s, set, c, sizes::SLOT_TYPE, tape);
     let Number::Got(n, d) = q else {
@@ -83,11 +84,12 @@ fn short(s: &[u8], place: usize, at: usize, tape: &mut [u32]) -> usize
     0
 }
 
-// Also returns the count. Where four can be paid, the short way asks nothing of the budget. `number_any` gets copies: a value whose address
-// escapes is spilled on the short way too.
+// Also returns the count. Where four can be paid, the short way asks nothing of the budget. `number_any` gets copies: a
+// value whose address escapes is spilled on the short way too.
 pub fn number_slot_types(s: &[u8], set: &Settings, c: Cursor, tape: &mut [u32]) -> Number
     requires { ⌜ ReadyAt (now s) c ⌝ }
-    ensures { λ q. ⌜ NumberOf (slotTypes (settingsOf (now (set .entry)))) counted (now (s .entry)) c (now (tape .entry)) q (now (tape .exit)) ⌝ }
+    ensures { λ q. ⌜ NumberOf (slotTypes (settingsOf (now (set .entry)))) counted (now (s .entry)) c
+        (now (tape .entry)) q (now (tape .exit)) ⌝ }
 {
     let size = vob24::size(set, sizes::SLOT_TYPE);
     let left = c.left;
@@ -112,11 +114,12 @@ pub fn number_slot_types(s: &[u8], set: &Settings, c: Cursor, tape: &mut [u32]) 
     any
 }
 
-// The short way is here a second time: with `number_any` called at one place only, the compiler would inline it there, and the caller would
-// be too long to be inlined itself.
+// The short way is here a second time: with `number_any` called at one place only, the compiler would inline it there,
+// and the caller would be too long to be inlined itself.
 pub fn slot_types(s: &[u8], set: &Settings, r: Step, tape: &mut [u32]) -> Step
     requires { ⌜ Ready (now s) r ⌝ }
-    ensures { λ q. ⌜ Reader (slotTypes (settingsOf (now (set .entry)))) (now (s .entry)) r (now (tape .entry)) q (now (tape .exit)) ⌝ }
+    ensures { λ q. ⌜ Reader (slotTypes (settingsOf (now (set .entry)))) (now (s .entry)) r (now (tape .entry)) q
+        (now (tape .exit)) ⌝ }
 {
     let Step::Taken(c) = r else {
         return r;

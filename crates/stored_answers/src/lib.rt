@@ -434,7 +434,8 @@ pub fn hold_tape(t: Tally, h: &[u8], words: &[u8], tape: &[u32]) -> Tally {
     )
 }
 
-// Holds the payload that a lookup returned against the part of the pack that a record says; nothing where it is refused.
+// Holds the payload that a lookup returned against the part of the pack that a record says; nothing where it is
+// refused.
 pub fn hold_payload(t: Tally, h: &[u8], pack: &[u8], payload: &[u8]) -> Tally {
     let start = least(long(h, FIELDS), pack.len());
     let length = least(long(h, FIELDS + 8), pack.len() - start);

@@ -23,7 +23,8 @@ fn struct_field(s: &[u8], r: Step, tape: &mut [u32]) -> Step
 
 fn struct_fields(s: &[u8], set: &Settings, r: Step, tape: &mut [u32]) -> Step
     requires { ⌜ Ready (now s) r ⌝ }
-    ensures { λ q. ⌜ Reader (fieldList (settingsOf (now (set .entry)))) (now (s .entry)) r (now (tape .entry)) q (now (tape .exit)) ⌝ }
+    ensures { λ q. ⌜ Reader (fieldList (settingsOf (now (set .entry)))) (now (s .entry)) r (now (tape .entry)) q
+        (now (tape .exit)) ⌝ }
 {
     let Step::Taken(c) = r else {
         return r;
@@ -47,7 +48,8 @@ fn struct_fields(s: &[u8], set: &Settings, r: Step, tape: &mut [u32]) -> Step
 // The field index is built after the whole list, from the list's place in the pack.
 fn structure(s: &[u8], set: &Settings, r: Step, again: bool, tape: &mut [u32]) -> Step
     requires { ⌜ (Ready (now s) r) × (Accepted again (structFormat (settingsOf (now set))) (now s) r) ⌝ }
-    ensures { λ q. ⌜ Reader (structFormat (settingsOf (now (set .entry)))) (now (s .entry)) r (now (tape .entry)) q (now (tape .exit)) ⌝ }
+    ensures { λ q. ⌜ Reader (structFormat (settingsOf (now (set .entry)))) (now (s .entry)) r (now (tape .entry)) q
+        (now (tape .exit)) ⌝ }
 {
     let slot_types = slots::slot_types(s, set, r, tape);
     let fields = struct_fields(s, set, slot_types, tape);
@@ -56,7 +58,8 @@ fn structure(s: &[u8], set: &Settings, r: Step, again: bool, tape: &mut [u32]) -
 
 pub fn structs(s: &[u8], set: &Settings, r: Step, again: bool, tape: &mut [u32]) -> Step
     requires { ⌜ (Ready (now s) r) × (Accepted again (structList (settingsOf (now set))) (now s) r) ⌝ }
-    ensures { λ q. ⌜ Reader (structList (settingsOf (now (set .entry)))) (now (s .entry)) r (now (tape .entry)) q (now (tape .exit)) ⌝ }
+    ensures { λ q. ⌜ Reader (structList (settingsOf (now (set .entry)))) (now (s .entry)) r (now (tape .entry)) q
+        (now (tape .exit)) ⌝ }
 {
     let Step::Taken(c) = r else {
         return r;

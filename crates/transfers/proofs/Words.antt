@@ -72,7 +72,9 @@ module _ {s : List ℕ} {p : ℕ} (h : Placed transfer s p) {m : ℕ} (j : WordI
   meta-is : transferred (valueAt transfer s p) .0 ≡ m
   meta-is = transfer-stands (h .stands) .meta ∙ sym (j .is)
 
-  pub transfer-meta : (context i : ℕ) {c : Cursor} {q : Step} → a ≡ false → q ≡ Refused (refusal (functionWrong context i m) (c .place) (c .left)) → Asks (transferAsks context i (valueAt transfer s p)) c q
+  pub transfer-meta : (context i : ℕ) {c : Cursor} {q : Step} → a ≡ false
+      → q ≡ Refused (refusal (functionWrong context i m) (c .place) (c .left))
+      → Asks (transferAsks context i (valueAt transfer s p)) c q
   unfolding transferAsks
   transfer-meta context i {c} e r = rw (r, meta-is) (asks-not _ (unless-no (functionWrong context i m) {c = c} (sym k ∙ e) refl))
 
@@ -80,20 +82,26 @@ module _ {s : List ℕ} {p : ℕ} (h : Placed transfer s p) {m : ℕ} (j : WordI
     rttid-is : transferred (valueAt transfer s p) .1 ≡ n
     rttid-is = transfer-stands (h .stands) .rttid ∙ sym (g .is)
 
-    pub transfer-rttid : (context i : ℕ) {c : Cursor} {q : Step} → b ≡ false → q ≡ Refused (refusal (functionWrong (context + 1) i n) (c .place) (c .left)) → Asks (transferAsks context i (valueAt transfer s p)) c q
+    pub transfer-rttid : (context i : ℕ) {c : Cursor} {q : Step} → b ≡ false
+        → q ≡ Refused (refusal (functionWrong (context + 1) i n) (c .place) (c .left))
+        → Asks (transferAsks context i (valueAt transfer s p)) c q
     unfolding transferAsks
     transfer-rttid context i o r = rw (meta-is, rttid-is) (asks-then _ (unless-yes _ (sym k ∙ e)) (unless-no _ (sym f ∙ o) r))
 
-    pub transfer-ok : (context i : ℕ) {c : Cursor} → b ≡ true → Asks (transferAsks context i (valueAt transfer s p)) c (Taken c)
+    pub transfer-ok : (context i : ℕ) {c : Cursor} → b ≡ true
+        → Asks (transferAsks context i (valueAt transfer s p)) c (Taken c)
     unfolding transferAsks
     transfer-ok context i o = rw (meta-is, rttid-is) (asks-then _ (unless-yes _ (sym k ∙ e)) (unless-yes _ (sym f ∙ o)))
 
 -- the entry numbered i comes after i others
-pub transfer-turn : (context i : ℕ) (s : List ℕ) (from p : ℕ) {c : Cursor} {q : Step} → Asks (transferAsks context i (valueAt transfer s p)) c q → Asks (transferOver context (itemsAt transfer i s from) (valueAt transfer s p)) c q
+pub transfer-turn : (context i : ℕ) (s : List ℕ) (from p : ℕ) {c : Cursor} {q : Step}
+    → Asks (transferAsks context i (valueAt transfer s p)) c q
+    → Asks (transferOver context (itemsAt transfer i s from) (valueAt transfer s p)) c q
 transfer-turn context i s from p h = rw (items-length transfer i s from) h
 
 -- ---- the grammar's words, entry by entry
-transfers-from : (c : ℕ) (before vs : List Value) → transferWords c (length before) (map transferred vs) ≡ over (transferOver c) before vs
+transfers-from : (c : ℕ) (before vs : List Value)
+    → transferWords c (length before) (map transferred vs) ≡ over (transferOver c) before vs
 unfolding over transferAsks transferWords
 transfers-from c before [] = refl
 transfers-from c before (v ∷ vs) =
@@ -101,5 +109,6 @@ transfers-from c before (v ∷ vs) =
     let r = transfers-from c (before ++ (v ∷ [])) vs in
     rw (append-assoc, ← r, e)
 
-pub transfers-asked : (context : ℕ) (vs : List Value) {c : Cursor} {q : Step} → Asks (over (transferOver context) [] vs) c q → Asks (transferWords context 0 (map transferred vs)) c q
+pub transfers-asked : (context : ℕ) (vs : List Value) {c : Cursor} {q : Step}
+    → Asks (over (transferOver context) [] vs) c q → Asks (transferWords context 0 (map transferred vs)) c q
 transfers-asked context vs a = rw (transfers-from context [] vs) a

@@ -76,7 +76,8 @@ fn transfers(s: &[u8], context: u64, from: usize, n: usize, c: Cursor) -> Step
 // The words of the entries whose list was read at r, asked at r1; context is that of the meta word.
 pub fn transfer_words(s: &[u8], context: u64, r: Step, r1: Step) -> Step
     requires { ⌜ (ListBehind transferFormat (now s) r r1) × (context < 4) ⌝ }
-    ensures { λ q. ⌜ ListAsked transferFormat (λ vs. transferWords context 0 (map transferred vs)) (now (s .entry)) r r1 q ⌝ }
+    ensures { λ q. ⌜ ListAsked transferFormat (λ vs. transferWords context 0 (map transferred vs)) (now (s .entry)) r
+        r1 q ⌝ }
 {
     let Step::Taken(d) = r1 else {
         return r1;

@@ -46,7 +46,8 @@ module _ (w : Wrong) {b : Bool} {c : Cursor} where
 
 -- the answers of `refuse_repeat`
 module _ (i : Item) {s : List ℕ} {p : ℕ} (h : Placed (formatOf i) s p) where
-  pub repeat-told : {c : Cursor} {e k : ℕ} {q : Step} → Repeated s p c e k q → q ≡ Refused (refusal (repeat e k (nameOf i (valueAt (formatOf i) s p))) (c .place) (c .left))
+  pub repeat-told : {c : Cursor} {e k : ℕ} {q : Step} → Repeated s p c e k q
+      → q ≡ Refused (refusal (repeat e k (nameOf i (valueAt (formatOf i) s p))) (c .place) (c .left))
   repeat-told {c} {e} {k} r =
       let x : repeat e k (nameOf i (valueAt (formatOf i) s p)) ≡ record { number = e; context = k; detail1 = p + 4; detail2 = length (textAt s p) } = rw (name-stands i (h .stands) .value) in
       r .is ∙ ap (λ (w : Wrong). Refused (refusal w (c .place) (c .left))) (sym x)
@@ -55,13 +56,16 @@ module _ {t : Table} {s : List ℕ} {p : ℕ} (h : Placed (formatIn t) s p) {c :
   pub told-field : t ≡ Fields → Repeated s p c refusals.duplicateStructField 0 q → RepeatTold t s p c q
   told-field e r = rw e (record { is = repeat-told StructField (rw e at h) r })
 
-  pub told-method : {i : Item} → t ≡ Methods i → Repeated s p c refusals.duplicateInterfaceMethod 0 q → RepeatTold t s p c q
+  pub told-method : {i : Item} → t ≡ Methods i → Repeated s p c refusals.duplicateInterfaceMethod 0 q
+      → RepeatTold t s p c q
   told-method {i} e r = rw e (record { is = repeat-told i (rw e at h) r })
 
-  pub told-identity : {x : ℕ} → t ≡ Identities → PackageIs s p x → Repeated s p c refusals.duplicateRuntimeStructField (x + 4) q → RepeatTold t s p c q
+  pub told-identity : {x : ℕ} → t ≡ Identities → PackageIs s p x
+      → Repeated s p c refusals.duplicateRuntimeStructField (x + 4) q → RepeatTold t s p c q
   told-identity {x} e g r = rw e (record { is = go (rw e at h) })
     where
-      go : Placed (formatIn Identities) s p → q ≡ Refused (refusal (wrongIn Identities (valueAt (formatIn Identities) s p)) (c .place) (c .left))
+      go : Placed (formatIn Identities) s p
+          → q ≡ Refused (refusal (wrongIn Identities (valueAt (formatIn Identities) s p)) (c .place) (c .left))
       go h =
           let y : start (identity (valueAt (formatIn Identities) s p) .0) ≡ x + 4 = ap start (runtime-stands (h .stands) .value) ∙ rw (g .is) in
           repeat-told RuntimeField h (rw (← y) at r)
@@ -82,7 +86,8 @@ module _ {s : List ℕ} {p : ℕ} (h : Placed structField s p) {b : Bool} (w : B
   unfolding pick
   charge-none e = record { asks = rw (blank-is, e) asks-none }
 
-  pub charge-one : {c : Cursor} {n : ℕ} {y : Step} → b ≡ false → WordIs s p n → Paid refusals.structFieldKey n c y → Charged Fields s p c y
+  pub charge-one : {c : Cursor} {n : ℕ} {y : Step} → b ≡ false → WordIs s p n → Paid refusals.structFieldKey n c y
+      → Charged Fields s p c y
   unfolding pick
   charge-one e k g = record { asks = rw (blank-is, e, name-content StructField (h .stands), text-length (item-name StructField h) k) (paid-asks g) }
 
@@ -115,21 +120,25 @@ module _ {t : Table} {s : List ℕ} {from n first : ℕ} {c₀ : Cursor} where
 
       -- a turn: the charge, and then whether the item is the first repeat
       module _ {y : Step} (a : Charged t s p c y) where
-        pub judging-poor : {x : Refusal} → y ≡ Refused x → Asks (over (tableAsks t) [] (itemsAt (formatIn t) n s from)) c₀ y
+        pub judging-poor : {x : Refusal} → y ≡ Refused x
+            → Asks (over (tableAsks t) [] (itemsAt (formatIn t) n s from)) c₀ y
         unfolding tableAsks
         judging-poor {x} e = rw e (asking-not h (l .asked) (asks-not _ (rw e at (a .asks))) refl)
 
         module _ (f : FirstRepeat (keysAt t s from) n first) {d : Cursor} (e : y ≡ Taken d) where
-          repeats-is : {b : Bool} → repeatAt (keysAt t s from) i ≡ b → repeats t (itemsAt (formatIn t) i s from) (valueAt (formatIn t) s p) ≡ b
+          repeats-is : {b : Bool} → repeatAt (keysAt t s from) i ≡ b
+              → repeats t (itemsAt (formatIn t) i s from) (valueAt (formatIn t) s p) ≡ b
           repeats-is r = sym (repeat-is (walking-stands h (l .asked .walk))) ∙ r
 
-          pub judging-repeat : {q : Step} → i ≡ first → RepeatTold t s p d q → Asks (over (tableAsks t) [] (itemsAt (formatIn t) n s from)) c₀ q
+          pub judging-repeat : {q : Step} → i ≡ first → RepeatTold t s p d q
+              → Asks (over (tableAsks t) [] (itemsAt (formatIn t) n s from)) c₀ q
           unfolding tableAsks
           judging-repeat k r =
               let z : repeatAt (keysAt t s from) i ≡ true = rw k (f .found (omega arith)) in
               rw (r .is) (asking-not h (l .asked) (asks-then _ (rw e at (a .asks)) (refuse-yes _ (repeats-is z) refl)) refl)
 
-          pub judging-more : {z : ℕ} → (i ≡ first → ⊥) → Past (formatIn t) s p z → Judging t s from n first c₀ z (i + 1) d
+          pub judging-more : {z : ℕ} → (i ≡ first → ⊥) → Past (formatIn t) s p z
+              → Judging t s from n first c₀ z (i + 1) d
           unfolding tableAsks
           judging-more {z} k w =
               let j : i < first = omega (arith, l .below) in

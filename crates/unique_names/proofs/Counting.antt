@@ -42,7 +42,8 @@ module _ {s : List ℕ} {from n : ℕ} where
     pub counting-room : at + 4 ≤ length s
     counting-room = omega (arith, counting-text .room)
 
-    pub counting-more : {z w i j : ℕ} {q : Bool} → BlankIs s at q → i ≡ pick q 0 1 → WordIs s at w → j ≡ pick q 0 w → Past structField s at z → Counting s from n z (k - 1) (m + i) (b + j)
+    pub counting-more : {z w i j : ℕ} {q : Bool} → BlankIs s at q → i ≡ pick q 0 1 → WordIs s at w → j ≡ pick q 0 w
+        → Past structField s at z → Counting s from n z (k - 1) (m + i) (b + j)
     unfolding named price pick
     counting-more {z} {w} {i} {j} {q} e x g y p =
         record {

@@ -38,10 +38,13 @@ module _ (set : Settings) {s : List ℕ} {from n m z : ℕ} {c : Cursor} {y : St
   index-is : fieldIndex set (map fieldName (itemsAt structField n s from)) ≡ pay refusals.structFieldIndex (m * z) ∷ over (tableAsks Fields) [] (itemsAt structField n s from)
   index-is = rw (i .is, j, keys-over (itemsAt structField n s from))
 
-  pub index-poor : {x : Refusal} → y ≡ Refused x → Asks (fieldIndex set (map fieldName (itemsAt structField n s from))) c y
+  pub index-poor : {x : Refusal} → y ≡ Refused x
+      → Asks (fieldIndex set (map fieldName (itemsAt structField n s from))) c y
   index-poor e = rw index-is (asks-poor p e)
 
-  pub index-then : {d : Cursor} {q : Step} → y ≡ Taken d → Asks (over (tableAsks Fields) [] (itemsAt structField n s from)) d q → Asks (fieldIndex set (map fieldName (itemsAt structField n s from))) c q
+  pub index-then : {d : Cursor} {q : Step} → y ≡ Taken d
+      → Asks (over (tableAsks Fields) [] (itemsAt structField n s from)) d q
+      → Asks (fieldIndex set (map fieldName (itemsAt structField n s from))) c q
   index-then e a = rw index-is (asks-paid p e a)
 
 -- ---- 17
@@ -49,10 +52,13 @@ module _ (set : Settings) (i : Item) {s : List ℕ} {from n z : ℕ} {c : Cursor
   method-set-is : methodSet set (namesOf i (itemsAt (formatOf i) n s from)) ≡ pay refusals.interfaceMethodSet (n * (2 * z)) ∷ over (tableAsks (Methods i)) [] (itemsAt (formatOf i) n s from)
   method-set-is = rw (j, names-map i (itemsAt (formatOf i) n s from), map-length (nameOf i) (itemsAt (formatOf i) n s from), items-length (formatOf i) n s from, names-over i (itemsAt (formatOf i) n s from))
 
-  pub method-set-poor : {x : Refusal} → y ≡ Refused x → Asks (methodSet set (namesOf i (itemsAt (formatOf i) n s from))) c y
+  pub method-set-poor : {x : Refusal} → y ≡ Refused x
+      → Asks (methodSet set (namesOf i (itemsAt (formatOf i) n s from))) c y
   method-set-poor e = rw method-set-is (asks-poor p e)
 
-  pub method-set-then : {d : Cursor} {q : Step} → y ≡ Taken d → Asks (over (tableAsks (Methods i)) [] (itemsAt (formatOf i) n s from)) d q → Asks (methodSet set (namesOf i (itemsAt (formatOf i) n s from))) c q
+  pub method-set-then : {d : Cursor} {q : Step} → y ≡ Taken d
+      → Asks (over (tableAsks (Methods i)) [] (itemsAt (formatOf i) n s from)) d q
+      → Asks (methodSet set (namesOf i (itemsAt (formatOf i) n s from))) c q
   method-set-then e a = rw method-set-is (asks-paid p e a)
 
 -- ---- 19
@@ -60,16 +66,20 @@ module _ (set : Settings) {s : List ℕ} {from n z : ℕ} {c : Cursor} {y : Step
   field-set-is : fieldSet set (map identity (itemsAt runtimeField n s from)) ≡ pay refusals.runtimeStructFieldSet (n * (2 * z)) ∷ over (tableAsks Identities) [] (itemsAt runtimeField n s from)
   field-set-is = rw (j, map-length identity (itemsAt runtimeField n s from), items-length runtimeField n s from, identities-over (itemsAt runtimeField n s from))
 
-  pub field-set-poor : {x : Refusal} → y ≡ Refused x → Asks (fieldSet set (map identity (itemsAt runtimeField n s from))) c y
+  pub field-set-poor : {x : Refusal} → y ≡ Refused x
+      → Asks (fieldSet set (map identity (itemsAt runtimeField n s from))) c y
   field-set-poor e = rw field-set-is (asks-poor p e)
 
-  pub field-set-then : {d : Cursor} {q : Step} → y ≡ Taken d → Asks (over (tableAsks Identities) [] (itemsAt runtimeField n s from)) d q → Asks (fieldSet set (map identity (itemsAt runtimeField n s from))) c q
+  pub field-set-then : {d : Cursor} {q : Step} → y ≡ Taken d
+      → Asks (over (tableAsks Identities) [] (itemsAt runtimeField n s from)) d q
+      → Asks (fieldSet set (map identity (itemsAt runtimeField n s from))) c q
   field-set-then e a = rw field-set-is (asks-paid p e a)
 
 -- ---- 18
 
 -- the names seen after n methods are theirs
-seen-methods : (x : List ℕ) (n : ℕ) (s : List ℕ) (from : ℕ) → among x (seenAt n s from) ≡ among x (contents NamedMethod (itemsAt method n s from))
+seen-methods : (x : List ℕ) (n : ℕ) (s : List ℕ) (from : ℕ)
+    → among x (seenAt n s from) ≡ among x (contents NamedMethod (itemsAt method n s from))
 unfolding seenAt among itemsAt
 seen-methods x zero s from = refl
 seen-methods x (suc n) s from =
@@ -77,7 +87,8 @@ seen-methods x (suc n) s from =
     ap (λ b. pick (same x (content (methodName v))) true b) (seen-methods x n s from)
     ∙ sym (ap (λ vs. among x (contents NamedMethod vs)) (items-snoc method n s from) ∙ contents-snoc NamedMethod x (itemsAt method n s from) v)
 
-pub method-repeat : (n : ℕ) (s : List ℕ) (from : ℕ) → among (content (methodName (valueAt method s (lastAt method n s from)))) (seenAt n s from) ≡ repeatAt (keysAt (Methods NamedMethod) s from) n
+pub method-repeat : (n : ℕ) (s : List ℕ) (from : ℕ)
+    → among (content (methodName (valueAt method s (lastAt method n s from)))) (seenAt n s from) ≡ repeatAt (keysAt (Methods NamedMethod) s from) n
 unfolding repeats pick
 method-repeat n s from = seen-methods _ n s from ∙ sym (plain-keys (keyOf (Methods NamedMethod)) (λ v. refl) (valueAt method s (lastAt method n s from)) (itemsAt method n s from)) ∙ sym (repeats-at (Methods NamedMethod) s from n)
 
@@ -89,10 +100,12 @@ module _ {s : List ℕ} {from n : ℕ} {r r₁ : Step} where
   method-skipped e k = record { stays = λ y i. sym k; asks = λ c d i j. apart i e }
 
   module _ {c d : Cursor} (h : r ≡ Taken c) (k : r₁ ≡ Taken d) where
-    method-asked : {q : Step} → Asks (methodAsks (seenAt n s from) (valueAt method s (c .place))) d q → MethodAsked s from n r r₁ q
+    method-asked : {q : Step} → Asks (methodAsks (seenAt n s from) (valueAt method s (c .place))) d q
+        → MethodAsked s from n r r₁ q
     method-asked {q} a = record { stays = λ y i. apart k i; asks = λ c′ d′ i j. go c′ d′ (cc) (cc) }
       where
-        go : (c′ d′ : Cursor) → c′ ≡ c → d′ ≡ d → Asks (methodAsks (seenAt n s from) (valueAt method s (c′ .place))) d′ q
+        go : (c′ d′ : Cursor) → c′ ≡ c → d′ ≡ d
+            → Asks (methodAsks (seenAt n s from) (valueAt method s (c′ .place))) d′ q
         go c′ d′ x y = rw (x, y) a
 
     module _ (b : MethodBehind s from n r r₁) where
@@ -103,7 +116,8 @@ module _ {s : List ℕ} {from n : ℕ} {r r₁ : Step} where
         method-among : among (content (methodName (valueAt method s (c .place)))) (seenAt n s from) ≡ z
         method-among = seen-methods _ n s from ∙ sym (plain-keys (keyOf (Methods NamedMethod)) (λ v. refl) (valueAt method s (c .place)) (itemsAt method n s from)) ∙ sym (w .is)
 
-        pub method-again : {q : Step} → z ≡ true → Repeated s (c .place) d refusals.duplicateNamedMethod 0 q → MethodAsked s from n r r₁ q
+        pub method-again : {q : Step} → z ≡ true → Repeated s (c .place) d refusals.duplicateNamedMethod 0 q
+            → MethodAsked s from n r r₁ q
         method-again e t = method-asked (refuse-yes _ (method-among ∙ e) (repeat-told NamedMethod (method-at .here) t))
 
         pub method-new : z ≡ false → MethodAsked s from n r r₁ (Taken d)

@@ -36,7 +36,8 @@ unseen : (s : List ℕ) (from : ℕ) → seenAt 0 s from ≡ []
 unfolding seenAt
 unseen s from = refl
 
-seen-more : (i : ℕ) (s : List ℕ) (from : ℕ) {p : ℕ} (w : Value) → p ≡ lastAt method i s from → valueAt method s p ≡ first w → alsoSeen (seenAt i s from) w ≡ seenAt (i + 1) s from
+seen-more : (i : ℕ) (s : List ℕ) (from : ℕ) {p : ℕ} (w : Value) → p ≡ lastAt method i s from
+    → valueAt method s p ≡ first w → alsoSeen (seenAt i s from) w ≡ seenAt (i + 1) s from
 unfolding seenAt
 seen-more i s from w e x = rw (add-one i, ← e, x)
 
@@ -61,13 +62,17 @@ module _ {s t₀ : List ℕ} {n : ℕ} where
         long = refl;
       }
 
-method-follows : {s : List ℕ} {from i : ℕ} {r r₁ q : Step} → MethodAsked s from i r r₁ q → Follows method (methodAsks (seenAt i s from)) s r r₁ q
+method-follows : {s : List ℕ} {from i : ℕ} {r r₁ q : Step} → MethodAsked s from i r r₁ q
+    → Follows method (methodAsks (seenAt i s from)) s r r₁ q
 method-follows {s} {from} {i} {r} {r₁} {q} a = record { stays = a .stays; asks = λ c d v e j w. go c d v (stand w .value) (a .asks c d e j) }
   where
-    go : (c d : Cursor) (v : Value) → valueAt method s (c .place) ≡ v → Asks (methodAsks (seenAt i s from) (valueAt method s (c .place))) d q → Asks (methodAsks (seenAt i s from) v) d q
+    go : (c d : Cursor) (v : Value) → valueAt method s (c .place) ≡ v
+        → Asks (methodAsks (seenAt i s from) (valueAt method s (c .place))) d q
+        → Asks (methodAsks (seenAt i s from) v) d q
     go c d v e b = rw e at b
 
-chain-next : {S : Type 0} (f : S → Format) (u : S → Value → S) (x : S) (n : ℕ) → 0 < n → chain f u x n ≡ seq (f x) (λ v. chain f u (u x v) (n - 1))
+chain-next : {S : Type 0} (f : S → Format) (u : S → Value → S) (x : S) (n : ℕ) → 0 < n
+    → chain f u x n ≡ seq (f x) (λ v. chain f u (u x v) (n - 1))
 unfolding chain
 chain-next f u x zero h = absurd (omega arith)
 chain-next f u x (suc n) h = let e : suc n - 1 ≡ n = omega arith in rw e
@@ -85,7 +90,8 @@ unfolding clear pick
 passed-no true w h = absurd h
 passed-no false w h = refl
 
-method-read : {seen : List (List ℕ)} {s : List ℕ} {p : ℕ} {w : Value} {q : ℕ} → Ends (trace (newMethod seen) s p) w q → MethodRead seen s p w q
+method-read : {seen : List (List ℕ)} {s : List ℕ} {p : ℕ} {w : Value} {q : ℕ} → Ends (trace (newMethod seen) s p) w q
+    → MethodRead seen s p w q
 unfolding newMethod trace traceLeaf
 method-read {seen} {s} {p} {w} {q} h =
     let b = seq-ends method (λ v. leaf (ask (methodAsks seen v))) s p h in
@@ -106,8 +112,10 @@ module _ {s t₀ : List ℕ} {r₀ : Step} {n from : ℕ} {t : List ℕ} {r : St
       pub methods-more : {d : Cursor} → q ≡ Taken d → length t₁ ≡ length t → Methods s t₀ r₀ n from t₁ q (i + 1)
       methods-more {d} e j = go r q (methods-read .reads) (methods-read .ready) (l .here) (l .chained .comes) e
         where
-          go : (r q : Step) → Reads (newMethod (seenAt i s from)) s r t q t₁ → Ready s q → ((c : Cursor) → r ≡ Taken c → c .place ≡ lastAt method i s from)
-              → ComesTo (chain newMethod alsoSeen [] n) (chain newMethod alsoSeen (seenAt i s from) (n - i)) s r₀ t₀ r t → q ≡ Taken d → Methods s t₀ r₀ n from t₁ q (i + 1)
+          go : (r q : Step) → Reads (newMethod (seenAt i s from)) s r t q t₁ → Ready s q
+              → ((c : Cursor) → r ≡ Taken c → c .place ≡ lastAt method i s from)
+              → ComesTo (chain newMethod alsoSeen [] n) (chain newMethod alsoSeen (seenAt i s from) (n - i)) s r₀ t₀ r t
+              → q ≡ Taken d → Methods s t₀ r₀ n from t₁ q (i + 1)
           go (Taken c) (Taken g) (takes {v = w} y) u v k e =
               let x = method-read (takes-ends y) in
               let p : c .place ≡ lastAt method i s from = v c refl in
@@ -129,7 +137,9 @@ module _ {s t₀ : List ℕ} {r₀ : Step} {n from : ℕ} {t : List ℕ} {r : St
   methods-done h = chained-done (omega arith) (l .chained)
 
 -- where all of them can be read, none repeats one before it
-new-from : (s : List ℕ) (from m i : ℕ) {p : ℕ} {w : Value} {q : ℕ} → p ≡ lastAt method i s from → Ends (trace (chain newMethod alsoSeen (seenAt i s from) m) s p) w q → (k : ℕ) → i ≤ k → k < i + m → repeatAt (keysAt (methodTable NamedMethod) s from) k ≡ false
+new-from : (s : List ℕ) (from m i : ℕ) {p : ℕ} {w : Value} {q : ℕ} → p ≡ lastAt method i s from
+    → Ends (trace (chain newMethod alsoSeen (seenAt i s from) m) s p) w q → (k : ℕ) → i ≤ k → k < i + m
+    → repeatAt (keysAt (methodTable NamedMethod) s from) k ≡ false
 unfolding chain newMethod trace traceLeaf
 new-from s from zero i e h k a b = absurd (omega arith)
 new-from s from (suc m) i {p} {w} e h k a b =
@@ -138,11 +148,14 @@ new-from s from (suc m) i {p} {w} e h k a b =
     let o : x .mid ≡ lastAt method (i + 1) s from = y .next ∙ ap (nextAt method s) e ∙ sym (last-snoc method i s from) ∙ ap (λ j. lastAt method j s from) (sym (add-one i)) in
     go (new-from s from m (i + 1) o (rw (seen-more i s from (first w) e (y .value)) at (x .back)) k) (leb (i + 1) k) (leb→le _ _) (nleb→lt _ _) (sym (method-repeat i s from) ∙ rw (← e, y .value) (y .new))
   where
-    go : (i + 1 ≤ k → k < i + 1 + m → repeatAt (keysAt (methodTable NamedMethod) s from) k ≡ false) → (z : Bool) → (T z → i + 1 ≤ k) → (T (not z) → k < i + 1) → repeatAt (keysAt (methodTable NamedMethod) s from) i ≡ false → repeatAt (keysAt (methodTable NamedMethod) s from) k ≡ false
+    go : (i + 1 ≤ k → k < i + 1 + m → repeatAt (keysAt (methodTable NamedMethod) s from) k ≡ false) → (z : Bool)
+        → (T z → i + 1 ≤ k) → (T (not z) → k < i + 1) → repeatAt (keysAt (methodTable NamedMethod) s from) i ≡ false
+        → repeatAt (keysAt (methodTable NamedMethod) s from) k ≡ false
     go r true u v n = r (u tt) (omega arith)
     go r false u v n = let j : k ≡ i = omega (arith, v tt) in rw j n
 
-pub all-new : (s : List ℕ) (from n : ℕ) {w : Value} {q : ℕ} → Ends (trace (chain newMethod alsoSeen [] n) s from) w q → (k : ℕ) → k < n → repeatAt (keysAt (methodTable NamedMethod) s from) k ≡ false
+pub all-new : (s : List ℕ) (from n : ℕ) {w : Value} {q : ℕ} → Ends (trace (chain newMethod alsoSeen [] n) s from) w q
+    → (k : ℕ) → k < n → repeatAt (keysAt (methodTable NamedMethod) s from) k ≡ false
 all-new s from n {w} {q} h k a =
     let h′ : Ends (trace (chain newMethod alsoSeen (seenAt 0 s from) n) s from) w q = rw (unseen s from) h in
     new-from s from n 0 (sym (items-nil method s from .2)) h′ k (omega arith) (omega arith)

@@ -45,17 +45,20 @@ unfolding among pick
 among-snoc x y [] = refl
 among-snoc x y (z ∷ l) = go (same x z) (same x y) (among-snoc x y l)
   where
-    go : (a b : Bool) → among x (l ++ (y ∷ [])) ≡ pick b true (among x l) → pick a true (among x (l ++ (y ∷ []))) ≡ pick b true (pick a true (among x l))
+    go : (a b : Bool) → among x (l ++ (y ∷ [])) ≡ pick b true (among x l)
+        → pick a true (among x (l ++ (y ∷ []))) ≡ pick b true (pick a true (among x l))
     go true true e = refl
     go true false e = refl
     go false true e = e
     go false false e = e
 
-pub contents-snoc : (i : Item) (x : List ℕ) (before : List Value) (v : Value) → among x (contents i (before ++ (v ∷ []))) ≡ pick (same x (content (nameOf i v))) true (among x (contents i before))
+pub contents-snoc : (i : Item) (x : List ℕ) (before : List Value) (v : Value)
+    → among x (contents i (before ++ (v ∷ []))) ≡ pick (same x (content (nameOf i v))) true (among x (contents i before))
 contents-snoc i x before v = ap (among x) (map-snoc (λ v. content (nameOf i v)) before v) ∙ among-snoc x (content (nameOf i v)) (contents i before)
 
 -- keys without a package are names
-pub plain-keys : (k : Value → Identity) → ((v : Value) → content (k v .0) ≡ []) → (v : Value) (vs : List Value) → amongIdentities (k v) (map k vs) ≡ among (content (k v .1)) (map (λ v. content (k v .1)) vs)
+pub plain-keys : (k : Value → Identity) → ((v : Value) → content (k v .0) ≡ []) → (v : Value) (vs : List Value)
+    → amongIdentities (k v) (map k vs) ≡ among (content (k v .1)) (map (λ v. content (k v .1)) vs)
 unfolding amongIdentities among same pick
 plain-keys k h v [] = refl
 plain-keys k h v (w ∷ vs) = rw (h v, h w, plain-keys k h v vs)
@@ -64,7 +67,8 @@ plain-keys k h v (w ∷ vs) = rw (h v, h w, plain-keys k h v vs)
 abbrev Knows : Item → List (List ℕ) → List Value → Type 0
 Knows i seen before = (x : List ℕ) → among x seen ≡ among x (contents i before)
 
-names-from : (i : Item) (seen : List (List ℕ)) (before vs : List Value) → Knows i seen before → newNames seen (map (nameOf i) vs) ≡ over (tableAsks (Methods i)) before vs
+names-from : (i : Item) (seen : List (List ℕ)) (before vs : List Value) → Knows i seen before
+    → newNames seen (map (nameOf i) vs) ≡ over (tableAsks (Methods i)) before vs
 unfolding over tableAsks repeats newNames among pick
 names-from i seen before [] k = refl
 names-from i seen before (v ∷ vs) k = rw (k (content (nameOf i v)), ← plain-keys (keyOf (Methods i)) (λ v. refl) v before, names-from i (content (nameOf i v) ∷ seen) (before ++ (v ∷ [])) vs more)
@@ -79,7 +83,8 @@ names-over i vs = names-from i [] [] vs (λ x. refl)
 abbrev KnowsNamed : List (List ℕ) → List Value → Type 0
 KnowsNamed seen before = (x : List ℕ) → same x (95 ∷ []) ≡ false → among x seen ≡ among x (contents StructField before)
 
-keys-from : (seen : List (List ℕ)) (before vs : List Value) → KnowsNamed seen before → fieldKeys seen (named (map (nameOf StructField) vs)) ≡ over (tableAsks Fields) before vs
+keys-from : (seen : List (List ℕ)) (before vs : List Value) → KnowsNamed seen before
+    → fieldKeys seen (named (map (nameOf StructField) vs)) ≡ over (tableAsks Fields) before vs
 unfolding over tableAsks repeats fieldKeys named among pick
 keys-from seen before [] k = refl
 keys-from seen before (v ∷ vs) k = go (blank (nameOf StructField v)) refl
@@ -92,7 +97,8 @@ keys-from seen before (v ∷ vs) k = go (blank (nameOf StructField v)) refl
         let o : same x (content (nameOf StructField v)) ≡ false = rw c j in
         k x j ∙ sym (contents-snoc StructField x before v ∙ rw o)
 
-    keep : blank (nameOf StructField v) ≡ false → KnowsNamed (content (nameOf StructField v) ∷ seen) (before ++ (v ∷ []))
+    keep : blank (nameOf StructField v) ≡ false
+        → KnowsNamed (content (nameOf StructField v) ∷ seen) (before ++ (v ∷ []))
     keep e x j = ap (λ b. pick (same x (content (nameOf StructField v))) true b) (k x j) ∙ sym (contents-snoc StructField x before v)
 
     go : (b : Bool) → blank (nameOf StructField v) ≡ b
@@ -115,7 +121,8 @@ unfolding amongIdentities pick
 identities-snoc x y [] = refl
 identities-snoc x y (z ∷ l) = go (same (content (x .1)) (content (z .1))) (same (content (x .0)) (content (z .0))) (same (content (x .1)) (content (y .1))) (same (content (x .0)) (content (y .0))) (identities-snoc x y l)
   where
-    go : (a b c d : Bool) → amongIdentities x (l ++ (y ∷ [])) ≡ pick c (pick d true (amongIdentities x l)) (amongIdentities x l)
+    go : (a b c d : Bool)
+        → amongIdentities x (l ++ (y ∷ [])) ≡ pick c (pick d true (amongIdentities x l)) (amongIdentities x l)
         → pick a (pick b true (amongIdentities x (l ++ (y ∷ [])))) (amongIdentities x (l ++ (y ∷ [])))
         ≡ pick c (pick d true (pick a (pick b true (amongIdentities x l)) (amongIdentities x l))) (pick a (pick b true (amongIdentities x l)) (amongIdentities x l))
     go true true true true e = refl
@@ -128,14 +135,16 @@ identities-snoc x y (z ∷ l) = go (same (content (x .1)) (content (z .1))) (sam
     go false b true false e = e
     go false b false d e = e
 
-identities-from : (seen : List Identity) (before vs : List Value) → KnowsIdentities seen before → newIdentities seen (map identity vs) ≡ over (tableAsks Identities) before vs
+identities-from : (seen : List Identity) (before vs : List Value) → KnowsIdentities seen before
+    → newIdentities seen (map identity vs) ≡ over (tableAsks Identities) before vs
 unfolding over tableAsks repeats newIdentities amongIdentities pick
 identities-from seen before [] k = refl
 identities-from seen before (v ∷ vs) k = go (blank (identity v .1)) refl
     (λ e. identities-from seen (before ++ (v ∷ [])) vs (skip e))
     (λ e. identities-from (identity v ∷ seen) (before ++ (v ∷ [])) vs (keep e))
   where
-    snoc : (x : Identity) → amongIdentities x (map identity (before ++ (v ∷ []))) ≡ amongIdentities x (identity v ∷ map identity before)
+    snoc : (x : Identity)
+        → amongIdentities x (map identity (before ++ (v ∷ []))) ≡ amongIdentities x (identity v ∷ map identity before)
     snoc x = ap (amongIdentities x) (map-snoc identity before v) ∙ identities-snoc x (identity v) (map identity before)
 
     skip : blank (identity v .1) ≡ true → KnowsIdentities seen (before ++ (v ∷ []))

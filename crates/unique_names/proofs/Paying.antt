@@ -42,7 +42,8 @@ one-paid : {k n : ℕ} {c : Cursor} → n ≤ c .left → Asks (pay k n ∷ []) 
 unfolding traceAsk settle
 one-paid {k} {n} {c} h = passes {d = spentAt c n} (pay-yes (c .left) k n (c .place) (traceAsk [] (c .place)) h) refl
 
-charged : (t : Table) (v : Value) {c : Cursor} → priceOf t v ≤ c .left → Asks (charges t v) c (Taken (spentAt c (priceOf t v)))
+charged : (t : Table) (v : Value) {c : Cursor} → priceOf t v ≤ c .left
+    → Asks (charges t v) c (Taken (spentAt c (priceOf t v)))
 unfolding pick
 charged Fields v {c} h = go (blank (nameOf StructField v)) h
   where
@@ -54,7 +55,9 @@ charged (Methods i) v h = nothing-paid
 charged Identities v h = nothing-paid
 
 -- the m items after the first i
-rest-paid : (t : Table) (s : List ℕ) (from m i : ℕ) (c : Cursor) → ((k : ℕ) → k < i + m → repeatAt (keysAt t s from) k ≡ false) → price t (itemsAt (formatIn t) m s (lastAt (formatIn t) i s from)) ≤ c .left
+rest-paid : (t : Table) (s : List ℕ) (from m i : ℕ) (c : Cursor)
+    → ((k : ℕ) → k < i + m → repeatAt (keysAt t s from) k ≡ false)
+    → price t (itemsAt (formatIn t) m s (lastAt (formatIn t) i s from)) ≤ c .left
     → Asks (over (tableAsks t) (itemsAt (formatIn t) i s from) (itemsAt (formatIn t) m s (lastAt (formatIn t) i s from))) c (Taken (spentAt c (price t (itemsAt (formatIn t) m s (lastAt (formatIn t) i s from)))))
 unfolding over itemsAt price tableAsks
 rest-paid t s from zero i c h l = nothing-paid
@@ -70,7 +73,9 @@ rest-paid t s from (suc m) i c h l =
     let e : c .left - (priceOf t v + price t u) ≡ c .left - priceOf t v - price t u = omega arith in
     rw e (asks-then _ x y)
 
-pub all-paid : {t : Table} {s : List ℕ} {from n first q : ℕ} {c : Cursor} → FirstRepeat (keysAt t s from) n first → n ≤ first → Cost t s from n q → q ≤ c .left → Asks (over (tableAsks t) [] (itemsAt (formatIn t) n s from)) c (Taken (spentAt c q))
+pub all-paid : {t : Table} {s : List ℕ} {from n first q : ℕ} {c : Cursor} → FirstRepeat (keysAt t s from) n first
+    → n ≤ first → Cost t s from n q → q ≤ c .left
+    → Asks (over (tableAsks t) [] (itemsAt (formatIn t) n s from)) c (Taken (spentAt c q))
 all-paid {t} {s} {from} {n} {first} {q} {c} f h e l =
     let z = items-nil (formatIn t) s from in
     rw (e .is) (rw (z .0, z .2) at (rest-paid t s from n 0 c (λ k d. f .new k (omega arith)) (rw (z .2) (rw (e .is) at l))))

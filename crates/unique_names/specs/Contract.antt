@@ -26,7 +26,8 @@ use Rattle.unique_names.specs.Asking.{charges, price, wrongIn, seenAt, m
 
 -- In a second pass the questions at r₁ on the entries of a list that was read at r are not refused.
 pub record ListAccepted (again : Bool) (f : Format) (l : List Value → List Ask) (s : List ℕ) (r r₁ : Step) : Type 0 where
-  pub never : (c d : Cursor) → r ≡ Taken c → r₁ ≡ Taken d → AsksAccepted again (l (itemsAt f (little (part s (c .place) 4)) s (c .place + 4))) d
+  pub never : (c d : Cursor) → r ≡ Taken c → r₁ ≡ Taken d
+      → AsksAccepted again (l (itemsAt f (little (part s (c .place) 4)) s (c .place + 4))) d
 
 -- The charge, at c, of the key of the item at p.
 pub record Charged (t : Table) (s : List ℕ) (p : ℕ) (c : Cursor) (q : Step) : Type 0 where
@@ -62,4 +63,5 @@ pub record MethodBehind (s : List ℕ) (from n : ℕ) (r r₁ : Step) : Type 0 w
 
 pub record MethodAsked (s : List ℕ) (from n : ℕ) (r r₁ q : Step) : Type 0 where
   pub stays : (x : Refusal) → r₁ ≡ Refused x → q ≡ r₁
-  pub asks : (c d : Cursor) → r ≡ Taken c → r₁ ≡ Taken d → Asks (methodAsks (seenAt n s from) (valueAt method s (c .place))) d q
+  pub asks : (c d : Cursor) → r ≡ Taken c → r₁ ≡ Taken d
+      → Asks (methodAsks (seenAt n s from) (valueAt method s (c .place))) d q

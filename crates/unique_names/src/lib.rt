@@ -1,6 +1,6 @@
 // Questions on the names of a list that was read: is each new among those before it, and what does its key cost?
-// Ports build_struct_field_index, validate_unique_interface_method_names, insert_named_method, and the check of runtime struct fields of
-// serialize.rs.
+// Ports build_struct_field_index, validate_unique_interface_method_names, insert_named_method, and the check of runtime
+// struct fields of serialize.rs.
 ghost use mathlib.Core.Path.{_≡_};
 ghost use Prim.Native.Nat.{_≤_, _<_};
 ghost use mathlib.Core.List.{[], map};
@@ -88,8 +88,8 @@ fn charge_key(s: &[u8], table: Table, p: usize, c: Cursor) -> Step
     }
 }
 
-// The questions on n items, one by one: an item's key is charged just before it is compared, and item `first` is the first that
-// repeats another.
+// The questions on n items, one by one: an item's key is charged just before it is compared, and item `first` is the
+// first that repeats another.
 fn judged(s: &[u8], table: Table, from: usize, n: usize, first: usize, c: Cursor) -> Step
     requires { ⌜ (Items (formatIn table) n (now s) from) × (FirstRepeat (keysAt table (now s) from) n first) ⌝ }
     ensures { λ q. ⌜ Asks (over (tableAsks table) [] (itemsAt (formatIn table) n (now (s .entry)) from)) c q ⌝ }
@@ -112,8 +112,8 @@ fn judged(s: &[u8], table: Table, from: usize, n: usize, first: usize, c: Cursor
     Step::Taken(here)
 }
 
-// The questions on n items whose keys cost `cost` in all, item `first` being the first that repeats another: at once where there is none
-// and all can be paid.
+// The questions on n items whose keys cost `cost` in all, item `first` being the first that repeats another: at once
+// where there is none and all can be paid.
 fn settled(
     s: &[u8],
     table: Table,
@@ -123,7 +123,8 @@ fn settled(
     cost: u64,
     c: Cursor,
 ) -> Step
-    requires { ⌜ (Items (formatIn table) n (now s) from) × (FirstRepeat (keysAt table (now s) from) n first) × (Cost table (now s) from n cost) ⌝ }
+    requires { ⌜ (Items (formatIn table) n (now s) from) × (FirstRepeat (keysAt table (now s) from) n first)
+        × (Cost table (now s) from n cost) ⌝ }
     ensures { λ q. ⌜ Asks (over (tableAsks table) [] (itemsAt (formatIn table) n (now (s .entry)) from)) c q ⌝ }
 {
     if first < n {
@@ -150,7 +151,8 @@ fn distinct(
     again: bool,
     c: Cursor,
 ) -> Step
-    requires { ⌜ (Items (formatIn table) n (now s) from) × (Cost table (now s) from n cost) × (AsksAccepted again (over (tableAsks table) [] (itemsAt (formatIn table) n (now s) from)) c) ⌝ }
+    requires { ⌜ (Items (formatIn table) n (now s) from) × (Cost table (now s) from n cost)
+        × (AsksAccepted again (over (tableAsks table) [] (itemsAt (formatIn table) n (now s) from)) c) ⌝ }
     ensures { λ q. ⌜ Asks (over (tableAsks table) [] (itemsAt (formatIn table) n (now (s .entry)) from)) c q ⌝ }
 {
     if again {
@@ -194,8 +196,10 @@ fn named(s: &[u8], from: usize, n: usize) -> Tally
 
 // The index of the fields whose list was read at r, asked at r1.
 pub fn field_index(s: &[u8], set: &Settings, r: Step, r1: Step, again: bool) -> Step
-    requires { ⌜ (ListBehind structField (now s) r r1) × (ListAccepted again structField (λ vs. fieldIndex (settingsOf (now set)) (map fieldName vs)) (now s) r r1) ⌝ }
-    ensures { λ q. ⌜ ListAsked structField (λ vs. fieldIndex (settingsOf (now (set .entry))) (map fieldName vs)) (now (s .entry)) r r1 q ⌝ }
+    requires { ⌜ (ListBehind structField (now s) r r1)
+        × (ListAccepted again structField (λ vs. fieldIndex (settingsOf (now set)) (map fieldName vs)) (now s) r r1) ⌝ }
+    ensures { λ q. ⌜ ListAsked structField (λ vs. fieldIndex (settingsOf (now (set .entry))) (map fieldName vs))
+        (now (s .entry)) r r1 q ⌝ }
 {
     let Step::Taken(d) = r1 else {
         return r1;
@@ -221,8 +225,11 @@ pub fn field_index(s: &[u8], set: &Settings, r: Step, r1: Step, again: bool) -> 
 
 // The set of the names whose list was read at r, asked at r1.
 pub fn method_set(s: &[u8], set: &Settings, item: Item, r: Step, r1: Step, again: bool) -> Step
-    requires { ⌜ (ListBehind (formatOf item) (now s) r r1) × (ListAccepted again (formatOf item) (λ vs. methodSet (settingsOf (now set)) (namesOf item vs)) (now s) r r1) ⌝ }
-    ensures { λ q. ⌜ ListAsked (formatOf item) (λ vs. methodSet (settingsOf (now (set .entry))) (namesOf item vs)) (now (s .entry)) r r1 q ⌝ }
+    requires { ⌜ (ListBehind (formatOf item) (now s) r r1)
+        × (ListAccepted again (formatOf item) (λ vs. methodSet (settingsOf (now set)) (namesOf item vs)) (now s) r
+        r1) ⌝ }
+    ensures { λ q. ⌜ ListAsked (formatOf item) (λ vs. methodSet (settingsOf (now (set .entry))) (namesOf item vs))
+        (now (s .entry)) r r1 q ⌝ }
 {
     let Step::Taken(d) = r1 else {
         return r1;
@@ -264,8 +271,10 @@ pub fn new_method(s: &[u8], from: usize, n: usize, r: Step, r1: Step) -> Step
 
 // The set of the fields whose list was read at r, asked at r1; "_" is charged too.
 pub fn field_set(s: &[u8], set: &Settings, r: Step, r1: Step, again: bool) -> Step
-    requires { ⌜ (ListBehind runtimeField (now s) r r1) × (ListAccepted again runtimeField (λ vs. fieldSet (settingsOf (now set)) (map identity vs)) (now s) r r1) ⌝ }
-    ensures { λ q. ⌜ ListAsked runtimeField (λ vs. fieldSet (settingsOf (now (set .entry))) (map identity vs)) (now (s .entry)) r r1 q ⌝ }
+    requires { ⌜ (ListBehind runtimeField (now s) r r1)
+        × (ListAccepted again runtimeField (λ vs. fieldSet (settingsOf (now set)) (map identity vs)) (now s) r r1) ⌝ }
+    ensures { λ q. ⌜ ListAsked runtimeField (λ vs. fieldSet (settingsOf (now (set .entry))) (map identity vs))
+        (now (s .entry)) r r1 q ⌝ }
 {
     let Step::Taken(d) = r1 else {
         return r1;

@@ -58,7 +58,8 @@ follows-of f h none one two three =
       fourth = λ x. flip-asked f h (three x);
     }
 
-pub pair-of : {c1 b x p q r : ℕ} → x ≡ b - 0x20 → (b / 2 ≡ 0x60 → p ≡ 255) → (c1 ≡ 0xe0 → q ≡ 255 - x) → (c1 ≡ 0xed → r ≡ x) → bitOr (bitOr p q) r < 128 → Pair c1 b
+pub pair-of : {c1 b x p q r : ℕ} → x ≡ b - 0x20 → (b / 2 ≡ 0x60 → p ≡ 255) → (c1 ≡ 0xe0 → q ≡ 255 - x)
+    → (c1 ≡ 0xed → r ≡ x) → bitOr (bitOr p q) r < 128 → Pair c1 b
 pair-of {c1} {b} {x} {p} {q} {r} e f g i h =
     let pq : bitOr p q < 128 = or-low-l (bitOr p q) r h in
     let lp : p < 128 = or-low-l p q pq in
@@ -80,7 +81,8 @@ near-two {q = q} {p = p} e1 f g h c3 c2 i j k =
       f0 = λ y. absurd (omega arith);
     }
 
-pub near-three : {c2 c1 b x1 x2 q p : ℕ} → x1 ≡ c1 - 0x40 → x2 ≡ c2 - 0x60 → Flipped b (bitOr x1 x2) q → (p < 128 → Pair c1 b)
+pub near-three : {c2 c1 b x1 x2 q p : ℕ} → x1 ≡ c1 - 0x40 → x2 ≡ c2 - 0x60 → Flipped b (bitOr x1 x2) q
+    → (p < 128 → Pair c1 b)
     → bitOr q p < 128 → (c3 : ℕ) → c3 < 0xf0 → c1 < 0xf0 → Near c3 c2 c1 b
 near-three {x1 = x1} {x2 = x2} {q = q} {p = p} e1 e2 f g h c3 i j =
     record {
@@ -90,7 +92,8 @@ near-three {x1 = x1} {x2 = x2} {q = q} {p = p} e1 e2 f g h c3 i j =
       f0 = λ y. absurd (omega arith);
     }
 
-pub near-four : {c3 c2 c1 b x1 x2 x3 q p y r : ℕ} → x1 ≡ c1 - 0x40 → x2 ≡ c2 - 0x60 → x3 ≡ c3 - 0x70 → Flipped b (bitOr (bitOr x1 x2) x3) q
+pub near-four : {c3 c2 c1 b x1 x2 x3 q p y r : ℕ} → x1 ≡ c1 - 0x40 → x2 ≡ c2 - 0x60 → x3 ≡ c3 - 0x70
+    → Flipped b (bitOr (bitOr x1 x2) x3) q
     → (p < 128 → Pair c1 b) → y ≡ b - 0x10 → (c1 ≡ 0xf0 → r ≡ 255 - y) → bitOr (bitOr q p) r < 128 → Near c3 c2 c1 b
 near-four {x1 = x1} {x2 = x2} {x3 = x3} {q = q} {p = p} {r = r} e1 e2 e3 f g e i h =
     let qp : bitOr q p < 128 = or-low-l (bitOr q p) r h in
@@ -104,7 +107,8 @@ near-four {x1 = x1} {x2 = x2} {x3 = x3} {q = q} {p = p} {r = r} e1 e2 e3 f g e i
       f0 = λ z. omega (arith, i z);
     }
 
-pub stands-of : {c3 c2 c1 b q y r z : ℕ} → (q < 128 → Near c3 c2 c1 b) → y ≡ b - 0x10 → (c1 ≡ 0xf4 → r ≡ y) → z ≡ b - 0x75 → bitOr (bitOr q r) z < 128 → Stands c3 c2 c1 b
+pub stands-of : {c3 c2 c1 b q y r z : ℕ} → (q < 128 → Near c3 c2 c1 b) → y ≡ b - 0x10 → (c1 ≡ 0xf4 → r ≡ y)
+    → z ≡ b - 0x75 → bitOr (bitOr q r) z < 128 → Stands c3 c2 c1 b
 stands-of {q = q} {r = r} {z = z} f e i g h =
     let qr : bitOr q r < 128 = or-low-l (bitOr q r) z h in
     let lr : r < 128 = or-low-r q r qr in
@@ -141,7 +145,8 @@ trailingIn-one s i = omega arith
 pub trailingIn-more : (s : List ℕ) (i w : ℕ) → trailingIn s i (w + 1) ≡ trailingIn s i w + isTrailing (getD s (i + w) 0)
 trailingIn-more s i w = omega (arith, trailingIn-add s i w 1, trailingIn-one s (i + w))
 
-pub trailingIn-cons : (s : List ℕ) (i to : ℕ) → i < to → trailingIn s i (to - i) ≡ isTrailing (getD s i 0) + trailingIn s (i + 1) (to - (i + 1))
+pub trailingIn-cons : (s : List ℕ) (i to : ℕ) → i < to
+    → trailingIn s i (to - i) ≡ isTrailing (getD s i 0) + trailingIn s (i + 1) (to - (i + 1))
 trailingIn-cons s i to h = let e : to - i ≡ suc (to - (i + 1)) = omega arith in rw (e, add-one i)
 
 pub trailingIn-few : (s : List ℕ) (i w : ℕ) → trailingIn s i w ≤ w
@@ -168,7 +173,8 @@ module _ {s : List ℕ} {from : ℕ} where
   pub testing-start : Testing s from 0 0 0
   testing-start = record { within = omega arith; all = λ h. standing-none (omega arith); count = refl; few = omega arith }
 
-  pub testing-more : {m n k w j : ℕ} → k < 240 → Testing s from m n k → (w < 128 → StandsAt s (from + k)) → j ≡ isTrailing (getD s (from + k) 0) → Testing s from (bitOr m w) (n + j) (k + 1)
+  pub testing-more : {m n k w j : ℕ} → k < 240 → Testing s from m n k → (w < 128 → StandsAt s (from + k))
+      → j ≡ isTrailing (getD s (from + k) 0) → Testing s from (bitOr m w) (n + j) (k + 1)
   testing-more {m} {n} {k} {w} {j} h t f e =
       record {
         within = omega arith;
@@ -177,7 +183,8 @@ module _ {s : List ℕ} {from : ℕ} where
         few = omega (arith, t .few, trailing-few (getD s (from + k) 0));
       }
 
-  pub testing-done : {m n k : ℕ} → 240 ≤ k → Testing s from m n k → Tests s from (record { width = 240; wrong = m; trailing = n })
+  pub testing-done : {m n k : ℕ} → 240 ≤ k → Testing s from m n k
+      → Tests s from (record { width = 240; wrong = m; trailing = n })
   testing-done {m} {n} {k} h t =
       let e : k ≡ 240 = omega (arith, t .within) in
       record {
@@ -197,7 +204,8 @@ module _ {s : List ℕ} {from : ℕ} where
   pub rising-start : Rising s from 0 0
   rising-start = record { within = omega arith; each = λ j x y. absurd (omega arith) }
 
-  pub rising-more : {m k q : ℕ} → k < 240 → m ≤ q → getD s (from + k) 0 ≤ q → Rising s from m k → Rising s from q (k + 1)
+  pub rising-more : {m k q : ℕ} → k < 240 → m ≤ q → getD s (from + k) 0 ≤ q → Rising s from m k
+      → Rising s from q (k + 1)
   rising-more {m} {k} {q} h a b r =
       record {
         within = omega arith;
@@ -210,7 +218,8 @@ module _ {s : List ℕ} {from : ℕ} where
 pub ruleset rising = (rising-start, rising-more, rising-done)
 
 -- the three before them too
-pub most-before : {s : List ℕ} {from to m q : ℕ} → 3 ≤ from → Most s from to q → q ≤ m → getD s (from - 1) 0 ≤ m → getD s (from - 2) 0 ≤ m → getD s (from - 3) 0 ≤ m → Most s (from - 3) to m
+pub most-before : {s : List ℕ} {from to m q : ℕ} → 3 ≤ from → Most s from to q → q ≤ m → getD s (from - 1) 0 ≤ m
+    → getD s (from - 2) 0 ≤ m → getD s (from - 3) 0 ≤ m → Most s (from - 3) to m
 most-before {s} {from} {to} {m} {q} h l i a b c = record { each = λ k x y. ⊎-elim (λ z. go k x z) (λ z. omega (arith, l .each k z y)) (lt-or-ge k from) }
   where
     go : (k : ℕ) → from - 3 ≤ k → k < from → getD s k 0 ≤ m
@@ -225,7 +234,9 @@ most-up l h = record { each = λ k x y. omega (arith, l .each k x y) }
 
 -- a byte of a part, and those before it
 module _ {s : List ℕ} {from k : ℕ} (h : 3 ≤ from) (i : k < 240) where
-  near-at : {m : ℕ} → Most s (from - 3) (from + 240) m → m < 0xf4 → Near (getD s (from + k - 3) 0) (getD s (from + k - 2) 0) (getD s (from + k - 1) 0) (getD s (from + k) 0) → StandsAt s (from + k)
+  near-at : {m : ℕ} → Most s (from - 3) (from + 240) m → m < 0xf4
+      → Near (getD s (from + k - 3) 0) (getD s (from + k - 2) 0) (getD s (from + k - 1) 0) (getD s (from + k) 0)
+      → StandsAt s (from + k)
   near-at l j n =
       record {
         stands = record {
@@ -235,16 +246,22 @@ module _ {s : List ℕ} {from k : ℕ} (h : 3 ≤ from) (i : k < 240) where
         };
       }
 
-  pub at-two : {w : ℕ} → Most s (from - 3) (from + 240) 0xdf → (w < 128 → (c3 c2 : ℕ) → c3 < 0xe0 → c2 < 0xe0 → getD s (from + k - 1) 0 < 0xe0 → Near c3 c2 (getD s (from + k - 1) 0) (getD s (from + k) 0)) → w < 128 → StandsAt s (from + k)
+  pub at-two : {w : ℕ} → Most s (from - 3) (from + 240) 0xdf
+      → (w < 128 → (c3 c2 : ℕ) → c3 < 0xe0 → c2 < 0xe0 → getD s (from + k - 1) 0 < 0xe0 → Near c3 c2 (getD s (from + k - 1) 0) (getD s (from + k) 0))
+      → w < 128 → StandsAt s (from + k)
   at-two l f x =
       near-at l (omega arith)
       (f x (getD s (from + k - 3) 0) (getD s (from + k - 2) 0) (omega (arith, l .each (from + k - 3) (omega arith) (omega arith))) (omega (arith, l .each (from + k - 2) (omega arith) (omega arith))) (omega (arith, l .each (from + k - 1) (omega arith) (omega arith))))
 
-  pub at-three : {w : ℕ} → Most s (from - 3) (from + 240) 0xef → (w < 128 → (c3 : ℕ) → c3 < 0xf0 → getD s (from + k - 1) 0 < 0xf0 → Near c3 (getD s (from + k - 2) 0) (getD s (from + k - 1) 0) (getD s (from + k) 0)) → w < 128 → StandsAt s (from + k)
+  pub at-three : {w : ℕ} → Most s (from - 3) (from + 240) 0xef
+      → (w < 128 → (c3 : ℕ) → c3 < 0xf0 → getD s (from + k - 1) 0 < 0xf0 → Near c3 (getD s (from + k - 2) 0) (getD s (from + k - 1) 0) (getD s (from + k) 0))
+      → w < 128 → StandsAt s (from + k)
   at-three l f x =
       near-at l (omega arith) (f x (getD s (from + k - 3) 0) (omega (arith, l .each (from + k - 3) (omega arith) (omega arith))) (omega (arith, l .each (from + k - 1) (omega arith) (omega arith))))
 
-  pub at-four : {w : ℕ} → Most s (from - 3) (from + 240) 0xf3 → (w < 128 → Near (getD s (from + k - 3) 0) (getD s (from + k - 2) 0) (getD s (from + k - 1) 0) (getD s (from + k) 0)) → w < 128 → StandsAt s (from + k)
+  pub at-four : {w : ℕ} → Most s (from - 3) (from + 240) 0xf3
+      → (w < 128 → Near (getD s (from + k - 3) 0) (getD s (from + k - 2) 0) (getD s (from + k - 1) 0) (getD s (from + k) 0))
+      → w < 128 → StandsAt s (from + k)
   at-four l f x = near-at l (omega arith) (f x)
 
 -- bytes of ASCII stand as they should
@@ -252,7 +269,8 @@ trailingIn-ascii : (s : List ℕ) (i w : ℕ) → ((k : ℕ) → i ≤ k → k <
 trailingIn-ascii s i zero f = refl
 trailingIn-ascii s i (suc w) f = omega (arith, trailingIn-ascii s (suc i) w (λ k x y. f k (omega arith) (omega arith)), trailing-no (getD s i 0) (λ e. omega (arith, f i (omega arith) (omega arith))))
 
-pub ascii-part : {s : List ℕ} {from m : ℕ} → 3 ≤ from → Most s (from - 3) (from + 240) m → m < 0x80 → Tests s from (record { width = 240; wrong = 0; trailing = 0 })
+pub ascii-part : {s : List ℕ} {from m : ℕ} → 3 ≤ from → Most s (from - 3) (from + 240) m → m < 0x80
+    → Tests s from (record { width = 240; wrong = 0; trailing = 0 })
 ascii-part {s} {from} {m} h l i =
     record {
       stands = λ x. record { each = λ k y z. at k y z };
@@ -310,7 +328,8 @@ module _ {s : List ℕ} {to r : ℕ} (h : 16 ≤ to) (i : r ≤ 16) where
   pub lows-start : {x : ℕ} → x ≡ 112 + r → Lows s to r 0 x 0
   lows-start e = record { within = omega arith; mask = omega arith; all = λ l. low-before (omega arith) }
 
-  pub lows-more : {m x k w : ℕ} → k < 16 → Lows s to r m x k → (128 ≤ x → w < 128 → getD s (to - 16 + k) 0 < 128) → Lows s to r (bitOr m w) (x + 1) (k + 1)
+  pub lows-more : {m x k w : ℕ} → k < 16 → Lows s to r m x k → (128 ≤ x → w < 128 → getD s (to - 16 + k) 0 < 128)
+      → Lows s to r (bitOr m w) (x + 1) (k + 1)
   lows-more {m} {x} {k} {w} j l f =
       record {
         within = omega arith;
@@ -332,7 +351,9 @@ module _ {s : List ℕ} {to r : ℕ} (h : 19 ≤ to) (i : r ≤ 16) where
   pub masked-start : {x : ℕ} → x ≡ 112 + r → Masked s to r 0 0 x 0
   masked-start e = let f : r + 0 - 16 ≡ 0 = omega arith in record { within = omega arith; mask = omega arith; all = λ l. standing-none (omega arith); count = rw f; few = omega arith }
 
-  pub masked-more : {m n x k w j : ℕ} → k < 16 → Masked s to r m n x k → (128 ≤ x → w < 128 → StandsAt s (to - 16 + k)) → (128 ≤ x → j ≡ isTrailing (getD s (to - 16 + k) 0)) → (x < 128 → j ≡ 0) → Masked s to r (bitOr m w) (n + j) (x + 1) (k + 1)
+  pub masked-more : {m n x k w j : ℕ} → k < 16 → Masked s to r m n x k → (128 ≤ x → w < 128 → StandsAt s (to - 16 + k))
+      → (128 ≤ x → j ≡ isTrailing (getD s (to - 16 + k) 0)) → (x < 128 → j ≡ 0)
+      → Masked s to r (bitOr m w) (n + j) (x + 1) (k + 1)
   masked-more {m} {n} {x} {k} {w} {j} y l f g e = ⊎-elim before after (lt-or-ge (k + r) 16)
     where
       before : k + r < 16 → Masked s to r (bitOr m w) (n + j) (x + 1) (k + 1)
@@ -357,12 +378,14 @@ module _ {s : List ℕ} {to r : ℕ} (h : 19 ≤ to) (i : r ≤ 16) where
             few = omega (arith, g hi, trailing-few (getD s (to - 16 + k) 0), l .few);
           }
 
-  pub masked-done : {m n x k : ℕ} → 16 ≤ k → Masked s to r m n x k → Tests s (to - r) (record { width = r; wrong = m; trailing = n })
+  pub masked-done : {m n x k : ℕ} → 16 ≤ k → Masked s to r m n x k
+      → Tests s (to - r) (record { width = r; wrong = m; trailing = n })
   masked-done {m} {n} {x} {k} j l =
       let b : r + k - 16 ≡ r = omega (arith, l .within) in
       let c : n ≡ trailingIn s (to - r) r = l .count ∙ ap (trailingIn s (to - r)) b in
       record { stands = λ u. record { each = λ p y z. l .all u .each p y (omega (arith, l .within)) }; count = c; few = omega (arith, trailingIn-few s (to - r) r) }
 
 -- ---- where a character can start
-pub starts-if : {s : List ℕ} {i : ℕ} → getD s (i - 1) 0 ≤ 0xbf → getD s (i - 2) 0 ≤ 0xdf → ltb (getD s (i - 3) 0) 0xf0 ≡ true → Starts s i
+pub starts-if : {s : List ℕ} {i : ℕ} → getD s (i - 1) 0 ≤ 0xbf → getD s (i - 2) 0 ≤ 0xdf
+    → ltb (getD s (i - 3) 0) 0xf0 ≡ true → Starts s i
 starts-if {s} {i} a b e = record { one = omega arith; two = omega arith; three = ltb-true (getD s (i - 3) 0) 0xf0 e }

@@ -27,7 +27,8 @@ module _ (s : List ℕ) (to n i : ℕ) {lo hi : ℕ} (k : to ≤ length s) where
   unfolding pick
   one-on h e = ap (scanFrom n 0 0x80 0xbf) (part-cons s i to h k) ∙ rw (e, add-one n) (any-range (suc n) lo hi (take (to - (i + 1)) (drop (i + 1) s)))
 
-  two-on : i + 2 ≤ to → lead (getD s i 0) ≡ want 1 lo hi → lo ≤ getD s (i + 1) 0 → getD s (i + 1) 0 ≤ hi → scanAt s to n i ≡ scanAt s to (n + 1) (i + 2)
+  two-on : i + 2 ≤ to → lead (getD s i 0) ≡ want 1 lo hi → lo ≤ getD s (i + 1) 0 → getD s (i + 1) 0 ≤ hi
+      → scanAt s to n i ≡ scanAt s to (n + 1) (i + 2)
   unfolding pick
   two-on h e a b =
       let f : i + 1 + 1 ≡ i + 2 = omega arith in
@@ -36,7 +37,8 @@ module _ (s : List ℕ) (to n i : ℕ) {lo hi : ℕ} (k : to ≤ length s) where
       in
       ap (scanFrom n 0 0x80 0xbf) bytes ∙ rw (e, inside lo hi (getD s (i + 1) 0) a b, add-one n)
 
-  three-on : i + 3 ≤ to → lead (getD s i 0) ≡ want 2 lo hi → lo ≤ getD s (i + 1) 0 → getD s (i + 1) 0 ≤ hi → getD s (i + 2) 0 / 64 ≡ 2 → scanAt s to n i ≡ scanAt s to (n + 1) (i + 3)
+  three-on : i + 3 ≤ to → lead (getD s i 0) ≡ want 2 lo hi → lo ≤ getD s (i + 1) 0 → getD s (i + 1) 0 ≤ hi
+      → getD s (i + 2) 0 / 64 ≡ 2 → scanAt s to n i ≡ scanAt s to (n + 1) (i + 3)
   unfolding pick
   three-on h e a b y =
       let f : i + 1 + 1 ≡ i + 2 = omega arith in
@@ -48,7 +50,8 @@ module _ (s : List ℕ) (to n i : ℕ) {lo hi : ℕ} (k : to ≤ length s) where
       in
       ap (scanFrom n 0 0x80 0xbf) bytes ∙ rw (e, inside lo hi (getD s (i + 1) 0) a b, inside 0x80 0xbf (getD s (i + 2) 0) (omega arith) (omega arith), add-one n)
 
-  four-on : i + 4 ≤ to → lead (getD s i 0) ≡ want 3 lo hi → lo ≤ getD s (i + 1) 0 → getD s (i + 1) 0 ≤ hi → getD s (i + 2) 0 / 64 ≡ 2 → getD s (i + 3) 0 / 64 ≡ 2 → scanAt s to n i ≡ scanAt s to (n + 1) (i + 4)
+  four-on : i + 4 ≤ to → lead (getD s i 0) ≡ want 3 lo hi → lo ≤ getD s (i + 1) 0 → getD s (i + 1) 0 ≤ hi
+      → getD s (i + 2) 0 / 64 ≡ 2 → getD s (i + 3) 0 / 64 ≡ 2 → scanAt s to n i ≡ scanAt s to (n + 1) (i + 4)
   unfolding pick
   four-on h e a b y z =
       let f : i + 1 + 1 ≡ i + 2 = omega arith in
@@ -64,10 +67,12 @@ module _ (s : List ℕ) (to n i : ℕ) {lo hi : ℕ} (k : to ≤ length s) where
       ∙ rw (e, inside lo hi (getD s (i + 1) 0) a b, inside 0x80 0xbf (getD s (i + 2) 0) (omega arith) (omega arith), inside 0x80 0xbf (getD s (i + 3) 0) (omega arith) (omega arith), add-one n)
 
 -- ---- places
-starts-of : {s : List ℕ} {j : ℕ} (p1 p2 p3 : ℕ) → p1 ≡ j - 1 → p2 ≡ j - 2 → p3 ≡ j - 3 → getD s p1 0 < 0xc0 → getD s p2 0 < 0xe0 → getD s p3 0 < 0xf0 → Starts s j
+starts-of : {s : List ℕ} {j : ℕ} (p1 p2 p3 : ℕ) → p1 ≡ j - 1 → p2 ≡ j - 2 → p3 ≡ j - 3 → getD s p1 0 < 0xc0
+    → getD s p2 0 < 0xe0 → getD s p3 0 < 0xf0 → Starts s j
 starts-of p1 p2 p3 e1 e2 e3 a b c = record { one = rw (sym e1) a; two = rw (sym e2) b; three = rw (sym e3) c }
 
-stands-at : {s : List ℕ} {a b : ℕ} → Standing s a b → (k p1 p2 p3 : ℕ) → k - 1 ≡ p1 → k - 2 ≡ p2 → k - 3 ≡ p3 → a ≤ k → k < b → Stands (getD s p3 0) (getD s p2 0) (getD s p1 0) (getD s k 0)
+stands-at : {s : List ℕ} {a b : ℕ} → Standing s a b → (k p1 p2 p3 : ℕ) → k - 1 ≡ p1 → k - 2 ≡ p2 → k - 3 ≡ p3 → a ≤ k
+    → k < b → Stands (getD s p3 0) (getD s p2 0) (getD s p1 0) (getD s k 0)
 stands-at {s} l k p1 p2 p3 e1 e2 e3 x y = rw (sym e1, sym e2, sym e3) (l .each k x y .stands)
 
 module _ {s : List ℕ} {i to : ℕ} (h : i < to) (l : Starts s to) where
@@ -81,7 +86,8 @@ module _ {s : List ℕ} {i to : ℕ} (h : i < to) (l : Starts s to) where
   ends-four x = ⊎-elim (λ z. omega arith) (λ z. absurd (let e : to - 3 ≡ i = omega (arith, ends-three (omega arith)) in omega (arith, ap (λ j. getD s j 0) e, l .three))) (lt-or-ge (i + 3) to)
 
 -- ---- character by character
-step : {s : List ℕ} {to i : ℕ} (n m : ℕ) → 3 ≤ i → i < to → to ≤ length s → Starts s i → Starts s to → Standing s i to → n + (to - i) ≡ m + trailingIn s i (to - i)
+step : {s : List ℕ} {to i : ℕ} (n m : ℕ) → 3 ≤ i → i < to → to ≤ length s → Starts s i → Starts s to → Standing s i to
+    → n + (to - i) ≡ m + trailingIn s i (to - i)
     → ((j : ℕ) → i < j → j ≤ to → Starts s j → n + 1 + (to - j) ≡ m + trailingIn s j (to - j) → scanAt s to (n + 1) j ≡ characters m)
     → scanAt s to n i ≡ characters m
 step {s} {to} {i} n m h g k p q l e next = at (row c0)
@@ -141,20 +147,23 @@ step {s} {to} {i} n m h g k p q l e next = at (row c0)
         ∙ next (i + 1) (omega arith) (omega arith)
         (starts-of i (i - 1) (i - 2) (omega arith) (omega arith) (omega arith) (omega arith) (omega (arith, p .one)) (omega (arith, p .two))) (omega (arith, in0))
 
-    go2 : {lo hi : ℕ} → 0xc0 ≤ c0 → c0 < 0xe0 → lead c0 ≡ want 1 lo hi → lo ≤ getD s (i + 1) 0 → getD s (i + 1) 0 ≤ hi → scanAt s to n i ≡ characters m
+    go2 : {lo hi : ℕ} → 0xc0 ≤ c0 → c0 < 0xe0 → lead c0 ≡ want 1 lo hi → lo ≤ getD s (i + 1) 0 → getD s (i + 1) 0 ≤ hi
+        → scanAt s to n i ≡ characters m
     go2 x y r u v =
         two-on s to n i k (there2 x) r u v
         ∙ next (i + 2) (omega arith) (there2 x)
         (starts-of (i + 1) i (i - 1) (omega arith) (omega arith) (omega arith) (omega (arith, in1 x)) y (omega (arith, p .one))) (omega (arith, in0, count1 x, there2 x))
 
-    go3 : {lo hi : ℕ} → 0xe0 ≤ c0 → c0 < 0xf0 → lead c0 ≡ want 2 lo hi → lo ≤ getD s (i + 1) 0 → getD s (i + 1) 0 ≤ hi → scanAt s to n i ≡ characters m
+    go3 : {lo hi : ℕ} → 0xe0 ≤ c0 → c0 < 0xf0 → lead c0 ≡ want 2 lo hi → lo ≤ getD s (i + 1) 0 → getD s (i + 1) 0 ≤ hi
+        → scanAt s to n i ≡ characters m
     go3 x y r u v =
         let x1 : 0xc0 ≤ c0 = omega arith in
         three-on s to n i k (there3 x) r u v (in2 x)
         ∙ next (i + 3) (omega arith) (there3 x)
         (starts-of (i + 2) (i + 1) i (omega arith) (omega arith) (omega arith) (omega (arith, in2 x)) (omega (arith, in1 x1)) y) (omega (arith, in0, count1 x1, count2 x, there3 x))
 
-    go4 : {lo hi : ℕ} → 0xf0 ≤ c0 → lead c0 ≡ want 3 lo hi → lo ≤ getD s (i + 1) 0 → getD s (i + 1) 0 ≤ hi → scanAt s to n i ≡ characters m
+    go4 : {lo hi : ℕ} → 0xf0 ≤ c0 → lead c0 ≡ want 3 lo hi → lo ≤ getD s (i + 1) 0 → getD s (i + 1) 0 ≤ hi
+        → scanAt s to n i ≡ characters m
     go4 x r u v =
         let x1 : 0xc0 ≤ c0 = omega arith in
         let x2 : 0xe0 ≤ c0 = omega arith in
@@ -178,7 +187,8 @@ step {s} {to} {i} n m h g k p q l e next = at (row c0)
     at (rf4 u v r) = go4 (omega arith) r (omega (arith, in1 (omega arith))) (omega (arith, second (omega arith) .f4 (omega arith)))
     at (rf5 u r) = absurd (omega (arith, here .most))
 
-ended : (s : List ℕ) (to i n m : ℕ) → to ≤ i → n + (to - i) ≡ m + trailingIn s i (to - i) → scanAt s to n i ≡ characters m
+ended : (s : List ℕ) (to i n m : ℕ) → to ≤ i → n + (to - i) ≡ m + trailingIn s i (to - i)
+    → scanAt s to n i ≡ characters m
 unfolding pick
 ended s to i n m g e =
     let z : to - i ≡ 0 = omega arith in
@@ -186,16 +196,20 @@ ended s to i n m g e =
     let x : n ≡ m = omega arith in
     rw (z, x)
 
-runs : (f : ℕ) {s : List ℕ} {to i : ℕ} (n m : ℕ) → to ≤ i + f → 3 ≤ i → i ≤ to → to ≤ length s → Starts s i → Starts s to → Standing s i to → n + (to - i) ≡ m + trailingIn s i (to - i) → scanAt s to n i ≡ characters m
+runs : (f : ℕ) {s : List ℕ} {to i : ℕ} (n m : ℕ) → to ≤ i + f → 3 ≤ i → i ≤ to → to ≤ length s → Starts s i
+    → Starts s to → Standing s i to → n + (to - i) ≡ m + trailingIn s i (to - i) → scanAt s to n i ≡ characters m
 runs zero {s} {to} {i} n m a h b k p q l e = ended s to i n m (omega arith) e
 runs (suc f) {s} {to} {i} n m a h b k p q l e =
     ⊎-elim (λ g. step n m h g k p q l e (λ j x y o z. runs f (n + 1) m (omega arith) (omega arith) y k o q (record { each = λ u v w. l .each u (omega arith) w }) z)) (λ g. ended s to i n m g e) (lt-or-ge i to)
 
 -- bytes that stand as they should, by how many of them are trailing bytes
-pub place-stands : {s : List ℕ} {to i : ℕ} (n m : ℕ) → 3 ≤ i → i ≤ to → to ≤ length s → Starts s i → Starts s to → Standing s i to → n + (to - i) ≡ m + trailingIn s i (to - i) → scanAt s to n i ≡ characters m
+pub place-stands : {s : List ℕ} {to i : ℕ} (n m : ℕ) → 3 ≤ i → i ≤ to → to ≤ length s → Starts s i → Starts s to
+    → Standing s i to → n + (to - i) ≡ m + trailingIn s i (to - i) → scanAt s to n i ≡ characters m
 place-stands {s} {to} {i} n m h b k p q l e = runs to n m (omega arith) h b k p q l e
 
-text-stands : {s : List ℕ} {start size : ℕ} (m : ℕ) → 3 ≤ start → start + size ≤ length s → Starts s start → Starts s (start + size) → Standing s start (start + size) → m + trailingIn s start size ≡ size → scan (take size (drop start s)) ≡ characters m
+text-stands : {s : List ℕ} {start size : ℕ} (m : ℕ) → 3 ≤ start → start + size ≤ length s → Starts s start
+    → Starts s (start + size) → Standing s start (start + size) → m + trailingIn s start size ≡ size
+    → scan (take size (drop start s)) ≡ characters m
 text-stands {s} {start} {size} m h k p q l e =
     let z : start + size - start ≡ size = omega arith in
     let y : trailingIn s start (start + size - start) ≡ trailingIn s start size = ap (trailingIn s start) z in
@@ -204,14 +218,16 @@ text-stands {s} {start} {size} m h k p q l e =
 -- ---- texts in one part, and in several
 
 -- a text of ASCII
-pub text-low : {s : List ℕ} {start size : ℕ} → start + size ≤ length s → Ascii s start (start + size) → scan (take size (drop start s)) ≡ characters size
+pub text-low : {s : List ℕ} {start size : ℕ} → start + size ≤ length s → Ascii s start (start + size)
+    → scan (take size (drop start s)) ≡ characters size
 text-low {s} {start} {size} h l =
     let z : start + size - start ≡ size = omega arith in
     ap (λ j. scan (take j (drop start s))) (sym z)
     ∙ ascii-scan s (start + size) size 0 start (omega arith) h l
     ∙ ended s (start + size) (start + size) (0 + size) size (omega arith) (let y : start + size - (start + size) ≡ 0 = omega arith in omega (arith, ap (trailingIn s (start + size)) y))
 
-pub text-sixteen : {s : List ℕ} (start size : ℕ) → start + size ≤ length s → Ascii s (start + size - size) (start + size) → scan (take size (drop start s)) ≡ characters size
+pub text-sixteen : {s : List ℕ} (start size : ℕ) → start + size ≤ length s
+    → Ascii s (start + size - size) (start + size) → scan (take size (drop start s)) ≡ characters size
 text-sixteen start size h l = text-low h (record { low = λ k x y. l .low k (omega arith) y })
 
 pub text-none : (s : List ℕ) (start : ℕ) {size : ℕ} → size ≡ 0 → scan (take size (drop start s)) ≡ characters 0
@@ -219,20 +235,24 @@ unfolding pick
 text-none s start e = rw e
 
 -- the first 16 bytes and the last, which meet
-pub text-ends : {s : List ℕ} {start size : ℕ} → start + size ≤ length s → size ≤ 32 → Both s start (start + size - 16) 16 → scan (take size (drop start s)) ≡ characters size
+pub text-ends : {s : List ℕ} {start size : ℕ} → start + size ≤ length s → size ≤ 32
+    → Both s start (start + size - 16) 16 → scan (take size (drop start s)) ≡ characters size
 text-ends h i l = text-low h (record { low = λ k x y. low-join (l .first) (l .second) (omega arith) .low k x (omega arith) })
 
 -- what is found of bytes holds of them wherever the place comes from
 pub tests-at : {s : List ℕ} {a b : ℕ} {p : Part} → a ≡ b → Tests s a p → Tests s b p
 tests-at e l = rw (sym e) l
 
-pub text-part : {s : List ℕ} {start size : ℕ} {p : Part} → 3 ≤ start → start + size ≤ length s → Starts s start → Starts s (start + size) → Tests s (start + size - size) p → p .width ≡ size → p .wrong ≤ 127 → scan (take size (drop start s)) ≡ characters (size - p .trailing)
+pub text-part : {s : List ℕ} {start size : ℕ} {p : Part} → 3 ≤ start → start + size ≤ length s → Starts s start
+    → Starts s (start + size) → Tests s (start + size - size) p → p .width ≡ size → p .wrong ≤ 127
+    → scan (take size (drop start s)) ≡ characters (size - p .trailing)
 text-part {s} {start} {size} {p} h k a b l e w =
     let t : Tests s start p = tests-at (omega arith) l in
     let c : trailingIn s start (p .width) ≡ trailingIn s start size = ap (trailingIn s start) e in
     text-stands (size - p .trailing) h k a b (record { each = λ j x y. t .stands (omega arith) .each j x (omega arith) }) (omega (arith, t .count, t .few))
 
-pub part-sixteen : {s : List ℕ} {from end : ℕ} {p : Part} → from + 16 ≤ end → Tests s (from + 16 - 16) p → p .width ≡ 16 → PartOf s from end p
+pub part-sixteen : {s : List ℕ} {from end : ℕ} {p : Part} → from + 16 ≤ end → Tests s (from + 16 - 16) p → p .width ≡ 16
+    → PartOf s from end p
 part-sixteen h l e = record { tests = tests-at (omega arith) l; some = omega arith; within = omega arith }
 
 -- ---- part by part, from start with n characters: the invariant of a loop that has come to at, with m
@@ -254,7 +274,8 @@ module _ {s : List ℕ} {start end n at m : ℕ} {p : Part} (l : Parting s start
       let u : start + (at - start) ≡ at = omega (arith, l .past) in
       omega (arith, ap (trailingIn s start) d, trailingIn-add s start (at - start) (p .width), ap (λ j. trailingIn s j (p .width)) u, t .count)
 
-  pub parting-on : at + p .width ≤ end → p .wrong ≤ 127 → Parting s start end n (at + p .width) (m + (p .width - p .trailing))
+  pub parting-on : at + p .width ≤ end → p .wrong ≤ 127
+      → Parting s start end n (at + p .width) (m + (p .width - p .trailing))
   parting-on h w =
       record {
         past = omega (arith, l .past);
@@ -264,7 +285,9 @@ module _ {s : List ℕ} {start end n at m : ℕ} {p : Part} (l : Parting s start
       }
 
 -- what is left, with the bytes before it
-pub parting-last : {s : List ℕ} {start end n at m r : ℕ} {p : Part} → 3 ≤ start → end ≤ length s → Starts s start → Starts s end → Parting s start end n at m → r ≡ end - at → Tests s (end - r) p → p .width ≡ r → p .wrong ≤ 127 → scanAt s end n start ≡ characters (m + (r - p .trailing))
+pub parting-last : {s : List ℕ} {start end n at m r : ℕ} {p : Part} → 3 ≤ start → end ≤ length s → Starts s start
+    → Starts s end → Parting s start end n at m → r ≡ end - at → Tests s (end - r) p → p .width ≡ r → p .wrong ≤ 127
+    → scanAt s end n start ≡ characters (m + (r - p .trailing))
 parting-last {s} {start} {end} {n} {at} {m} {r} {p} h k a b l e t i w =
     let u : Tests s at p = tests-at (omega (arith, l .within)) t in
     let o : at + p .width ≤ end = omega (arith, l .within) in
@@ -284,7 +307,8 @@ pub later-start : {s : List ℕ} {start end : ℕ} → start ≤ end → Laterin
 later-start h = record { past = omega arith; within = h; few = omega arith; leads = refl }
 
 module _ {s : List ℕ} {start end i n : ℕ} where
-  pub later-on : {j m : ℕ} {q : Upto} → Scans s end n i (i + 1) q → q ≡ At j m → Latering s start end i n → Latering s start end j m
+  pub later-on : {j m : ℕ} {q : Upto} → Scans s end n i (i + 1) q → q ≡ At j m → Latering s start end i n
+      → Latering s start end j m
   later-on {j} {m} h e l = go (rw e at h)
     where
       go : Scans s end n i (i + 1) (At j m) → Latering s start end j m
@@ -295,14 +319,17 @@ module _ {s : List ℕ} {start end i n : ℕ} where
   later-told l untold = untold
 
 -- ---- a text that was tried
-pub tried-known : {s : List ℕ} {start m : ℕ} {q : Tried} (size : ℕ) → TriesAt s (start + size) 0 start q → q ≡ Characters m → characters m ≡ scan (take size (drop start s))
+pub tried-known : {s : List ℕ} {start m : ℕ} {q : Tried} (size : ℕ) → TriesAt s (start + size) 0 start q
+    → q ≡ Characters m → characters m ≡ scan (take size (drop start s))
 tried-known {s} {start} {m} size h e = go (rw e at h)
   where
     go : TriesAt s (start + size) 0 start (Characters m) → characters m ≡ scan (take size (drop start s))
     go (told x) = let z : start + size - start ≡ size = omega arith in sym x ∙ ap (λ j. scan (take j (drop start s))) z
 
-pub text-both : {s : List ℕ} {start size : ℕ} {q : Bool} → start + size ≤ length s → (q ≡ true → Both s start start size) → q ≡ true → characters size ≡ scan (take size (drop start s))
+pub text-both : {s : List ℕ} {start size : ℕ} {q : Bool} → start + size ≤ length s
+    → (q ≡ true → Both s start start size) → q ≡ true → characters size ≡ scan (take size (drop start s))
 text-both h f e = sym (text-low h (f e .first))
 
-pub text-slice : (s : List ℕ) (start size : ℕ) {o : Scan} → o ≡ scan (take (start + size - start) (drop start s)) → o ≡ scan (take size (drop start s))
+pub text-slice : (s : List ℕ) (start size : ℕ) {o : Scan} → o ≡ scan (take (start + size - start) (drop start s))
+    → o ≡ scan (take size (drop start s))
 text-slice s start size e = let z : start + size - start ≡ size = omega arith in e ∙ ap (λ j. scan (take j (drop start s))) z

@@ -21,7 +21,8 @@ use Rattle.utf8.specs.declared.Upto.{Upto}
 use Rattle.utf8.specs.declared.Upto.the-variants.{At, IllFormed as Fails}
 
 -- a part by its first byte
-pub part-cons : (s : List ℕ) (i to : ℕ) → i < to → to ≤ length s → take (to - i) (drop i s) ≡ getD s i 0 ∷ take (to - (i + 1)) (drop (i + 1) s)
+pub part-cons : (s : List ℕ) (i to : ℕ) → i < to → to ≤ length s
+    → take (to - i) (drop i s) ≡ getD s i 0 ∷ take (to - (i + 1)) (drop (i + 1) s)
 part-cons s i to h k =
     let e : to - i ≡ suc (to - (i + 1)) = omega arith in
     rw (e, add-one i, drop-cons s i 0 (omega arith))
@@ -65,13 +66,16 @@ module _ {s : List ℕ} {to n from more lo hi i : ℕ} where
   unfolding pick
   char-short h k l = let e : to - i ≡ 0 = omega arith in fails (l .leads ∙ rw (e, ne-eqb more 0 (λ z. omega arith)))
 
-  pub char-low : 0 < more → i < to → getD s i 0 < lo → Charing s to n from more lo hi i → Scans s to n from (from + 1) Fails
+  pub char-low : 0 < more → i < to → getD s i 0 < lo → Charing s to n from more lo hi i
+      → Scans s to n from (from + 1) Fails
   char-low h k b l = fails (l .leads ∙ ap (scanFrom _ more lo hi) (part-cons s i to k (l .fits)) ∙ rw (ne-eqb more 0 (λ z. omega arith), below lo hi (getD s i 0) b))
 
-  pub char-high : 0 < more → i < to → hi < getD s i 0 → Charing s to n from more lo hi i → Scans s to n from (from + 1) Fails
+  pub char-high : 0 < more → i < to → hi < getD s i 0 → Charing s to n from more lo hi i
+      → Scans s to n from (from + 1) Fails
   char-high h k b l = fails (l .leads ∙ ap (scanFrom _ more lo hi) (part-cons s i to k (l .fits)) ∙ rw (ne-eqb more 0 (λ z. omega arith), above lo hi (getD s i 0) b))
 
-  pub char-more : 0 < more → i < to → lo ≤ getD s i 0 → getD s i 0 ≤ hi → Charing s to n from more lo hi i → Charing s to n from (more - 1) 0x80 0xbf (i + 1)
+  pub char-more : 0 < more → i < to → lo ≤ getD s i 0 → getD s i 0 ≤ hi → Charing s to n from more lo hi i
+      → Charing s to n from (more - 1) 0x80 0xbf (i + 1)
   unfolding pick
   char-more h k a b l =
       record {
@@ -113,7 +117,8 @@ module _ {s : List ℕ} {a b width : ℕ} where
   oring-start = record { within = omega arith; all = λ m. record { first = low-before (omega arith); second = low-before (omega arith) } }
 
   module _ {m k : ℕ} where
-    pub oring-more : k < width → Oring s a b width m k → Oring s a b width (bitOr (bitOr m (getD s (a + k) 0)) (getD s (b + k) 0)) (k + 1)
+    pub oring-more : k < width → Oring s a b width m k
+        → Oring s a b width (bitOr (bitOr m (getD s (a + k) 0)) (getD s (b + k) 0)) (k + 1)
     oring-more h l = record { within = omega arith; all = both }
       where
         x : ℕ
@@ -139,7 +144,8 @@ module _ {s : List ℕ} {a b width : ℕ} where
 pub ruleset oring = (oring-start, oring-more, oring-done)
 
 -- each byte of ASCII is a character
-pub ascii-scan : (s : List ℕ) (to k n from : ℕ) → from + k ≤ to → to ≤ length s → Ascii s from (from + k) → scanAt s to n from ≡ scanAt s to (n + k) (from + k)
+pub ascii-scan : (s : List ℕ) (to k n from : ℕ) → from + k ≤ to → to ≤ length s → Ascii s from (from + k)
+    → scanAt s to n from ≡ scanAt s to (n + k) (from + k)
 unfolding pick
 ascii-scan s to zero n from h i a = let e : from + 0 ≡ from = omega arith in let f : n + 0 ≡ n = omega arith in rw (e, f)
 ascii-scan s to (suc k) n from h i a =

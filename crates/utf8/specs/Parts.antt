@@ -1,5 +1,6 @@
--- Many bytes at once: each is held against the three before it. A text is well-formed where each of its bytes stands as it
--- should and the bytes before its start and its end ask for no more; its characters are the bytes that are not trailing ones.
+-- Many bytes at once: each is held against the three before it. A text is well-formed where each of its bytes stands as
+-- it should and the bytes before its start and its end ask for no more; its characters are the bytes that are not
+-- trailing ones.
 use Prim.Native.Nat.{ℕ, suc, zero, _+_, _-_, _/_, _≤_, _<_}
 use mathlib.Core.Path.{_≡_}
 use mathlib.Core.List.{List}
@@ -19,7 +20,8 @@ pub record Pair (c1 b : ℕ) : Type 0 where
   pub e0 : c1 ≡ 0xe0 → 0xa0 ≤ b
   pub ed : c1 ≡ 0xed → b < 0xa0
 
--- b is a trailing byte exactly where a byte before it asks for one: C0 and above for one more, E0 and above for two, F0 and above for three
+-- b is a trailing byte exactly where a byte before it asks for one: C0 and above for one more, E0 and above for two, F0
+-- and above for three
 pub record Follows (c3 c2 c1 b : ℕ) : Type 0 where
   pub first : c1 < 0xc0 → c2 < 0xe0 → c3 < 0xf0 → b / 64 ≡ 2 → ⊥
   pub second : 0xc0 ≤ c1 → b / 64 ≡ 2

@@ -1,7 +1,7 @@
 // UTF-8: are these bytes well-formed, and how many characters are they?
-// It ports what Rust's `String::from_utf8` asks in ByteReader's `read_string`, as Table 3-7 of the Unicode Standard has it. The plain
-// scan goes character by character. A faster test holds each byte against the three before it, many at once. It only accepts: what it
-// does not accept goes to the plain scan, so that every refusal comes from there.
+// It ports what Rust's `String::from_utf8` asks in ByteReader's `read_string`, as Table 3-7 of the Unicode Standard has
+// it. The plain scan goes character by character. A faster test holds each byte against the three before it, many at
+// once. It only accepts: what it does not accept goes to the plain scan, so that every refusal comes from there.
 ghost use mathlib.Core.Path.{_≡_};
 ghost use mathlib.Core.Bool.{true};
 ghost use Prim.Native.Nat.{ℕ, _+_, _-_, _≤_, _<_};
@@ -150,8 +150,8 @@ fn scan(t: &[u8]) -> Scanned
 }
 
 // ---- one byte against the three before it
-// Each test is a sum of bytes whose bit 7 says "wrong", so that a loop only joins them: with no branch and no table it is compiled
-// to vector code.
+// Each test is a sum of bytes whose bit 7 says "wrong", so that a loop only joins them: with no branch and no table it
+// is compiled to vector code.
 
 // Bit 7 is set where a is at least 128 + k.
 fn over(a: u8, k: u8) -> u8
@@ -235,7 +235,8 @@ fn wrong(c3: u8, c2: u8, c1: u8, b: u8) -> u8
 // A multiple of 16, and so few that a u8 can count the trailing bytes.
 const PART: usize = 240;
 
-// What was found of `width` bytes: `wrong` is below 128 where each may follow those before it; `trailing` counts the trailing bytes.
+// What was found of `width` bytes: `wrong` is below 128 where each may follow those before it; `trailing` counts the
+// trailing bytes.
 struct Part {
     width: usize,
     wrong: u8,
@@ -330,8 +331,8 @@ fn counted(x: u8, n: u8) -> u8
     n & (x / 128)
 }
 
-// Are the last r of the 16 bytes before `to` below 128? x counts up, so that its bit 7 is set for these r and no others: with a
-// comparison of places instead the vector code would have four bytes for each one.
+// Are the last r of the 16 bytes before `to` below 128? x counts up, so that its bit 7 is set for these r and no
+// others: with a comparison of places instead the vector code would have four bytes for each one.
 fn low_sixteen(s: &[u8], to: usize, r: usize) -> bool
     requires { ⌜ (16 ≤ to) × (to ≤ length (now s)) × (r ≤ 16) ⌝ }
     ensures { λ q. ⌜ (q ≡ true → Ascii (now (s .entry)) (to - r) to) ⌝ }
@@ -420,7 +421,8 @@ fn starts(s: &[u8], i: usize) -> bool
 
 // The characters from start up to `end`, after n of them: part by part, and the rest as the last of 16 bytes.
 fn parts(s: &[u8], start: usize, end: usize, n: usize) -> Tried
-    requires { ⌜ ((3 ≤ start) × (19 ≤ end) × (start ≤ end) × (end ≤ length (now s)) × (n ≤ start)) × (Starts (now s) start × Starts (now s) end) ⌝ }
+    requires { ⌜ ((3 ≤ start) × (19 ≤ end) × (start ≤ end) × (end ≤ length (now s)) × (n ≤ start))
+        × (Starts (now s) start × Starts (now s) end) ⌝ }
     ensures { λ q. ⌜ TriesAt (now (s .entry)) end n start q ⌝ }
 {
     let mut at = start;
@@ -441,8 +443,8 @@ fn parts(s: &[u8], start: usize, end: usize, n: usize) -> Tried
     Tried::Characters(m + (r - p.trailing as usize))
 }
 
-// The bytes before a text are its length, which may look like lead bytes: then the plain scan reads the first characters, up to a
-// place where the bytes before ask for no more.
+// The bytes before a text are its length, which may look like lead bytes: then the plain scan reads the first
+// characters, up to a place where the bytes before ask for no more.
 fn try_at(s: &[u8], start: usize, end: usize) -> Tried
     requires { ⌜ (start ≤ end) × (end ≤ length (now s)) ⌝ }
     ensures { λ q. ⌜ TriesAt (now (s .entry)) end 0 start q ⌝ }
@@ -489,8 +491,8 @@ fn ascii(s: &[u8], a: usize, b: usize, width: usize) -> bool
     m < 128
 }
 
-// A text of at most 32 bytes, with no loop over its length: up to 16 bytes as the last of 16; more only where they are ASCII, by the
-// first 16 and the last 16, which together are all.
+// A text of at most 32 bytes, with no loop over its length: up to 16 bytes as the last of 16; more only where they are
+// ASCII, by the first 16 and the last 16, which together are all.
 pub fn try_short(s: &[u8], start: usize, size: usize) -> Tried
     requires { ⌜ start + size ≤ length (now s) ⌝ }
     ensures { λ q. ⌜ Tries (take size (drop start (now (s .entry)))) q ⌝ }
@@ -527,7 +529,8 @@ pub fn try_short(s: &[u8], start: usize, size: usize) -> Tried
     Tried::Characters(size - p.trailing as usize)
 }
 
-// The text of `size` bytes at start. ASCII is tested first and whole: the cheapest for a text without accents, and one with some loses little.
+// The text of `size` bytes at start. ASCII is tested first and whole: the cheapest for a text without accents, and one
+// with some loses little.
 pub fn scan_at(s: &[u8], start: usize, size: usize) -> Scanned
     requires { ⌜ start + size ≤ length (now s) ⌝ }
     ensures { λ q. ⌜ scanOf q ≡ Utf8.scan (take size (drop start (now (s .entry)))) ⌝ }

@@ -1,5 +1,6 @@
--- The accessors of `Fields.antt` are the fields that the grammar has: of each record its fields and its questions, in file order. An
--- accessor that is shifted, exchanged with another or given to the wrong question makes a line of this file false.
+-- The accessors of `Fields.antt` are the fields that the grammar has: of each record its fields and its questions, in
+-- file order. An accessor that is shifted, exchanged with another or given to the wrong question makes a line of this
+-- file false.
 use Prim.Native.Nat.{ℕ, suc, zero, _-_, min}
 use mathlib.Core.Path.{_≡_, refl, ap, sym, _∙_}
 use mathlib.Core.List.{List, [], _∷_, _++_, append-assoc, append-nil, map}
@@ -26,7 +27,8 @@ pub data Part : Type 0 where
 pub data Reads : Format → Value → List Part → List Part → Type 0 where
   one : {f : Format} {v : Value} {rest : List Part} → Reads f v rest (field f v ∷ rest)
   question : {q : List Ask} {v : Value} {rest : List Part} → Reads (leaf (ask q)) v rest (asked q ∷ rest)
-  next : {f : Format} {h : Value → Format} {v : Value} {rest mid all : List Part} → Reads f (first v) mid all → Reads (h (first v)) (second v) rest mid → Reads (seq f h) v rest all
+  next : {f : Format} {h : Value → Format} {v : Value} {rest mid all : List Part} → Reads f (first v) mid all
+      → Reads (h (first v)) (second v) rest mid → Reads (seq f h) v rest all
 
 -- Every value of the format is these parts.
 pub record Fields (f : Format) (parts : Value → List Part) : Type 0 where
@@ -38,13 +40,15 @@ fieldWords [] = []
 fieldWords (field f v ∷ l) = words f v ++ fieldWords l
 fieldWords (asked q ∷ l) = fieldWords l
 
-reads-words : {f : Format} {v : Value} {rest all : List Part} → Reads f v rest all → fieldWords all ≡ words f v ++ fieldWords rest
+reads-words : {f : Format} {v : Value} {rest all : List Part} → Reads f v rest all
+    → fieldWords all ≡ words f v ++ fieldWords rest
 unfolding fieldWords words wordsLeaf
 reads-words one = refl
 reads-words question = refl
 reads-words (next {f} {h} {v} {rest} a b) = reads-words a ∙ ap (λ l. words f (first v) ++ l) (reads-words b) ∙ sym (append-assoc (words f (first v)) (words (h (first v)) (second v)) (fieldWords rest))
 
-pub fields-words : {f : Format} {parts : Value → List Part} → Fields f parts → (v : Value) → words f v ≡ fieldWords (parts v)
+pub fields-words : {f : Format} {parts : Value → List Part} → Fields f parts → (v : Value)
+    → words f v ≡ fieldWords (parts v)
 unfolding fieldWords
 fields-words {f} h v = sym (reads-words (h .are v) ∙ append-nil (words f v))
 
@@ -54,12 +58,14 @@ unfolding fieldWords words chain items
 items-words f zero v = refl
 items-words f (suc n) v = ap (λ l. words f (first v) ++ l) (items-words f n (second v))
 
-pub list-words : (r : Rule) (z : ℕ) (f : Format) (v : Value) → words (listOf r z f) v ≡ counted v ∷ fieldWords (map (field f) (entries v))
+pub list-words : (r : Rule) (z : ℕ) (f : Format) (v : Value)
+    → words (listOf r z f) v ≡ counted v ∷ fieldWords (map (field f) (entries v))
 unfolding words wordsLeaf
 list-words r z f v = ap (λ l. counted v ∷ l) (items-words f (counted v) (second v))
 
 -- a field, and what stands after it
-then : {f : Format} {h : Value → Format} {v : Value} {rest mid : List Part} → Reads (h (first v)) (second v) rest mid → Reads (seq f h) v rest (field f (first v) ∷ mid)
+then : {f : Format} {h : Value → Format} {v : Value} {rest mid : List Part} → Reads (h (first v)) (second v) rest mid
+    → Reads (seq f h) v rest (field f (first v) ∷ mid)
 then r = next one r
 
 -- A variant: its tag, and the part that the tag picks.

@@ -23,8 +23,8 @@ abbrev pub leftOf : Answer → ℕ
 leftOf (Taken w n c l) = l
 leftOf (Refused w p l) = l
 
--- Demand 3: "the sum charged plus the budget left is the starting budget. The sum is that of the longest opening part of the file's
--- charge list that the starting budget covers."
+-- Demand 3: "the sum charged plus the budget left is the starting budget. The sum is that of the longest opening part
+-- of the file's charge list that the starting budget covers."
 pub record Account (ns : List ℕ) (b l : ℕ) : Type 0 where
   pub paid : ℕ
   pub longest : Longest b ns paid
@@ -43,8 +43,9 @@ pub record IsTaken (f : Format) (t : Trace Value) (a b : ℕ) (tape : List ℕ) 
   pub leaves : l ≡ b - total t
   pub writes : closing f a b tape (settle b t) .tape ≡ words f value ++ drop w tape
 
--- "Refused at a charge is 5 with that charge's context, its amount as d1, and as d2 and left the starting budget less all charges before
--- it": the charge after the longest opening part that the budget covers, the first that can't be paid.
+-- "Refused at a charge is 5 with that charge's context, its amount as d1, and as d2 and left the starting budget less
+-- all charges before it": the charge after the longest opening part that the budget covers, the first that can't be
+-- paid.
 pub record IsBroke (t : Trace Value) (b : ℕ) (q : Answer) : Type 0 where
   pub number : ℕ
   pub context : ℕ
@@ -55,18 +56,22 @@ pub record IsBroke (t : Trace Value) (b : ℕ) (q : Answer) : Type 0 where
   pub is : q ≡ (let l = b - sum (take number (amounts t)) in Refused (spent context amount l) place l)
 
 module _ (f : Format) (a b : ℕ) (tape : List ℕ) where
-  written-room : (ws : List ℕ) (p l : ℕ) → length ws ≤ length tape → written a b tape ws p l ≡ record { answer = Taken (length ws) (p - a) (b - l) l; tape = ws ++ drop (length ws) tape }
+  written-room : (ws : List ℕ) (p l : ℕ) → length ws ≤ length tape
+      → written a b tape ws p l ≡ record { answer = Taken (length ws) (p - a) (b - l) l; tape = ws ++ drop (length ws) tape }
   unfolding pick
   written-room ws p l h = go (leb (length ws) (length tape)) (le→leb _ _ h)
     where
-      go : (d : Bool) → T d → pick {A = Outcome} d (record { answer = Taken (length ws) (p - a) (b - l) l; tape = ws ++ drop (length ws) tape }) (record { answer = Refused (noRoomFor (length ws) (length tape)) p l; tape = tape }) ≡ record { answer = Taken (length ws) (p - a) (b - l) l; tape = ws ++ drop (length ws) tape }
+      go : (d : Bool) → T d
+          → pick {A = Outcome} d (record { answer = Taken (length ws) (p - a) (b - l) l; tape = ws ++ drop (length ws) tape }) (record { answer = Refused (noRoomFor (length ws) (length tape)) p l; tape = tape }) ≡ record { answer = Taken (length ws) (p - a) (b - l) l; tape = ws ++ drop (length ws) tape }
       go true x = refl
 
-  written-short : (ws : List ℕ) (p l : ℕ) → length tape < length ws → written a b tape ws p l ≡ record { answer = Refused (noRoomFor (length ws) (length tape)) p l; tape = tape }
+  written-short : (ws : List ℕ) (p l : ℕ) → length tape < length ws
+      → written a b tape ws p l ≡ record { answer = Refused (noRoomFor (length ws) (length tape)) p l; tape = tape }
   unfolding pick
   written-short ws p l h = go (leb (length ws) (length tape)) (leb→le _ _)
     where
-      go : (d : Bool) → (T d → length ws ≤ length tape) → pick {A = Outcome} d (record { answer = Taken (length ws) (p - a) (b - l) l; tape = ws ++ drop (length ws) tape }) (record { answer = Refused (noRoomFor (length ws) (length tape)) p l; tape = tape }) ≡ record { answer = Refused (noRoomFor (length ws) (length tape)) p l; tape = tape }
+      go : (d : Bool) → (T d → length ws ≤ length tape)
+          → pick {A = Outcome} d (record { answer = Taken (length ws) (p - a) (b - l) l; tape = ws ++ drop (length ws) tape }) (record { answer = Refused (noRoomFor (length ws) (length tape)) p l; tape = tape }) ≡ record { answer = Refused (noRoomFor (length ws) (length tape)) p l; tape = tape }
       go true x = let y = x tt in absurd (omega arith)
       go false x = refl
 
@@ -74,7 +79,8 @@ module _ (f : Format) (a b : ℕ) (tape : List ℕ) where
   unfolding pick
   written-left ws p l = go (leb (length ws) (length tape))
     where
-      go : (d : Bool) → leftOf (pick {A = Outcome} d (record { answer = Taken (length ws) (p - a) (b - l) l; tape = ws ++ drop (length ws) tape }) (record { answer = Refused (noRoomFor (length ws) (length tape)) p l; tape = tape }) .answer) ≡ l
+      go : (d : Bool)
+          → leftOf (pick {A = Outcome} d (record { answer = Taken (length ws) (p - a) (b - l) l; tape = ws ++ drop (length ws) tape }) (record { answer = Refused (noRoomFor (length ws) (length tape)) p l; tape = tape }) .answer) ≡ l
       go true = refl
       go false = refl
 
@@ -106,11 +112,13 @@ module _ (f : Format) (a b : ℕ) (tape : List ℕ) where
     short-tape {v} {q} e h k = ap (closing f a b tape) (settle-taken b t v q (b - total t) .1 (e, h, refl)) ∙ written-short (words f v) q (b - total t) k
 
     -- a question is answered no, and the charges before it are paid
-    pub stopped-at : {w : Wrong} {q : ℕ} → out t ≡ stopped w q → total t ≤ b → closing f a b tape (settle b t) ≡ record { answer = Refused w q (b - total t); tape = tape }
+    pub stopped-at : {w : Wrong} {q : ℕ} → out t ≡ stopped w q → total t ≤ b
+        → closing f a b tape (settle b t) ≡ record { answer = Refused w q (b - total t); tape = tape }
     stopped-at e h = ap (closing f a b tape) (settle-stopped b t e h)
 
     -- the budget does not reach
-    pub short-budget : b < total t → IsBroke t b (closing f a b tape (settle b t) .answer) × (closing f a b tape (settle b t) .tape ≡ tape)
+    pub short-budget : b < total t
+        → IsBroke t b (closing f a b tape (settle b t) .answer) × (closing f a b tape (settle b t) .tape ≡ tape)
     short-budget h =
         let i = covered b (amounts t) in
         let r = broke-at t i (b - sum (take i (amounts t))) (covered-lt b (amounts t) h) in
@@ -128,10 +136,13 @@ module _ (f : Format) (a b : ℕ) (tape : List ℕ) where
         )
 
     -- taken only so
-    pub only-when : {w n c l : ℕ} → closing f a b tape (settle b t) .answer ≡ Taken w n c l → IsTaken f t a b tape w n c l
+    pub only-when : {w n c l : ℕ} → closing f a b tape (settle b t) .answer ≡ Taken w n c l
+        → IsTaken f t a b tape w n c l
     only-when {w} {n} {c} {l} e = go (settle b t) refl e
       where
-        done : (v : Value) (q m : ℕ) → settle b t ≡ taken v q m → closing f a b tape (settle b t) .answer ≡ Taken w n c l → length (words f v) ≤ length tape → IsTaken f t a b tape w n c l
+        done : (v : Value) (q m : ℕ) → settle b t ≡ taken v q m
+            → closing f a b tape (settle b t) .answer ≡ Taken w n c l → length (words f v) ≤ length tape
+            → IsTaken f t a b tape w n c l
         done v q m i e k =
             let r = settle-taken b t v q m .0 i in
             let x = taken-when (r .0) (r .1) k in
@@ -139,7 +150,9 @@ module _ (f : Format) (a b : ℕ) (tape : List ℕ) where
             let z : length (words f v) ≡ w = cc in
             record { value = v; place = q; ends = r .0; reaches = r .1; counts = cc; room = omega arith; bytes = cc; charged = cc; leaves = cc; writes = ap (λ o. o .tape) x ∙ rw z }
 
-        by : (v : Value) (q m : ℕ) → settle b t ≡ taken v q m → (d : Bool) → (T d → length (words f v) ≤ length tape) → (T (not d) → length tape < length (words f v)) → closing f a b tape (settle b t) .answer ≡ Taken w n c l → IsTaken f t a b tape w n c l
+        by : (v : Value) (q m : ℕ) → settle b t ≡ taken v q m → (d : Bool) → (T d → length (words f v) ≤ length tape)
+            → (T (not d) → length tape < length (words f v)) → closing f a b tape (settle b t) .answer ≡ Taken w n c l
+            → IsTaken f t a b tape w n c l
         by v q m i true x y e = done v q m i e (x tt)
         by v q m i false x y e =
             let r = settle-taken b t v q m .0 i in
@@ -148,12 +161,14 @@ module _ (f : Format) (a b : ℕ) (tape : List ℕ) where
             let no : _≡_ {A = ℕ} 0 1 = cc in
             absurd (omega arith)
 
-        go : (r : Settled Value) → settle b t ≡ r → closing f a b tape (settle b t) .answer ≡ Taken w n c l → IsTaken f t a b tape w n c l
+        go : (r : Settled Value) → settle b t ≡ r → closing f a b tape (settle b t) .answer ≡ Taken w n c l
+            → IsTaken f t a b tape w n c l
         go (refused x p m) i e = let z : Refused x p m ≡ Taken w n c l = sym (ap (λ r. closing f a b tape r .answer) i) ∙ e in let no : _≡_ {A = ℕ} 0 1 = cc in absurd (omega arith)
         go (taken v q m) i e = by v q m i (leb (length (words f v)) (length tape)) (leb→le _ _) (nleb→lt _ _) e
 
 -- The counted words of the tape are the record of the value.
-pub taken-record : {f : Format} {t : Trace Value} {a b : ℕ} {tape : List ℕ} {w n c l : ℕ} (k : IsTaken f t a b tape w n c l) → take w (closing f a b tape (settle b t) .tape) ≡ words f (k .value)
+pub taken-record : {f : Format} {t : Trace Value} {a b : ℕ} {tape : List ℕ} {w n c l : ℕ} (k : IsTaken f t a b tape w n c l)
+    → take w (closing f a b tape (settle b t) .tape) ≡ words f (k .value)
 taken-record {f} {t} {a} {b} {tape} {w} k = ap (take w) (k .writes) ∙ subst (λ i. take i (words f (k .value) ++ drop w tape) ≡ words f (k .value)) (sym (k .counts)) (take-append-seam (words f (k .value)) _)
 
 -- What a call reads: between its own questions, the format f of the file s from the place a on.
@@ -162,7 +177,8 @@ pub record Reads (f : Format) (t : Trace Value) (s : List ℕ) (a : ℕ) : Type 
 
 module _ {f : Format} {t : Trace Value} {s : List ℕ} {a : ℕ} (reads : Reads f t s a) {b : ℕ} {tape : List ℕ} {w n c l : ℕ} (k : IsTaken f t a b tape w n c l) where
   -- the record decodes to what was read, wherever its texts stand
-  decoded : (s′ : List ℕ) → Held (k .value) s′ → decode f (take w (closing f a b tape (settle b t) .tape)) s′ ≡ (k .value, [])
+  decoded : (s′ : List ℕ) → Held (k .value) s′
+      → decode f (take w (closing f a b tape (settle b t) .tape)) s′ ≡ (k .value, [])
   decoded s′ h = ap (λ ws. decode f ws s′) (taken-record k) ∙ record-decode f s s′ a (reads .inner (k .ends) .0) h
 
   pub call-texts : Held (k .value) s
@@ -171,7 +187,8 @@ module _ {f : Format} {t : Trace Value} {s : List ℕ} {a : ℕ} (reads : Reads 
   pub call-record : (decode f (take w (closing f a b tape (settle b t) .tape)) s ≡ (k .value, [])) × (length (take w (closing f a b tape (settle b t) .tape)) ≡ w) × (w ≤ n)
   call-record = (decoded s call-texts, ap length (taken-record k) ∙ sym (k .counts), omega (arith, k .counts, k .bytes, slim f .most s a (reads .inner (k .ends) .0)))
 
-  pub call-cost : {cost : Value → ℕ} → Costs f cost → (s′ : List ℕ) → Held (k .value) s′ → c ≡ cost (decode f (take w (closing f a b tape (settle b t) .tape)) s′ .0)
+  pub call-cost : {cost : Value → ℕ} → Costs f cost → (s′ : List ℕ) → Held (k .value) s′
+      → c ≡ cost (decode f (take w (closing f a b tape (settle b t) .tape)) s′ .0)
   call-cost {cost} is s′ h =
       let e = reads .inner (k .ends) in
       k .charged ∙ e .1 ∙ trace-charges f s a (e .0) ∙ is .is (k .value) ∙ ap (λ x. cost (x .0)) (sym (decoded s′ h))

@@ -37,15 +37,16 @@ wholeTrace set s =
     guard (leb (length s) maxPackBytes) (tooLarge (length s)) 0
     (bind (trace (pack set) s 0) (λ v q. guard (eqb q (length s)) (wrong Refusals.trailingBytes (length s - q)) q (end v q)))
 
--- That of a section call: "question 1 first; then a place past the end gives 2; both show the place and budget as given."
+-- That of a section call: "question 1 first; then a place past the end gives 2; both show the place and budget as
+-- given."
 unfoldable pub sectionTrace : Settings → ℕ → Section → List ℕ → ℕ → Trace Value
 sectionTrace set n x s p =
     guard (leb (length s) maxPackBytes) (tooLarge (length s)) p
     (guard (leb p (length s)) (wrong Refusals.unexpectedEof 0) p (trace (section set n x) s p))
 
--- "The tape is written only after the whole pack, or the section called, has passed": the record from the first word on, and the
--- rest of the tape as it was; or 26, and the tape as it was. Document 01's tape enough is `length ws ≤ length t`. Bytes are counted
--- from the place a, the budget was b.
+-- "The tape is written only after the whole pack, or the section called, has passed": the record from the first word
+-- on, and the rest of the tape as it was; or 26, and the tape as it was. Document 01's tape enough is `length ws ≤
+-- length t`. Bytes are counted from the place a, the budget was b.
 abbrev pub written : ℕ → ℕ → List ℕ → List ℕ → ℕ → ℕ → Outcome
 written a b t ws p l =
     pick (leb (length ws) (length t))
@@ -92,7 +93,8 @@ pub data Found : Type 0 where
   At : (start length : ℕ) → Found
   Not : Wrong → (place left : ℕ) → Found
 
--- "the payload of the first artifact with exactly these name bytes"; 27 shows the pack's end and the budget left after reading
+-- "the payload of the first artifact with exactly these name bytes"; 27 shows the pack's end and the budget left after
+-- reading
 unfoldable pub lookIn : List ℕ → List Value → ℕ → ℕ → Found
 lookIn name [] p l = Not (wrong Refusals.noSuchArtifact 0) p l
 lookIn name (a ∷ rest) p l =

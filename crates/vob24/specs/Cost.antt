@@ -1,5 +1,5 @@
--- Document 01's cost, "What is charged", worked out from a record and its texts alone: a clause for each record, and no use of the
--- grammar's charges. `PackCost` proves it equal to what a reading charges.
+-- Document 01's cost, "What is charged", worked out from a record and its texts alone: a clause for each record, and no
+-- use of the grammar's charges. `PackCost` proves it equal to what a reading charges.
 use Prim.Native.Nat.{ℕ, _+_, _*_}
 use mathlib.Core.List.{List, [], _∷_, map}
 use lib.ListN.{length, getD}
@@ -111,8 +111,9 @@ module _ (set : Settings) where
   abbrev pub callLayoutCost : Value → ℕ
   callLayoutCost v = slotTypesCost (callLayoutOf v .argLayout) + slotTypesCost (callLayoutOf v .retLayout)
 
-  -- None, ElemLayout, MapGet, MapSet, MapDelete, LoopEnd, three tags that are not in use, PtrLayout, SlotLayout, CallLayout,
-  -- CallExternLayout, QueueLayout, MapIterNext, IfaceAssertLayout, MapNew, CallIfaceLayout, SelectExecLayout
+  -- None, ElemLayout, MapGet, MapSet, MapDelete, LoopEnd, three tags that are not in use, PtrLayout, SlotLayout,
+  -- CallLayout, CallExternLayout, QueueLayout, MapIterNext, IfaceAssertLayout, MapNew, CallIfaceLayout,
+  -- SelectExecLayout
   unfoldable pub metadataCost : Value → ℕ
   metadataCost =
       variantCost

@@ -1,4 +1,5 @@
--- Document 01's worked examples and a table of readings: literal bytes, and the literal answers that the definitions give.
+-- Document 01's worked examples and a table of readings: literal bytes, and the literal answers that the definitions
+-- give.
 use Prim.Native.Nat.{ℕ, _+_, _-_, _<_, _≤_}
 use mathlib.Core.Path.{_≡_, refl, ap}
 use mathlib.Core.List.{List, [], _∷_, _++_, map}
@@ -43,7 +44,8 @@ untouched t a = record { answer = a; tape = t }
 abbrev written : Answer → List ℕ → Outcome
 written a ws = record { answer = a; tape = ws ++ drop (length ws) lent }
 
--- A section's bytes that are taken whole under a budget of 10,000: charged, and the words. n is the number of functions.
+-- A section's bytes that are taken whole under a budget of 10,000: charged, and the words. n is the number of
+-- functions.
 abbrev takenBy : ℕ → Section → List ℕ → ℕ → List ℕ → Reading
 takenBy n x s c ws = record { given = sectionOutcome settings n x s 0 10000 lent; expected = written (Taken (length ws) (length s) c (10000 - c)) ws }
 
@@ -77,7 +79,8 @@ zeros n = replicate n 0
 abbrev letter : ℕ → List ℕ
 letter b = four 1 ++ (b ∷ [])
 
--- one function of one instruction with this metadata, up to its end; and the whole function: what the metadata charges, and its words
+-- one function of one instruction with this metadata, up to its end; and the whole function: what the metadata charges,
+-- and its words
 abbrev instructed : List ℕ → List ℕ
 instructed m = four 1 ++ zeros 36 ++ four 1 ++ zeros 8 ++ four 1 ++ m
 
@@ -114,14 +117,15 @@ packRows =
     ((11 ∷ []) ++ zeros 27 ++ (1 ∷ 84 ∷ []) ++ zeros 26 ++ (1 ∷ 0 ∷ 0 ∷ []))
     -- two in the inline sources
     ∷ packRefused (head ++ zeros 69 ++ four 1 ++ zeros 84 ++ four 2 ++ zeros 16) (refusal 23 13 2 1 168 536870672)
-    -- "a place past the end gives 2; both show the place and budget as given"; "A section counts its bytes from its given place."
+    -- "a place past the end gives 2; both show the place and budget as given"; "A section counts its bytes from its
+    -- given place."
     ∷ record { given = sectionOutcome settings 0 name [] 1 10000 lent; expected = untouched lent (refusal 2 0 0 0 1 10000) }
     ∷ record { given = sectionOutcome settings 0 name (9 ∷ 9 ∷ letter 65) 2 10000 lent; expected = written (Taken 2 5 1 9999) (6 ∷ 1 ∷ []) }
     ∷ []
 
--- "The tape .. holds each field in file order: number or bool one word, 64-bit low word then high, text or payload start and length, list its
--- count then its items, optional id .. always two words (0 0, or 1 and id), other optional parts 0, or 1 and the part. A variant opens with its
--- tag. Signed values are their two's complement bits."
+-- "The tape .. holds each field in file order: number or bool one word, 64-bit low word then high, text or payload
+-- start and length, list its count then its items, optional id .. always two words (0 0, or 1 and id), other optional
+-- parts 0, or 1 and the part. A variant opens with its tag. Signed values are their two's complement bits."
 abbrev pub recordRows : List Reading
 recordRows =
     -- a number
@@ -182,8 +186,9 @@ recordRows =
     ++ (3 ∷ 19 ∷ 0 ∷ 0 ∷ 4 ∷ 20 ∷ 0 ∷ 0 ∷ 21 ∷ 0 ∷ [])) 344
     (1 ∷ 8 ∷ 1 ∷ 1 ∷ 2 ∷ 3 ∷ 4 ∷ 1 ∷ 5 ∷ 6 ∷ 7 ∷ 8 ∷ 1 ∷ 9 ∷ 1 ∷ 4294967295 ∷ 1 ∷ 3 ∷ 0 ∷ 1 ∷ 2 ∷ 1 ∷ 10 ∷ 11 ∷ 12 ∷ 13 ∷ 14 ∷ 1
     ∷ 5 ∷ 15 ∷ 1 ∷ 4097 ∷ 4354 ∷ 18 ∷ 1 ∷ 4 ∷ 1 ∷ 4867 ∷ 5124 ∷ 21 ∷ [])
-    -- the metadata None, ElemLayout, MapGet, MapSet, MapDelete, LoopEnd, PtrLayout, SlotLayout, CallLayout, CallExternLayout, QueueLayout,
-    -- MapIterNext, IfaceAssertLayout, MapNew, CallIfaceLayout, SelectExecLayout with a Send and a Recv
+    -- the metadata None, ElemLayout, MapGet, MapSet, MapDelete, LoopEnd, PtrLayout, SlotLayout, CallLayout,
+    -- CallExternLayout, QueueLayout, MapIterNext, IfaceAssertLayout, MapNew, CallIfaceLayout, SelectExecLayout with a
+    -- Send and a Recv
     ∷ metadata (0 ∷ []) 0 (0 ∷ [])
     ∷ metadata ((1 ∷ []) ++ four 8 ++ (1 ∷ []) ++ four 1 ++ (1 ∷ [])) 1 (1 ∷ 8 ∷ 1 ∷ 1 ∷ 1 ∷ [])
     ∷ metadata ((2 ∷ []) ++ four 1 ++ (1 ∷ []) ++ four 2 ++ (2 ∷ 3 ∷ 1 ∷ [])) 3 (2 ∷ 1 ∷ 1 ∷ 2 ∷ 2 ∷ 3 ∷ 1 ∷ [])
@@ -236,7 +241,8 @@ refusalRows =
     ∷ refused runtimeTypes (four 1 ++ (13 ∷ [])) 10000 (refusal 13 0 13 0 5 9944)
     -- 14: no d1
     ∷ refused constants (four 1 ++ (5 ∷ [])) 10000 (refusal 14 0 0 0 5 9976)
-    -- 15: a metadata tag, a select case, an assert kind, one instruction and no metadata, one metadata and no instruction
+    -- 15: a metadata tag, a select case, an assert kind, one instruction and no metadata, one metadata and no
+    -- instruction
     ∷ refused functions (instructed (6 ∷ [])) 10000 (refusal 15 0 0 0 57 9688)
     ∷ refused functions (instructed (8 ∷ [])) 10000 (refusal 15 0 0 0 57 9688)
     ∷ refused functions (instructed (19 ∷ [])) 10000 (refusal 15 0 0 0 57 9688)
@@ -281,11 +287,13 @@ contextRows =
     ∷ refused artifacts (four 1 ++ letter 110 ++ four 0 ++ letter 0) 57 (refusal 5 10 1 0 18 0)
     ∷ []
 
--- "Names new in their table? 16 struct fields, 17 interface methods, 18 named methods, 19 runtime struct fields by package and name (d1, d2
--- start and length of the repeat; c in 19 the package text's start). "_" is exempt in 16 and 19."
+-- "Names new in their table? 16 struct fields, 17 interface methods, 18 named methods, 19 runtime struct fields by
+-- package and name (d1, d2 start and length of the repeat; c in 19 the package text's start). "_" is exempt in 16 and
+-- 19."
 abbrev pub nameRows : List Reading
 nameRows =
-    -- the third repeats the first: struct fields, an interface's names, its methods, a runtime interface's, a named type's, runtime struct fields
+    -- the third repeats the first: struct fields, an interface's names, its methods, a runtime interface's, a named
+    -- type's, runtime struct fields
     refused structs (four 1 ++ four 0 ++ four 3 ++ letter 97 ++ zeros 10 ++ letter 98 ++ zeros 10 ++ letter 97 ++ zeros 10) 10000
     (refusal 16 0 46 1 57 9610)
     ∷ refused interfaces (four 1 ++ four 0 ++ four 3 ++ letter 97 ++ letter 98 ++ letter 97 ++ four 0) 10000 (refusal 17 0 26 1 31 9757)
@@ -315,7 +323,8 @@ nameRows =
     (1 ∷ 0 ∷ 2 ∷ 16 ∷ 1 ∷ 0 ∷ 0 ∷ 0 ∷ 0 ∷ 0 ∷ 31 ∷ 1 ∷ 0 ∷ 0 ∷ 0 ∷ 0 ∷ 0 ∷ [])
     ∷ taken runtimeTypes (four 1 ++ (8 ∷ []) ++ four 0 ++ four 2 ++ letter 95 ++ zeros 9 ++ letter 112 ++ letter 95 ++ zeros 9 ++ letter 112) 348
     (1 ∷ 8 ∷ 0 ∷ 2 ∷ 17 ∷ 1 ∷ 0 ∷ 26 ∷ 0 ∷ 0 ∷ 31 ∷ 1 ∷ 36 ∷ 1 ∷ 0 ∷ 45 ∷ 0 ∷ 0 ∷ 50 ∷ 1 ∷ [])
-    -- and refused as an interface's names and its methods, a runtime interface's, a named type's; two "__" as struct fields too
+    -- and refused as an interface's names and its methods, a runtime interface's, a named type's; two "__" as struct
+    -- fields too
     ∷ refused interfaces (four 1 ++ four 0 ++ four 2 ++ letter 95 ++ letter 95 ++ four 0) 10000 (refusal 17 0 21 1 26 9814)
     ∷ refused interfaces (four 1 ++ four 0 ++ four 0 ++ four 2 ++ letter 95 ++ zeros 4 ++ letter 95 ++ zeros 4) 10000 (refusal 17 0 29 1 34 9798)
     ∷ refused runtimeTypes (four 1 ++ (9 ∷ []) ++ four 0 ++ four 2 ++ letter 95 ++ zeros 4 ++ letter 95 ++ zeros 4) 10000 (refusal 17 0 26 1 31 9814)
@@ -324,18 +333,20 @@ nameRows =
     (refusal 16 0 32 2 44 9704)
     ∷ []
 
--- "Each is put right after the length word, before bytes and charge": at the limit it is the next question that is answered no, one past it
--- 22 or 23.
+-- "Each is put right after the length word, before bytes and charge": at the limit it is the next question that is
+-- answered no, one past it 22 or 23.
 abbrev pub limitRows : List Reading
 limitRows =
-    -- "Artifacts at most 64, name 128, payload 16,777,216 bytes? 22"; 64 artifacts are charged, and the first name is not there
+    -- "Artifacts at most 64, name 128, payload 16,777,216 bytes? 22"; 64 artifacts are charged, and the first name is
+    -- not there
     refused artifacts (four 64) 10000 (refusal 2 0 0 0 4 6416)
     ∷ refused artifacts (four 65) 10000 (refusal 22 11 65 64 4 10000)
     ∷ refused artifacts (four 1 ++ four 128) 10000 (refusal 2 0 0 0 8 9944)
     ∷ refused artifacts (four 1 ++ four 129) 10000 (refusal 22 9 129 128 8 9944)
     ∷ refused artifacts (four 1 ++ zeros 8 ++ (0 ∷ 0 ∷ 0 ∷ 1 ∷ [])) 10000 (refusal 2 0 0 0 16 9944)
     ∷ refused artifacts (four 1 ++ zeros 8 ++ (1 ∷ 0 ∷ 0 ∷ 1 ∷ [])) 10000 (refusal 22 10 16777217 16777216 16 9944)
-    -- "frames at most 131,072; functions at most the smaller of that and the function count": of 200,000 functions, of 3
+    -- "frames at most 131,072; functions at most the smaller of that and the function count": of 200,000 functions, of
+    -- 3
     ∷ refusedBy 0 inlineSources (0 ∷ 0 ∷ 2 ∷ 0 ∷ []) 10000 (refusal 2 0 0 0 4 10000)
     ∷ refusedBy 0 inlineSources (1 ∷ 0 ∷ 2 ∷ 0 ∷ []) 10000 (refusal 23 12 131073 131072 4 10000)
     ∷ refusedBy 200000 inlineSources (four 0 ++ (0 ∷ 0 ∷ 2 ∷ 0 ∷ [])) 10000 (refusal 2 0 0 0 8 10000)
@@ -403,8 +414,10 @@ pub examples-hold : Hold packRows × Hold recordRows × Hold refusalRows × Hold
 unfolding amounts findOutcome lookIn partOf readOutcome sectionOutcome wholeTrace sectionTrace settle trace traceLeaf traceAsk tracePacked packedStep field room guard bind pick little same chain items words wordsLeaf sizeOf Questions.among Questions.named Questions.fieldKeys Questions.newNames Questions.amongIdentities Questions.newIdentities Questions.transferWords Grammar.structField Grammar.interfaceMethod Grammar.method Grammar.newMethod Grammar.runtimeField Grammar.runtimeMethod Grammar.errorTypes Grammar.objectInterfaces Grammar.constant Grammar.selectCase Grammar.instruction Grammar.transfer Grammar.functionHead Grammar.functionTraits Grammar.location Grammar.span Grammar.frame Grammar.inlineEntry Grammar.struct Grammar.interface Grammar.methods Grammar.namedType Grammar.itab Grammar.runtimeStruct Grammar.runtimeInterface Grammar.runtimeType Grammar.global Grammar.metadata Grammar.code Grammar.transfers Grammar.functionReturns Grammar.functionBody Grammar.function Grammar.artifact Grammar.inlineFunction Grammar.inlineFrames Grammar.inlineFunctions Grammar.section Grammar.afterFunctions Grammar.sections Grammar.pack
 examples-hold = (refl, refl, refl, refl, refl, refl, refl, refl)
 
--- "Length at most 134,217,728? 1 (d1 length, d2 maximum)": any longer pack, at once, with the place and budget as given.
-guard-large : {A : Type 0} (n : ℕ) (w : Wrong) (p b : ℕ) (t : Trace A) → 134217728 < n → settle b (guard (leb n maxPackBytes) w p t) ≡ of.refused w p b
+-- "Length at most 134,217,728? 1 (d1 length, d2 maximum)": any longer pack, at once, with the place and budget as
+-- given.
+guard-large : {A : Type 0} (n : ℕ) (w : Wrong) (p b : ℕ) (t : Trace A) → 134217728 < n
+    → settle b (guard (leb n maxPackBytes) w p t) ≡ of.refused w p b
 unfolding settle guard
 guard-large n w p b t h = go (leb n maxPackBytes) (leb→le n maxPackBytes)
   where
@@ -417,6 +430,7 @@ module _ (set : Settings) (s : List ℕ) (b : ℕ) (t : List ℕ) (h : 134217728
   unfolding readOutcome wholeTrace
   pack-too-large = ap (closing (Grammar.pack set) 0 b t) (guard-large (length s) _ 0 b _ h)
 
-  pub section-too-large : (n : ℕ) (x : Section) (p : ℕ) → sectionOutcome set n x s p b t ≡ untouched t (refusal 1 0 (length s) 134217728 p b)
+  pub section-too-large : (n : ℕ) (x : Section) (p : ℕ)
+      → sectionOutcome set n x s p b t ≡ untouched t (refusal 1 0 (length s) 134217728 p b)
   unfolding sectionOutcome sectionTrace
   section-too-large n x p = ap (closing (Grammar.section set n x) p b t) (guard-large (length s) _ p b _ h)

@@ -1,5 +1,5 @@
--- The fields of each record of the grammar, in file order, under the Rust's names. Questions, costs and the lookup take a value apart by
--- these alone; `Accessors.antt` proves of each record that these are its fields.
+-- The fields of each record of the grammar, in file order, under the Rust's names. Questions, costs and the lookup take
+-- a value apart by these alone; `Accessors.antt` proves of each record that these are its fields.
 use Prim.Native.Nat.{ℕ, suc, zero}
 use Rattle.format.specs.Format.{Value, first, second}
 
@@ -16,7 +16,8 @@ abbrev pub variantOf : Value → record { tag : Value; part : Value }
 variantOf v = record { tag = nth 0 v; part = after 1 v }
 
 -- Structs: `FieldMeta`, `StructMeta`.
-abbrev pub structFieldOf : Value → record { name : Value; offset : Value; slotCount : Value; typeInfo : Value; embedded : Value; tag : Value }
+abbrev pub structFieldOf : Value
+    → record { name : Value; offset : Value; slotCount : Value; typeInfo : Value; embedded : Value; tag : Value }
 structFieldOf v = record { name = nth 0 v; offset = nth 1 v; slotCount = nth 2 v; typeInfo = nth 3 v; embedded = nth 4 v; tag = after 5 v }
 
 abbrev pub structOf : Value → record { slotTypes : Value; fields : Value }
@@ -29,14 +30,17 @@ interfaceMethodOf v = record { name = nth 0 v; signatureRttid = after 1 v }
 abbrev pub interfaceOf : Value → record { name : Value; methodNames : Value; methods : Value }
 interfaceOf v = record { name = nth 0 v; methodNames = nth 1 v; methods = nth 2 v }
 
--- Named types: a method's name with its `MethodInfo`; the same in the list, where a question follows each method; `NamedTypeMeta`.
-abbrev pub methodOf : Value → record { name : Value; funcId : Value; isPointerReceiver : Value; receiverIsIfaceBoxed : Value; signatureRttid : Value }
+-- Named types: a method's name with its `MethodInfo`; the same in the list, where a question follows each method;
+-- `NamedTypeMeta`.
+abbrev pub methodOf : Value
+    → record { name : Value; funcId : Value; isPointerReceiver : Value; receiverIsIfaceBoxed : Value; signatureRttid : Value }
 methodOf v = record { name = nth 0 v; funcId = nth 1 v; isPointerReceiver = nth 2 v; receiverIsIfaceBoxed = nth 3 v; signatureRttid = after 4 v }
 
 abbrev pub newMethodOf : Value → record { method : Value }
 newMethodOf v = record { method = nth 0 v }
 
-abbrev pub namedTypeOf : Value → record { name : Value; underlyingMeta : Value; underlyingRttid : Value; methods : Value }
+abbrev pub namedTypeOf : Value
+    → record { name : Value; underlyingMeta : Value; underlyingRttid : Value; methods : Value }
 namedTypeOf v = record { name = nth 0 v; underlyingMeta = nth 1 v; underlyingRttid = nth 2 v; methods = after 3 v }
 
 -- `Itab`
@@ -102,10 +106,12 @@ wellKnownOf v =
     }
 
 -- `GlobalDef`
-abbrev pub globalOf : Value → record { name : Value; slots : Value; valueKind : Value; metaId : Value; slotTypes : Value }
+abbrev pub globalOf : Value
+    → record { name : Value; slots : Value; valueKind : Value; metaId : Value; slotTypes : Value }
 globalOf v = record { name = nth 0 v; slots = nth 1 v; valueKind = nth 2 v; metaId = nth 3 v; slotTypes = after 4 v }
 
--- Functions: `Instruction`, `SelectCaseLayout`, the variants of `InstructionMetadata` that hold more than one field, `TransferType`.
+-- Functions: `Instruction`, `SelectCaseLayout`, the variants of `InstructionMetadata` that hold more than one field,
+-- `TransferType`.
 abbrev pub instructionOf : Value → record { op : Value; flags : Value; a : Value; b : Value; c : Value }
 instructionOf v = record { op = nth 0 v; flags = nth 1 v; a = nth 2 v; b = nth 3 v; c = after 4 v }
 
@@ -135,7 +141,8 @@ callLayoutOf v = record { argLayout = nth 0 v; retLayout = after 1 v }
 abbrev pub ifaceAssertLayoutOf : Value → record { assertKind : Value; targetId : Value; resultLayout : Value }
 ifaceAssertLayoutOf v = record { assertKind = nth 0 v; targetId = nth 1 v; resultLayout = after 2 v }
 
-abbrev pub callIfaceLayoutOf : Value → record { ifaceMetaId : Value; methodIdx : Value; argLayout : Value; retLayout : Value }
+abbrev pub callIfaceLayoutOf : Value
+    → record { ifaceMetaId : Value; methodIdx : Value; argLayout : Value; retLayout : Value }
 callIfaceLayoutOf v = record { ifaceMetaId = nth 0 v; methodIdx = nth 1 v; argLayout = nth 2 v; retLayout = after 3 v }
 
 abbrev pub transferOf : Value → record { metaRaw : Value; rttidRaw : Value; slots : Value }
@@ -194,7 +201,8 @@ functionOf v =
 abbrev pub artifactOf : Value → record { name : Value; version : Value; payload : Value }
 artifactOf v = record { name = nth 0 v; version = nth 1 v; payload = after 2 v }
 
--- Debug information: `DebugLoc`, `SourceSpan`, `InlineSourceFrame`, `InlineSourceEntry`, `InlineFunctionSources`, `InlineSources`.
+-- Debug information: `DebugLoc`, `SourceSpan`, `InlineSourceFrame`, `InlineSourceEntry`, `InlineFunctionSources`,
+-- `InlineSources`.
 abbrev pub locationOf : Value → record { pc : Value; fileId : Value; line : Value; col : Value; len : Value }
 locationOf v = record { pc = nth 0 v; fileId = nth 1 v; line = nth 2 v; col = nth 3 v; len = after 4 v }
 

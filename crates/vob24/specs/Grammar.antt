@@ -1,5 +1,5 @@
--- The VOB 24 rule pack: every record and variant that `serialize.rs` reads, in file order, and its seventeen sections. The
--- fields by name are `Fields.antt`.
+-- The VOB 24 rule pack: every record and variant that `serialize.rs` reads, in file order, and its seventeen sections.
+-- The fields by name are `Fields.antt`.
 use Prim.Native.Nat.{ℕ, _+_, _-_, _*_, min}
 use mathlib.Core.List.{List, [], _∷_, map}
 use mathlib.Core.Bool.{true, false}
@@ -64,7 +64,8 @@ runtimeMethod = memberName ▸ valueRttid
 unfoldable pub errorTypes : Format
 errorTypes = optionalId ▸ optionalId ▸ optionalId ▸ optionalId ▸ optional (u16 ▸ u16)
 
--- attr_object_iface_id, set_attr_object_iface_id, index_object_iface_id, set_index_object_iface_id, call_object_iface_id
+-- attr_object_iface_id, set_attr_object_iface_id, index_object_iface_id, set_index_object_iface_id,
+-- call_object_iface_id
 unfoldable pub objectInterfaces : Format
 objectInterfaces = optionalId ▸ optionalId ▸ optionalId ▸ optionalId ▸ optionalId
 
@@ -205,8 +206,9 @@ module _ (set : Settings) where
   unfoldable pub global : Format
   global = str ▸ u16 ▸ valueKind ▸ u32 ▸ slotTypes
 
-  -- None, ElemLayout, MapGet, MapSet, MapDelete, LoopEnd, three tags that are not in use, PtrLayout, SlotLayout, CallLayout,
-  -- CallExternLayout, QueueLayout, MapIterNext, IfaceAssertLayout, MapNew, CallIfaceLayout, SelectExecLayout
+  -- None, ElemLayout, MapGet, MapSet, MapDelete, LoopEnd, three tags that are not in use, PtrLayout, SlotLayout,
+  -- CallLayout, CallExternLayout, QueueLayout, MapIterNext, IfaceAssertLayout, MapNew, CallIfaceLayout,
+  -- SelectExecLayout
   abbrev pub metadataVariants : List Format
   metadataVariants =
       empty ∷ (u32 ▸ bool ▸ slotTypes) ∷ (slotTypes ▸ slotTypes ▸ bool) ∷ (slotTypes ▸ slotTypes) ∷ slotTypes ∷ u32 ∷ empty ∷ empty ∷ empty

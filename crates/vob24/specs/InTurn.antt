@@ -47,7 +47,8 @@ abbrev pub readOn : Answer → (ℕ → Settled (List ℕ)) → Settled (List �
 readOn (Taken w n c l) next = next w
 readOn (Refused w p l) next = refused w p l
 
--- The lent calls on these sections, each with position and tape as the last one left them: the words joined, or the first refusal.
+-- The lent calls on these sections, each with position and tape as the last one left them: the words joined, or the
+-- first refusal.
 abbrev pub inTurn : Settings → List ℕ → ℕ → List Section → List ℕ → Position → List ℕ → Settled (List ℕ)
 inTurn set s n [] ws at t = taken ws (at .place) (at .budget)
 inTurn set s n (x ∷ xs) ws at t =
@@ -70,16 +71,19 @@ words-seq : (b : ℕ) (f : Format) (g : Value → Format) (s : List ℕ) (p : �
 unfolding thenS words
 words-seq b f g s p ws = ap (inWords (seq f g) ws) (settle-seq b f g s p) ∙ outer (settle b (trace f s p))
   where
-    inner : (v : Value) (t : Settled Value) → inWords (seq f g) ws (thenS t (λ w r m. taken (pair v w) r m)) ≡ inWords (g v) (ws ++ words f v) t
+    inner : (v : Value) (t : Settled Value)
+        → inWords (seq f g) ws (thenS t (λ w r m. taken (pair v w) r m)) ≡ inWords (g v) (ws ++ words f v) t
     inner v (refused w r m) = refl
     inner v (taken w r m) = ap (λ x. taken x r m) (sym (append-assoc ws (words f v) (words (g v) w)))
 
-    outer : (t : Settled Value) → inWords (seq f g) ws (thenS t (λ v q l. thenS (settle l (trace (g v) s q)) (λ w r m. taken (pair v w) r m))) ≡ thenS t (λ v q l. inWords (g v) (ws ++ words f v) (settle l (trace (g v) s q)))
+    outer : (t : Settled Value)
+        → inWords (seq f g) ws (thenS t (λ v q l. thenS (settle l (trace (g v) s q)) (λ w r m. taken (pair v w) r m))) ≡ thenS t (λ v q l. inWords (g v) (ws ++ words f v) (settle l (trace (g v) s q)))
     outer (refused w r m) = refl
     outer (taken v q l) = inner v (settle l (trace (g v) s q))
 
 -- going on alike from what was taken
-then-alike : {A B : Type 0} (t : Settled A) (k k′ : A → ℕ → ℕ → Settled B) → ((v : A) (q l : ℕ) → t ≡ taken v q l → k v q l ≡ k′ v q l) → thenS t k ≡ thenS t k′
+then-alike : {A B : Type 0} (t : Settled A) (k k′ : A → ℕ → ℕ → Settled B)
+    → ((v : A) (q l : ℕ) → t ≡ taken v q l → k v q l ≡ k′ v q l) → thenS t k ≡ thenS t k′
 unfolding thenS
 then-alike (refused w p l) k k′ h = refl
 then-alike (taken v p l) k k′ h = h v p l refl
@@ -93,12 +97,14 @@ module _ (set : Settings) (n : ℕ) (x : Section) (s : List ℕ) (at : Position)
   abbrev reading : Trace Value
   reading = trace (section set n x) s (at .place)
 
-  lent-so : (o : Outcome) → closing (section set n x) (at .place) (at .budget) t (settle (at .budget) reading) ≡ o → lentOutcome set n x s at t ≡ advancing at o
+  lent-so : (o : Outcome) → closing (section set n x) (at .place) (at .budget) t (settle (at .budget) reading) ≡ o
+      → lentOutcome set n x s at t ≡ advancing at o
   unfolding lentOutcome sectionOutcome
   lent-so o e = ap (λ r. advancing at (closing (section set n x) (at .place) (at .budget) t (settle (at .budget) r))) (section-alone set n x s (at .place) small within) ∙ ap (advancing at) e
 
   -- what reading on from this call comes to, with tape enough
-  read-on : length s ≤ length t → (next : List ℕ → Position → List ℕ → Settled (List ℕ)) (k : Value → ℕ → ℕ → Settled (List ℕ))
+  read-on : length s ≤ length t
+      → (next : List ℕ → Position → List ℕ → Settled (List ℕ)) (k : Value → ℕ → ℕ → Settled (List ℕ))
       → ((v : Value) (q l : ℕ) (t′ : List ℕ) → q ≤ length s → length s ≤ length t′ → next (words (section set n x) v) (record { place = q; budget = l }) t′ ≡ k v q l)
       → on next (lentOutcome set n x s at t) ≡ thenS (settle (at .budget) reading) k
   unfolding thenS
@@ -124,16 +130,20 @@ module _ (set : Settings) where
   -- The format is these sections in turn.
   data Spells : Format → ℕ → List Section → Type 0 where
     last : {n : ℕ} {x : Section} → Spells (section set n x) n (x ∷ [])
-    more : {n : ℕ} {x : Section} {xs : List Section} {g : Value → Format} → ((v : Value) → Spells (g v) (functionsAfter n x (words (section set n x) v)) xs) → Spells (seq (section set n x) g) n (x ∷ xs)
+    more : {n : ℕ} {x : Section} {xs : List Section} {g : Value → Format}
+        → ((v : Value) → Spells (g v) (functionsAfter n x (words (section set n x) v)) xs)
+        → Spells (seq (section set n x) g) n (x ∷ xs)
 
-  spelled : {f : Format} {n : ℕ} {xs : List Section} → Spells f n xs → (s ws : List ℕ) (p b : ℕ) (t : List ℕ) → length s ≤ maxPackBytes → p ≤ length s → length s ≤ length t
+  spelled : {f : Format} {n : ℕ} {xs : List Section} → Spells f n xs → (s ws : List ℕ) (p b : ℕ) (t : List ℕ)
+      → length s ≤ maxPackBytes → p ≤ length s → length s ≤ length t
       → inTurn set s n xs ws (record { place = p; budget = b }) t ≡ inWords f ws (settle b (trace f s p))
   unfolding thenS
   spelled (last {n} {x}) s ws p b t h i room =
       read-on set n x s (record { place = p; budget = b }) t h i room (λ read at t′. taken (ws ++ read) (at .place) (at .budget)) (λ v q l. taken (ws ++ words (section set n x) v) q l) (λ v q l t′ _ _. refl)
       ∙ only (settle b (trace (section set n x) s p))
     where
-      only : (r : Settled Value) → thenS r (λ v q l. taken (ws ++ words (section set n x) v) q l) ≡ inWords (section set n x) ws r
+      only : (r : Settled Value)
+          → thenS r (λ v q l. taken (ws ++ words (section set n x) v) q l) ≡ inWords (section set n x) ws r
       only (refused w q l) = refl
       only (taken v q l) = refl
   spelled (more {n} {x} {xs} {g} k) s ws p b t h i room =
@@ -141,7 +151,8 @@ module _ (set : Settings) where
       (λ v q l t′ j room′. spelled (k v) s (ws ++ words (section set n x) v) q l t′ h j room′)
       ∙ sym (words-seq b (section set n x) g s p ws)
 
-  after-spelled : (n : ℕ) → Spells (afterFunctions set n) n (externs ∷ entry ∷ islandInit ∷ artifacts ∷ files ∷ functionLocations ∷ inlineSources ∷ [])
+  after-spelled : (n : ℕ)
+      → Spells (afterFunctions set n) n (externs ∷ entry ∷ islandInit ∷ artifacts ∷ files ∷ functionLocations ∷ inlineSources ∷ [])
   unfolding afterFunctions
   after-spelled n = more (λ _. more (λ _. more (λ _. more (λ _. more (λ _. more (λ _. last))))))
 
@@ -156,7 +167,8 @@ module _ (set : Settings) where
   -- ---- the whole pack
 
   -- these bytes charge nothing
-  mark-settled : (b : ℕ) (m : List ℕ) (y : ℕ → Wrong) (s : List ℕ) (p : ℕ) {v : Value} {q l : ℕ} → settle b (trace (leaf (mark m y)) s p) ≡ taken v q l → (q ≡ p + length m) × (p + length m ≤ length s) × (l ≡ b)
+  mark-settled : (b : ℕ) (m : List ℕ) (y : ℕ → Wrong) (s : List ℕ) (p : ℕ) {v : Value} {q l : ℕ}
+      → settle b (trace (leaf (mark m y)) s p) ≡ taken v q l → (q ≡ p + length m) × (p + length m ≤ length s) × (l ≡ b)
   unfolding trace charges chargesLeaf
   mark-settled b m y s p {v} {q} {l} e =
       let r = settle-taken b (trace (leaf (mark m y)) s p) v q l .0 e in
@@ -169,12 +181,14 @@ module _ (set : Settings) where
   concludes s b t (refused w p l) = refl
   concludes s b t (taken v q l) = go (eqb q (length s))
     where
-      go : (d : Bool) → closing (pack set) 0 b t (settle l (guard d (wrong Refusals.trailingBytes (length s - q)) q (end v q))) ≡ pick d (written 0 b t (words (pack set) v) q l) (record { answer = Refused (wrong Refusals.trailingBytes (length s - q)) q l; tape = t })
+      go : (d : Bool)
+          → closing (pack set) 0 b t (settle l (guard d (wrong Refusals.trailingBytes (length s - q)) q (end v q))) ≡ pick d (written 0 b t (words (pack set) v) q l) (record { answer = Refused (wrong Refusals.trailingBytes (length s - q)) q l; tape = t })
       go true = refl
       go false = refl
 
-  -- The call on a whole pack: magic, version, then the lent calls on the seventeen sections from place 7 on under the starting budget; a lent
-  -- tape as long as the pack is enough. The same words, place and budget left, or the same refusal.
+  -- The call on a whole pack: magic, version, then the lent calls on the seventeen sections from place 7 on under the
+  -- starting budget; a lent tape as long as the pack is enough. The same words, place and budget left, or the same
+  -- refusal.
   pub read-in-turn : (s : List ℕ) (b : ℕ) (t lent : List ℕ) → length s ≤ maxPackBytes → length s ≤ length lent
       → readOutcome set s b t ≡ concluded s b t (thenS (settle b (trace magic s 0)) (λ _ p l. thenS (settle l (trace version s p)) (λ _ _ _. inTurn set s 0 allSections [] (record { place = 7; budget = b }) lent)))
   unfolding readOutcome pack words wordsLeaf

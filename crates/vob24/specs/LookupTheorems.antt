@@ -1,4 +1,5 @@
--- The lookup's promises: the payload of the first artifact with exactly these name bytes, and 27 exactly where no artifact has them.
+-- The lookup's promises: the payload of the first artifact with exactly these name bytes, and 27 exactly where no
+-- artifact has them.
 use Prim.Native.Nat.{ℕ, suc, zero}
 use mathlib.Core.Path.{_≡_, refl, ap, _∙_}
 use mathlib.Core.List.{List, [], _∷_}
@@ -32,7 +33,8 @@ pub data NoneNamed (name : List ℕ) : List Value → Type 0 where
 -- The artifact is the first of the list that has it.
 pub data FirstNamed (name : List ℕ) (a : Value) : List Value → Type 0 where
   here : {rest : List Value} → Named name a → FirstNamed name a (a ∷ rest)
-  later : {a′ : Value} {rest : List Value} → (Named name a′ → ⊥) → FirstNamed name a rest → FirstNamed name a (a′ ∷ rest)
+  later : {a′ : Value} {rest : List Value} → (Named name a′ → ⊥) → FirstNamed name a rest
+      → FirstNamed name a (a′ ∷ rest)
 
 none-first : {name : List ℕ} {a : Value} {list : List Value} → NoneNamed name list → FirstNamed name a list → ⊥
 none-first (also d n) (here h) = d h
@@ -49,8 +51,10 @@ payloadOf a = artifactOf a .payload
 
 -- Either way, and what the lookup then answers.
 pub data Looked (name : List ℕ) (list : List Value) (p l : ℕ) : Type 0 where
-  missing : NoneNamed name list → lookIn name list p l ≡ Not (wrong Refusals.noSuchArtifact 0) p l → Looked name list p l
-  first′ : (a : Value) → FirstNamed name a list → lookIn name list p l ≡ At (start (payloadOf a)) (length (content (payloadOf a))) → Looked name list p l
+  missing : NoneNamed name list → lookIn name list p l ≡ Not (wrong Refusals.noSuchArtifact 0) p l
+      → Looked name list p l
+  first′ : (a : Value) → FirstNamed name a list
+      → lookIn name list p l ≡ At (start (payloadOf a)) (length (content (payloadOf a))) → Looked name list p l
 
 differs : (name : List ℕ) (a : Value) → same (content (artifactOf a .name)) name ≡ false → Named name a → ⊥
 differs name a e h = go (same (content (artifactOf a .name)) name) e (rw h (same-refl name))
@@ -103,13 +107,15 @@ unfolding items
 held-items zero v s h = none′
 held-items (suc n) v s h = more (held-first v s h) (held-items n (second v) s (held-second v s h))
 
-held-named : {s : List ℕ} {name : List ℕ} {a : Value} {list : List Value} → FirstNamed name a list → AllHeld s list → Held a s
+held-named : {s : List ℕ} {name : List ℕ} {a : Value} {list : List Value} → FirstNamed name a list → AllHeld s list
+    → Held a s
 held-named (here e) (more x y) = x
 held-named (later d f) (more x y) = held-named f y
 
 module _ (set : Settings) (s name : List ℕ) where
   -- A pack that is refused under the Rust's starting budget: its refusal, and an empty part.
-  pub find-refused : {w : Wrong} {p l : ℕ} → settle startingBudget (wholeTrace set s) ≡ refused w p l → (findOutcome set s name ≡ Not w p l) × (foundPart s (findOutcome set s name) ≡ [])
+  pub find-refused : {w : Wrong} {p l : ℕ} → settle startingBudget (wholeTrace set s) ≡ refused w p l
+      → (findOutcome set s name ≡ Not w p l) × (foundPart s (findOutcome set s name) ≡ [])
   unfolding findOutcome
   find-refused e = (ap (looking name) e, ap (λ r. foundPart s (looking name r)) e)
 
@@ -119,10 +125,12 @@ module _ (set : Settings) (s name : List ℕ) where
     unfolding findOutcome
     find-looked = (look name (entries (partOf artifacts v)) p l, ap (looking name) e)
 
-    pub find-none : NoneNamed name (entries (partOf artifacts v)) → findOutcome set s name ≡ Not (wrong Refusals.noSuchArtifact 0) p l
+    pub find-none : NoneNamed name (entries (partOf artifacts v))
+        → findOutcome set s name ≡ Not (wrong Refusals.noSuchArtifact 0) p l
     find-none n = find-looked .1 ∙ go (find-looked .0)
       where
-        go : Looked name (entries (partOf artifacts v)) p l → lookIn name (entries (partOf artifacts v)) p l ≡ Not (wrong Refusals.noSuchArtifact 0) p l
+        go : Looked name (entries (partOf artifacts v)) p l
+            → lookIn name (entries (partOf artifacts v)) p l ≡ Not (wrong Refusals.noSuchArtifact 0) p l
         go (missing _ i) = i
         go (first′ a f i) = absurd (none-first n f)
 
@@ -130,7 +138,8 @@ module _ (set : Settings) (s name : List ℕ) where
       pub find-first : findOutcome set s name ≡ At (start (payloadOf a)) (length (content (payloadOf a)))
       find-first = find-looked .1 ∙ go (find-looked .0)
         where
-          go : Looked name (entries (partOf artifacts v)) p l → lookIn name (entries (partOf artifacts v)) p l ≡ At (start (payloadOf a)) (length (content (payloadOf a)))
+          go : Looked name (entries (partOf artifacts v)) p l
+              → lookIn name (entries (partOf artifacts v)) p l ≡ At (start (payloadOf a)) (length (content (payloadOf a)))
           go (missing n i) = absurd (none-first n f)
           go (first′ b g i) = let same = one-first g f in i ∙ rw same
 

@@ -55,14 +55,19 @@ level-seq x y = record { rated = rated-plain (x .rated) (λ v. y v .rated) }
 level-quiet : {d : ℕ} {l : List Ask} → chargesAsk l ≡ 0 → Level d (leaf (ask l))
 level-quiet {d} {l} h = record { rated = rated-up (omega arith) (omega arith) (rated-ask {k = d * 65536} l) }
 
-level-chained : {S : Type 0} {d : ℕ} {r : Rule} {m c z : ℕ} {f : S → Format} (u : S → Value → S) (x : S) → 1 ≤ m → z ≤ 65536 → ((x : S) → AtLeast 1 (f x)) → ((x : S) → Level d (f x)) → Level (suc d) (seq (leaf (count r m c z)) (λ n. chain f u x (number n)))
+level-chained : {S : Type 0} {d : ℕ} {r : Rule} {m c z : ℕ} {f : S → Format} (u : S → Value → S) (x : S) → 1 ≤ m
+    → z ≤ 65536 → ((x : S) → AtLeast 1 (f x)) → ((x : S) → Level d (f x))
+    → Level (suc d) (seq (leaf (count r m c z)) (λ n. chain f u x (number n)))
 level-chained {d = d} {z = z} u x one small least h = record { rated = rated-up (omega arith) (omega arith) (rated-list {z = z} {k = d * 65536} u x one least (λ x. h x .rated)) }
 
-level-list : {d : ℕ} {r : Rule} {c z : ℕ} {f : Format} → z ≤ 65536 → AtLeast 1 f → Level d f → Level (suc d) (seq (leaf (count r 1 c z)) (λ n. times f (number n)))
+level-list : {d : ℕ} {r : Rule} {c z : ℕ} {f : Format} → z ≤ 65536 → AtLeast 1 f → Level d f
+    → Level (suc d) (seq (leaf (count r 1 c z)) (λ n. times f (number n)))
 level-list small least h = level-chained (λ _ _. tt) tt (omega arith) small (λ _. least) (λ _. h)
 
 -- questions on a part, whose charges the part's bytes cover
-level-follow : {d : ℕ} {f : Format} (l : Value → List Ask) → Level d f → ((v : Value) (p : ℕ) → Valid f v p → chargesAsk (l v) ≤ 65536 * length (bytes f v)) → Level (suc d) (seq f (λ v. leaf (ask (l v))))
+level-follow : {d : ℕ} {f : Format} (l : Value → List Ask) → Level d f
+    → ((v : Value) (p : ℕ) → Valid f v p → chargesAsk (l v) ≤ 65536 * length (bytes f v))
+    → Level (suc d) (seq f (λ v. leaf (ask (l v))))
 level-follow {d} {f} l h under =
     record { rated = rated-up (omega arith) (omega arith) (rated-seq 0 0 65536 (d * 65536) f (λ v. leaf (ask (l v))) (λ v. chargesAsk (l v)) (h .rated) (λ v. rated-ask (l v)) (λ v p g. omega (arith, under v p g))) }
 
@@ -81,12 +86,15 @@ level-choose h = level-seq level-fixed (λ v. level-get h (number v))
 ruleset levels = (level-empty, level-fixed, level-mark, level-packed, level-string, level-payload, level-list, level-choose, done, also, level-seq, least-fore, one-fixed, one-string, one-count, least-packed)
 
 -- the names that are charged weigh no more than all names
-named-under : (z : ℕ) (vs : List Value) → length (Questions.named vs) * z + sum (map textCost (Questions.named vs)) ≤ sum (map (λ v. z + textCost v) vs)
+named-under : (z : ℕ) (vs : List Value)
+    → length (Questions.named vs) * z + sum (map textCost (Questions.named vs)) ≤ sum (map (λ v. z + textCost v) vs)
 unfolding Questions.named sum pick
 named-under z [] = omega arith
 named-under z (v ∷ vs) = go (Questions.blank v) (named-under z vs)
   where
-    go : (d : Bool) → length (Questions.named vs) * z + sum (map textCost (Questions.named vs)) ≤ sum (map (λ v. z + textCost v) vs) → length (pick d (Questions.named vs) (v ∷ Questions.named vs)) * z + sum (map textCost (pick d (Questions.named vs) (v ∷ Questions.named vs))) ≤ z + textCost v + sum (map (λ v. z + textCost v) vs)
+    go : (d : Bool)
+        → length (Questions.named vs) * z + sum (map textCost (Questions.named vs)) ≤ sum (map (λ v. z + textCost v) vs)
+        → length (pick d (Questions.named vs) (v ∷ Questions.named vs)) * z + sum (map textCost (pick d (Questions.named vs) (v ∷ Questions.named vs))) ≤ z + textCost v + sum (map (λ v. z + textCost v) vs)
     go true h = omega arith
     go false h = omega arith
 
@@ -96,7 +104,8 @@ sum-map w h [] = refl
 sum-map w h (v ∷ vs) = ap (λ n. w (h v) + n) (sum-map w h vs)
 
 -- a record that opens with a text
-name-under : (r : Rule) (c : ℕ) (ok : List ℕ → Bool) (h : Value → Format) (v : Value) → 4 + textCost (first v) ≤ length (bytes (seq (leaf (string r c ok)) h) v)
+name-under : (r : Rule) (c : ℕ) (ok : List ℕ → Bool) (h : Value → Format) (v : Value)
+    → 4 + textCost (first v) ≤ length (bytes (seq (leaf (string r c ok)) h) v)
 unfolding bytes bytesLeaf
 name-under r c ok h v =
     omega (arith, length-append (digits 4 (length (content (first v))) ++ content (first v)) (bytes (h (first v)) (second v)), length-append (digits 4 (length (content (first v)))) (content (first v)), length-digits 4 (length (content (first v))))
@@ -104,7 +113,8 @@ name-under r c ok h v =
 weight-under : (z n b : ℕ) → z ≤ 4096 → 4 + n ≤ b → z + n ≤ 65536 * b
 weight-under z n b h i = omega arith
 
-index-under : (z : ℕ) (vs : List Value) (b : ℕ) → sum (map (λ v. z + textCost v) vs) ≤ b → length (Questions.named vs) * z + chargesAsk (Questions.fieldKeys [] (Questions.named vs)) ≤ b
+index-under : (z : ℕ) (vs : List Value) (b : ℕ) → sum (map (λ v. z + textCost v) vs) ≤ b
+    → length (Questions.named vs) * z + chargesAsk (Questions.fieldKeys [] (Questions.named vs)) ≤ b
 index-under z vs b h = omega (arith, named-under z vs, keys-cost [] (Questions.named vs))
 
 -- n names of at most 4,096 each, twice
@@ -126,7 +136,8 @@ module _ (set : Settings) (licensed : Licensed set) where
   unfolding g.structField
   least-field = search levels
 
-  field-weight : (v : Value) (p : ℕ) → Valid g.structField v p → sizeOf set of.StringUsize + textCost (first v) ≤ 65536 * length (bytes g.structField v)
+  field-weight : (v : Value) (p : ℕ) → Valid g.structField v p
+      → sizeOf set of.StringUsize + textCost (first v) ≤ 65536 * length (bytes g.structField v)
   unfolding g.structField
   field-weight v p h = weight-under _ (textCost (first v)) _ (size-most licensed of.StringUsize) (name-under _ _ _ _ v)
 
@@ -134,7 +145,8 @@ module _ (set : Settings) (licensed : Licensed set) where
   unfolding g.struct chargesAsk
   level-struct = level-seq level-slotTypes (λ _. level-follow (λ v. g.fieldIndex set (map first (entries v))) (level-list (small of.FieldMeta) least-field level-field) under)
     where
-      under : (v : Value) (p : ℕ) → Valid (g.list set of.FieldMeta g.structField) v p → chargesAsk (g.fieldIndex set (map first (entries v))) ≤ 65536 * length (bytes (g.list set of.FieldMeta g.structField) v)
+      under : (v : Value) (p : ℕ) → Valid (g.list set of.FieldMeta g.structField) v p
+          → chargesAsk (g.fieldIndex set (map first (entries v))) ≤ 65536 * length (bytes (g.list set of.FieldMeta g.structField) v)
       under v p h = index-under (sizeOf set of.StringUsize) (map first (entries v)) _ (omega (arith, sum-map (λ v. sizeOf set of.StringUsize + textCost v) first (entries v), entries-under free 1 Refusals.vector (sizeOf set of.FieldMeta) g.structField (λ v. sizeOf set of.StringUsize + textCost (first v)) 65536 field-weight v p h))
 
   level-interfaceMethod : {d : ℕ} → Level (suc d) g.interfaceMethod
@@ -146,12 +158,15 @@ module _ (set : Settings) (licensed : Licensed set) where
   least-interfaceMethod = search levels
 
   -- the set of the methods of a list
-  methods-under : (i : ℕ) (f : Format) → AtLeast 1 f → (h : Value → Value) (v : Value) (p : ℕ) → Valid (g.list set i f) v p → chargesAsk (g.methodSet set (map h (entries v))) ≤ 65536 * length (bytes (g.list set i f) v)
+  methods-under : (i : ℕ) (f : Format) → AtLeast 1 f → (h : Value → Value) (v : Value) (p : ℕ)
+      → Valid (g.list set i f) v p
+      → chargesAsk (g.methodSet set (map h (entries v))) ≤ 65536 * length (bytes (g.list set i f) v)
   unfolding chargesAsk
   methods-under i f l h v p w =
       omega (arith, names-free [] (map h (entries v)), set-under (length (map h (entries v))) (sizeOf set of.Str) (length (bytes (g.list set i f) v)) (size-most licensed of.Str) (omega (arith, length-map h (entries v), length-items (counted v) (second v), counted-under free 1 Refusals.vector (sizeOf set i) f l v p w)))
 
-  names-under : (i : ℕ) (f : Format) → AtLeast 1 f → (v : Value) (p : ℕ) → Valid (g.list set i f) v p → chargesAsk (g.methodSet set (entries v)) ≤ 65536 * length (bytes (g.list set i f) v)
+  names-under : (i : ℕ) (f : Format) → AtLeast 1 f → (v : Value) (p : ℕ) → Valid (g.list set i f) v p
+      → chargesAsk (g.methodSet set (entries v)) ≤ 65536 * length (bytes (g.list set i f) v)
   unfolding chargesAsk
   names-under i f l v p w =
       omega (arith, names-free [] (entries v), set-under (length (entries v)) (sizeOf set of.Str) (length (bytes (g.list set i f) v)) (size-most licensed of.Str) (omega (arith, length-items (counted v) (second v), counted-under free 1 Refusals.vector (sizeOf set i) f l v p w)))
@@ -173,10 +188,12 @@ module _ (set : Settings) (licensed : Licensed set) where
       methods : {d : ℕ} → Level (suc (suc d)) (g.list set of.InterfaceMethodMeta g.interfaceMethod)
       methods = level-list (small of.InterfaceMethodMeta) least level-interfaceMethod
 
-      both : (a b : Value) → Rated (chargesAsk (g.methodSet set (entries a)) + chargesAsk (g.methodSet set (map first (entries b)))) (suc (suc d) * 65536) (g.asking (g.methodSet set (entries a)) ▸ g.asking (g.methodSet set (map first (entries b))))
+      both : (a b : Value)
+          → Rated (chargesAsk (g.methodSet set (entries a)) + chargesAsk (g.methodSet set (map first (entries b)))) (suc (suc d) * 65536) (g.asking (g.methodSet set (entries a)) ▸ g.asking (g.methodSet set (map first (entries b))))
       both a b = rated-up (omega arith) (omega arith) (rated-seq (chargesAsk (g.methodSet set (entries a))) (chargesAsk (g.methodSet set (map first (entries b)))) 0 (suc (suc d) * 65536) _ _ (λ _. chargesAsk (g.methodSet set (map first (entries b)))) (rated-ask _) (λ _. rated-ask _) (λ _ _ _. omega arith))
 
-      inner : (a : Value) → Rated (chargesAsk (g.methodSet set (entries a))) (suc (suc (suc d)) * 65536) (seq (g.list set of.InterfaceMethodMeta g.interfaceMethod) (λ b. g.asking (g.methodSet set (entries a)) ▸ g.asking (g.methodSet set (map first (entries b)))))
+      inner : (a : Value)
+          → Rated (chargesAsk (g.methodSet set (entries a))) (suc (suc (suc d)) * 65536) (seq (g.list set of.InterfaceMethodMeta g.interfaceMethod) (λ b. g.asking (g.methodSet set (entries a)) ▸ g.asking (g.methodSet set (map first (entries b)))))
       inner a = rated-up (omega arith) (omega arith) (rated-seq 0 (chargesAsk (g.methodSet set (entries a))) 65536 (suc (suc d) * 65536) (g.list set of.InterfaceMethodMeta g.interfaceMethod) _ (λ b. chargesAsk (g.methodSet set (entries a)) + chargesAsk (g.methodSet set (map first (entries b)))) (methods {d = d} .rated) (both a) (λ v p h. omega (arith, methods-under of.InterfaceMethodMeta g.interfaceMethod least first v p h)))
 
   level-newMethod : {d : ℕ} (seen : List (List ℕ)) → Level (suc d) (g.newMethod seen)
@@ -209,7 +226,8 @@ module _ (set : Settings) (licensed : Licensed set) where
   unfolding g.runtimeStruct chargesAsk
   level-runtimeStruct = level-seq level-fixed (λ _. level-follow (λ v. g.fieldSet set (map g.identity (entries v))) (level-list (small of.StructField) least-runtimeField level-runtimeField) under)
     where
-      under : (v : Value) (p : ℕ) → Valid (g.list set of.StructField g.runtimeField) v p → chargesAsk (g.fieldSet set (map g.identity (entries v))) ≤ 65536 * length (bytes (g.list set of.StructField g.runtimeField) v)
+      under : (v : Value) (p : ℕ) → Valid (g.list set of.StructField g.runtimeField) v p
+          → chargesAsk (g.fieldSet set (map g.identity (entries v))) ≤ 65536 * length (bytes (g.list set of.StructField g.runtimeField) v)
       under v p w =
           omega (arith, identities-free [] (map g.identity (entries v)), set-under (length (map g.identity (entries v))) (sizeOf set of.StrStr) (length (bytes (g.list set of.StructField g.runtimeField) v)) (size-most licensed of.StrStr) (omega (arith, length-map g.identity (entries v), length-items (counted v) (second v), counted-under free 1 Refusals.vector (sizeOf set of.StructField) g.runtimeField least-runtimeField v p w)))
 
@@ -332,7 +350,8 @@ module _ (set : Settings) (licensed : Licensed set) where
   level-pack = search (level-section, levels) depth 40
 
   -- The charges of a section call, and those of the call on a whole pack, sum up to less than 2 ^ 64.
-  pub section-bound : (n : ℕ) (x : Section) (s : List ℕ) (p : ℕ) → Bytes s → length s ≤ maxPackBytes → p ≤ length s → total (trace (g.section set n x) s p) < 2 ^ 64
+  pub section-bound : (n : ℕ) (x : Section) (s : List ℕ) (p : ℕ) → Bytes s → length s ≤ maxPackBytes → p ≤ length s
+      → total (trace (g.section set n x) s p) < 2 ^ 64
   section-bound n x s p b h i = omega (arith, level-section n x .rated .stops s p b i)
 
   pub pack-bound : (s : List ℕ) → Bytes s → length s ≤ maxPackBytes → total (trace (g.pack set) s 0) < 2 ^ 64

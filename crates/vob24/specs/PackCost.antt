@@ -25,30 +25,36 @@ use Rattle.vob24.specs.Cost.{textCost, nothing, listCost, variantCost, o
 pub record Costs (f : Format) (c : Value → ℕ) : Type 0 where
   pub is : (v : Value) → charges f v ≡ c v
 
-chain-costs : {S : Type 0} {f : S → Format} {c : Value → ℕ} (u : S → Value → S) → ((x : S) → Costs (f x) c) → (n : ℕ) (x : S) (v : Value) → charges (chain f u x n) v ≡ sum (map c (items n v))
+chain-costs : {S : Type 0} {f : S → Format} {c : Value → ℕ} (u : S → Value → S) → ((x : S) → Costs (f x) c)
+    → (n : ℕ) (x : S) (v : Value) → charges (chain f u x n) v ≡ sum (map c (items n v))
 unfolding chain charges items sum
 chain-costs u h zero x v = refl
 chain-costs u h (suc n) x v = ap₂ _+_ (h x .is (first v)) (chain-costs u h n (u x (first v)) (second v))
 
 -- a list whose items share a state, and one whose items are alike
-chained-costs : {S : Type 0} {r : Rule} {m k z : ℕ} {f : S → Format} {c : Value → ℕ} (u : S → Value → S) (x : S) → ((x : S) → Costs (f x) c) → Costs (seq (leaf (count r m k z)) (λ n. chain f u x (number n))) (listCost z c)
+chained-costs : {S : Type 0} {r : Rule} {m k z : ℕ} {f : S → Format} {c : Value → ℕ} (u : S → Value → S) (x : S)
+    → ((x : S) → Costs (f x) c) → Costs (seq (leaf (count r m k z)) (λ n. chain f u x (number n))) (listCost z c)
 unfolding charges chargesLeaf
 chained-costs {z = z} u x h = record { is = λ v. ap (λ n. number (first v) * z + n) (chain-costs u h (number (first v)) x (second v)) }
 
-list-costs : {r : Rule} {m k z : ℕ} {f : Format} {c : Value → ℕ} → Costs f c → Costs (seq (leaf (count r m k z)) (λ n. times f (number n))) (listCost z c)
+list-costs : {r : Rule} {m k z : ℕ} {f : Format} {c : Value → ℕ} → Costs f c
+    → Costs (seq (leaf (count r m k z)) (λ n. times f (number n))) (listCost z c)
 list-costs h = chained-costs (λ _ _. tt) tt (λ _. h)
 
 data Parts : List Format → List (Value → ℕ) → Type 0 where
   done : Parts [] []
-  also : {f : Format} {c : Value → ℕ} {fs : List Format} {cs : List (Value → ℕ)} → Costs f c → Parts fs cs → Parts (f ∷ fs) (c ∷ cs)
+  also : {f : Format} {c : Value → ℕ} {fs : List Format} {cs : List (Value → ℕ)} → Costs f c → Parts fs cs
+      → Parts (f ∷ fs) (c ∷ cs)
 
-part-costs : {fs : List Format} {cs : List (Value → ℕ)} → Parts fs cs → (n : ℕ) (v : Value) → charges (getD fs n empty) v ≡ getD cs n nothing v
+part-costs : {fs : List Format} {cs : List (Value → ℕ)} → Parts fs cs → (n : ℕ) (v : Value)
+    → charges (getD fs n empty) v ≡ getD cs n nothing v
 unfolding charges
 part-costs done n v = refl
 part-costs (also h k) zero v = h .is v
 part-costs (also h k) (suc n) v = part-costs k n v
 
-variant-costs : {r : Rule} {fs : List Format} {cs : List (Value → ℕ)} → Parts fs cs → Costs (choose r fs) (variantCost cs)
+variant-costs : {r : Rule} {fs : List Format} {cs : List (Value → ℕ)} → Parts fs cs
+    → Costs (choose r fs) (variantCost cs)
 unfolding charges chargesLeaf
 variant-costs h = record { is = λ v. omega (arith, part-costs h (number (variantOf v .tag)) (variantOf v .part)) }
 
@@ -68,7 +74,8 @@ text-costs : {r : Rule} {k : ℕ} {ok : List ℕ → Bool} → Costs (leaf (stri
 unfolding charges chargesLeaf
 text-costs = record { is = λ v. refl }
 
-free-seq : {f : Format} {h : Value → Format} → Costs f nothing → ((v : Value) → Costs (h v) nothing) → Costs (seq f h) nothing
+free-seq : {f : Format} {h : Value → Format} → Costs f nothing → ((v : Value) → Costs (h v) nothing)
+    → Costs (seq f h) nothing
 unfolding charges
 free-seq a b = record { is = λ v. omega (arith, a .is (first v), b (first v) .is (second v)) }
 
@@ -106,7 +113,8 @@ unfolding pick chargesAsk
 agree-free true w = refl
 agree-free false w = refl
 
-pub keys-cost : (seen : List (List ℕ)) (vs : List Value) → chargesAsk (Questions.fieldKeys seen vs) ≡ sum (map textCost vs)
+pub keys-cost : (seen : List (List ℕ)) (vs : List Value)
+    → chargesAsk (Questions.fieldKeys seen vs) ≡ sum (map textCost vs)
 unfolding Questions.fieldKeys chargesAsk sum
 keys-cost seen [] = refl
 keys-cost seen (v ∷ vs) = ap (λ n. textCost v + n) (refuse-free _ _ _ ∙ keys-cost (content v ∷ seen) vs)

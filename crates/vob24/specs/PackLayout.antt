@@ -1,5 +1,5 @@
--- No count of the pack asks for bytes that its items do not take: a section, or a pack, is read to its end exactly where it is the
--- layout of a valid value.
+-- No count of the pack asks for bytes that its items do not take: a section, or a pack, is read to its end exactly
+-- where it is the layout of a valid value.
 use Prim.Native.Nat.{ℕ, _-_}
 use mathlib.Core.List.{List}
 use native.Mathlib.Omega.{arith}

@@ -63,8 +63,8 @@ newIdentities seen (x ∷ xs) =
 abbrev pub functionWrong : ℕ → ℕ → ℕ → Wrong
 functionWrong c i x = record { number = invalidFunctionMetadata; context = c; detail1 = i; detail2 = x }
 
--- "Transfer words valid? c 1 capture meta, 2 capture rttid, 3 parameter meta, 4 parameter rttid; d1 index, d2 word": the
--- words meta and rttid of each entry, from the entry number i on.
+-- "Transfer words valid? c 1 capture meta, 2 capture rttid, 3 parameter meta, 4 parameter rttid; d1 index, d2 word":
+-- the words meta and rttid of each entry, from the entry number i on.
 unfoldable pub transferWords : ℕ → ℕ → List (ℕ × ℕ) → List Ask
 transferWords c i [] = []
 transferWords c i (x ∷ xs) =

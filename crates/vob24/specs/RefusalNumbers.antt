@@ -21,7 +21,8 @@ use Rattle.vob24.specs.Grammar.{Section, name, structs, interfaces, name
 use Rattle.vob24.specs.Calls as vob
 use Rattle.vob24.specs.Cost.{partOf}
 
--- The numbers of the questions that are put to a file, the charges' 5 among them: 1 to 25. 26 and 27 are the calls' own.
+-- The numbers of the questions that are put to a file, the charges' 5 among them: 1 to 25. 26 and 27 are the calls'
+-- own.
 abbrev lastNumber : ℕ
 lastNumber = 25
 
@@ -44,14 +45,16 @@ data Numbered {A : Type 0} : Trace A → Type 0 where
   pays : {c n p : ℕ} {t : Trace A} → Numbered t → Numbered (charge c n p t)
   passes : {n p : ℕ} {t : Trace A} → Numbered t → Numbered (needs n p t)
 
-numbered-bind : {A B : Type 0} {t : Trace A} {k : A → ℕ → Trace B} → Numbered t → ((a : A) (q : ℕ) → Numbered (k a q)) → Numbered (bind t k)
+numbered-bind : {A B : Type 0} {t : Trace A} {k : A → ℕ → Trace B} → Numbered t → ((a : A) (q : ℕ) → Numbered (k a q))
+    → Numbered (bind t k)
 unfolding bind
 numbered-bind (stops h) k = stops h
 numbered-bind (ends {a = a} {p = p}) k = k a p
 numbered-bind (pays h) k = pays (numbered-bind h k)
 numbered-bind (passes h) k = passes (numbered-bind h k)
 
-numbered-guard : {A : Type 0} (d : Bool) (w : Wrong) (p : ℕ) (t : Trace A) → (d ≡ false → Listed w) → Numbered t → Numbered (guard d w p t)
+numbered-guard : {A : Type 0} (d : Bool) (w : Wrong) (p : ℕ) (t : Trace A) → (d ≡ false → Listed w) → Numbered t
+    → Numbered (guard d w p t)
 unfolding guard
 numbered-guard true w p t h k = k
 numbered-guard false w p t h k = stops (h refl)
@@ -60,7 +63,8 @@ numbered-room : {A : Type 0} (n : ℕ) (s : List ℕ) (p : ℕ) (t : Trace A) �
 unfolding room
 numbered-room n s p t h = numbered-guard _ _ _ _ (λ _. listed refl refl) (passes h)
 
-numbered-field : {A : Type 0} (n : ℕ) (s : List ℕ) (p : ℕ) (k : List ℕ → Trace A) → ((bs : List ℕ) → Numbered (k bs)) → Numbered (field n s p k)
+numbered-field : {A : Type 0} (n : ℕ) (s : List ℕ) (p : ℕ) (k : List ℕ → Trace A) → ((bs : List ℕ) → Numbered (k bs))
+    → Numbered (field n s p k)
 unfolding field
 numbered-field n s p k h = numbered-room _ _ _ _ (h _)
 
@@ -128,12 +132,14 @@ numbered-trace (sound-count h) s p = numbered-field _ _ _ _ (λ bs. numbered-gua
 numbered-trace (sound-ask h) s p = numbered-ask h p
 numbered-trace (sound-seq h k) s p = numbered-bind (numbered-trace h s p) (λ v q. numbered-bind (numbered-trace (k v) s q) (λ _ _. ends))
 
-sound-chain : {S : Type 0} (f : S → Format) (u : S → Value → S) → ((x : S) → Sound (f x)) → (n : ℕ) (x : S) → Sound (chain f u x n)
+sound-chain : {S : Type 0} (f : S → Format) (u : S → Value → S) → ((x : S) → Sound (f x)) → (n : ℕ) (x : S)
+    → Sound (chain f u x n)
 unfolding chain
 sound-chain f u h zero x = sound-empty
 sound-chain f u h (suc n) x = sound-seq (h x) (λ v. sound-chain f u h n (u x v))
 
-sound-list : {S : Type 0} (r : Rule) (m c z : ℕ) (f : S → Format) (u : S → Value → S) (x : S) → Ruled r → ((x : S) → Sound (f x)) → Sound (seq (leaf (count r m c z)) (λ n. chain f u x (number n)))
+sound-list : {S : Type 0} (r : Rule) (m c z : ℕ) (f : S → Format) (u : S → Value → S) (x : S) → Ruled r
+    → ((x : S) → Sound (f x)) → Sound (seq (leaf (count r m c z)) (λ n. chain f u x (number n)))
 sound-list r m c z f u x h k = sound-seq (sound-count h) (λ n. sound-chain f u k (number n) x)
 
 data All : List Format → Type 0 where
@@ -333,7 +339,8 @@ unfolding pick
 closes f a b t (refuses h) = refused (given h)
 closes f a b t (takes {v = v} {p = p} {l = l}) = go (leb (length (words f v)) (length t))
   where
-    go : (d : Bool) → Answered (pick {A = vob.Outcome} d (record { answer = vob.Taken (length (words f v)) (p - a) (b - l) l; tape = words f v ++ drop (length (words f v)) t }) (record { answer = vob.Refused (vob.noRoomFor (length (words f v)) (length t)) p l; tape = t }) .answer)
+    go : (d : Bool)
+        → Answered (pick {A = vob.Outcome} d (record { answer = vob.Taken (length (words f v)) (p - a) (b - l) l; tape = words f v ++ drop (length (words f v)) t }) (record { answer = vob.Refused (vob.noRoomFor (length (words f v)) (length t)) p l; tape = t }) .answer)
     go true = taken
     go false = refused (own refl refl)
 
@@ -342,7 +349,8 @@ unfolding vob.lookIn pick
 looks x [] p l = missed (own refl refl)
 looks x (v ∷ vs) p l = go (same (content (artifactOf v .name)) x) (looks x vs p l)
   where
-    go : (d : Bool) → Looked (vob.lookIn x vs p l) → Looked (pick d (vob.At (start (artifactOf v .payload)) (length (content (artifactOf v .payload)))) (vob.lookIn x vs p l))
+    go : (d : Bool) → Looked (vob.lookIn x vs p l)
+        → Looked (pick d (vob.At (start (artifactOf v .payload)) (length (content (artifactOf v .payload)))) (vob.lookIn x vs p l))
     go true h = found
     go false h = h
 
@@ -356,17 +364,20 @@ module _ (set : Settings) where
   part n x s p = numbered-guard _ _ _ _ (λ _. listed refl refl) (numbered-guard _ _ _ _ (λ _. listed refl refl) (numbered-trace (sound-section set n x) s p))
 
   -- Neither 26 nor 27 is the answer to a question that is put to the file.
-  pub whole-listed : (s : List ℕ) (b : ℕ) {w : Wrong} {p l : ℕ} → settle b (vob.wholeTrace set s) ≡ of.refused w p l → Listed w
+  pub whole-listed : (s : List ℕ) (b : ℕ) {w : Wrong} {p l : ℕ} → settle b (vob.wholeTrace set s) ≡ of.refused w p l
+      → Listed w
   whole-listed s b = refusal-listed (settles (whole s) b)
 
-  pub section-listed : (n : ℕ) (x : Section) (s : List ℕ) (p b : ℕ) {w : Wrong} {q l : ℕ} → settle b (vob.sectionTrace set n x s p) ≡ of.refused w q l → Listed w
+  pub section-listed : (n : ℕ) (x : Section) (s : List ℕ) (p b : ℕ) {w : Wrong} {q l : ℕ}
+      → settle b (vob.sectionTrace set n x s p) ≡ of.refused w q l → Listed w
   section-listed n x s p b = refusal-listed (settles (part n x s p) b)
 
   pub read-numbered : (s : List ℕ) (b : ℕ) (t : List ℕ) → Answered (vob.readOutcome set s b t .answer)
   unfolding vob.readOutcome
   read-numbered s b t = closes (g.pack set) 0 b t (settles (whole s) b)
 
-  pub section-numbered : (n : ℕ) (x : Section) (s : List ℕ) (p b : ℕ) (t : List ℕ) → Answered (vob.sectionOutcome set n x s p b t .answer)
+  pub section-numbered : (n : ℕ) (x : Section) (s : List ℕ) (p b : ℕ) (t : List ℕ)
+      → Answered (vob.sectionOutcome set n x s p b t .answer)
   unfolding vob.sectionOutcome
   section-numbered n x s p b t = closes (g.section set n x) p b t (settles (part n x s p) b)
 

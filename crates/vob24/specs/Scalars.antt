@@ -25,15 +25,18 @@ module _ (k : ℕ) where
   unfolding pick
   one b t e = rw e
 
-  two : (b c : ℕ) (t : List ℕ) (lo hi : ℕ) → lead b ≡ want 1 lo hi → lo ≤ c → c ≤ hi → from k (b ∷ c ∷ t) ≡ from (suc k) t
+  two : (b c : ℕ) (t : List ℕ) (lo hi : ℕ) → lead b ≡ want 1 lo hi → lo ≤ c → c ≤ hi
+      → from k (b ∷ c ∷ t) ≡ from (suc k) t
   unfolding pick
   two b c t lo hi e h j = rw (e, inside lo hi c h j)
 
-  three : (b c d : ℕ) (t : List ℕ) (lo hi : ℕ) → lead b ≡ want 2 lo hi → lo ≤ c → c ≤ hi → 0x80 ≤ d → d ≤ 0xbf → from k (b ∷ c ∷ d ∷ t) ≡ from (suc k) t
+  three : (b c d : ℕ) (t : List ℕ) (lo hi : ℕ) → lead b ≡ want 2 lo hi → lo ≤ c → c ≤ hi → 0x80 ≤ d → d ≤ 0xbf
+      → from k (b ∷ c ∷ d ∷ t) ≡ from (suc k) t
   unfolding pick
   three b c d t lo hi e h j h' j' = rw (e, inside lo hi c h j, inside 0x80 0xbf d h' j')
 
-  four : (b c d f : ℕ) (t : List ℕ) (lo hi : ℕ) → lead b ≡ want 3 lo hi → lo ≤ c → c ≤ hi → 0x80 ≤ d → d ≤ 0xbf → 0x80 ≤ f → f ≤ 0xbf → from k (b ∷ c ∷ d ∷ f ∷ t) ≡ from (suc k) t
+  four : (b c d f : ℕ) (t : List ℕ) (lo hi : ℕ) → lead b ≡ want 3 lo hi → lo ≤ c → c ≤ hi → 0x80 ≤ d → d ≤ 0xbf
+      → 0x80 ≤ f → f ≤ 0xbf → from k (b ∷ c ∷ d ∷ f ∷ t) ≡ from (suc k) t
   unfolding pick
   four b c d f t lo hi e h j h' j' h'' j'' = rw (e, inside lo hi c h j, inside 0x80 0xbf d h' j', inside 0x80 0xbf f h'' j'')
 
@@ -48,7 +51,8 @@ encode2 v h k = rw (le-ltb v 0x80 h, lt-ltb v 0x800 k)
 encode3 : (v : ℕ) → 0x800 ≤ v → v < 0x10000 → encode v ≡ (0xe0 + v / 4096) ∷ (0x80 + v / 64 % 64) ∷ (0x80 + v % 64) ∷ []
 encode3 v h k = rw (le-ltb v 0x80 (omega arith), le-ltb v 0x800 h, lt-ltb v 0x10000 k)
 
-encode4 : (v : ℕ) → 0x10000 ≤ v → encode v ≡ (0xf0 + v / 262144) ∷ (0x80 + v / 4096 % 64) ∷ (0x80 + v / 64 % 64) ∷ (0x80 + v % 64) ∷ []
+encode4 : (v : ℕ) → 0x10000 ≤ v
+    → encode v ≡ (0xf0 + v / 262144) ∷ (0x80 + v / 4096 % 64) ∷ (0x80 + v / 64 % 64) ∷ (0x80 + v % 64) ∷ []
 encode4 v h = rw (le-ltb v 0x80 (omega arith), le-ltb v 0x800 (omega arith), le-ltb v 0x10000 h)
 
 -- an encoding is passed as a whole
@@ -96,7 +100,8 @@ record Cont (k left lo hi : ℕ) (bs : List ℕ) (m : ℕ) : Type 0 where
   high : c ≤ hi
   rest : scanFrom (pick (eqb (left - 1) 0) (suc k) k) (left - 1) 0x80 0xbf t ≡ characters m
 
-cont : (k left lo hi : ℕ) → eqb left 0 ≡ false → (bs : List ℕ) {m : ℕ} → scanFrom k left lo hi bs ≡ characters m → Cont k left lo hi bs m
+cont : (k left lo hi : ℕ) → eqb left 0 ≡ false → (bs : List ℕ) {m : ℕ} → scanFrom k left lo hi bs ≡ characters m
+    → Cont k left lo hi bs m
 unfolding pick
 cont k left lo hi n [] u = illFormed≢characters (rw n at u)
 cont k left lo hi n (c ∷ t) {m} u = go (leb lo c) (leb c hi) refl refl
@@ -116,7 +121,8 @@ record Counts (k : ℕ) (bs : List ℕ) (m : ℕ) : Type 0 where
 add : {k m : ℕ} {bs t : List ℕ} (v : ℕ) → Scalar v → bs ≡ encode v ++ t → Counts (suc k) t m → Counts k bs m
 add {k} {m} v s e r = record { n = suc (r .n); encodes = subst (Encodes (suc (r .n))) (sym e) (more v s (r .encodes)); sum = omega (arith, r .sum) }
 
-put3 : {k m : ℕ} (b c d : ℕ) (t : List ℕ) → 0xe0 ≤ b → b ≤ 0xef → 0x80 ≤ c → c ≤ 0xbf → 32 ≤ (b - 0xe0) * 64 + (c - 0x80) → ((b - 0xe0) * 64 + (c - 0x80) < 864) ⊎ (896 ≤ (b - 0xe0) * 64 + (c - 0x80))
+put3 : {k m : ℕ} (b c d : ℕ) (t : List ℕ) → 0xe0 ≤ b → b ≤ 0xef → 0x80 ≤ c → c ≤ 0xbf
+    → 32 ≤ (b - 0xe0) * 64 + (c - 0x80) → ((b - 0xe0) * 64 + (c - 0x80) < 864) ⊎ (896 ≤ (b - 0xe0) * 64 + (c - 0x80))
     → 0x80 ≤ d → d ≤ 0xbf → Counts (suc k) t m → Counts k (b ∷ c ∷ d ∷ t) m
 put3 {k} {m} b c d t hb kb hc kc lo g hd kd r = go ((b - 0xe0) * 64 + (c - 0x80)) refl
   where
@@ -131,7 +137,8 @@ put3 {k} {m} b c d t hb kb hc kc lo g hd kd r = go ((b - 0xe0) * 64 + (c - 0x80)
             let d' : 0x80 + v % 64 ≡ d = omega arith in
             add v (⊎-elim (λ a. inl (omega arith)) (λ a. inr (omega arith, omega arith)) g) (rw (encode3 v (omega arith) (omega arith), b', c', d')) r
 
-put4 : {k m : ℕ} (b c d f : ℕ) (t : List ℕ) → 0xf0 ≤ b → 0x80 ≤ c → c ≤ 0xbf → 16 ≤ (b - 0xf0) * 64 + (c - 0x80) → (b - 0xf0) * 64 + (c - 0x80) < 272
+put4 : {k m : ℕ} (b c d f : ℕ) (t : List ℕ) → 0xf0 ≤ b → 0x80 ≤ c → c ≤ 0xbf → 16 ≤ (b - 0xf0) * 64 + (c - 0x80)
+    → (b - 0xf0) * 64 + (c - 0x80) < 272
     → 0x80 ≤ d → d ≤ 0xbf → 0x80 ≤ f → f ≤ 0xbf → Counts (suc k) t m → Counts k (b ∷ c ∷ d ∷ f ∷ t) m
 put4 {k} {m} b c d f t hb hc kc lo hi hd kd hf kf r = go ((b - 0xf0) * 64 + (c - 0x80)) refl
   where

@@ -126,7 +126,8 @@ pub record Settings : Type 0 where
 abbrev pub settings : Settings
 settings = record { sizes = measured; artifacts = 64; artifactNameBytes = 128; artifactPayloadBytes = 16777216; inlineRecords = 131072 }
 
--- The settings that an array of numbers stands for: the sizes; then the limits, where one above 65,535 takes two, low first.
+-- The settings that an array of numbers stands for: the sizes; then the limits, where one above 65,535 takes two, low
+-- first.
 unfoldable pub settingsOf : List ℕ → Settings
 settingsOf l =
     record {

@@ -19,7 +19,8 @@ abbrev pub choose : Bool → Next → Next → Next
 choose true a b = a
 choose false a b = b
 
--- Table 3-7, Well-Formed UTF-8 Byte Sequences, row by row: the first byte, how many follow, and the range of the second.
+-- Table 3-7, Well-Formed UTF-8 Byte Sequences, row by row: the first byte, how many follow, and the range of the
+-- second.
 abbrev pub lead : ℕ → Next
 lead b =
     choose (in? 0x00 0x7f b) (want 0 0x80 0xbf)

@@ -1,6 +1,6 @@
-// The VOB 24 rule pack: its grammar, its definitions of text, packed numbers, record, cost and calls, and their theorems, in specs/.
-// The code here is the list of sections, and the table of sizes and limits that every charge reads; it ports the `size_of` terms and
-// the limits of serialize.rs.
+// The VOB 24 rule pack: its grammar, its definitions of text, packed numbers, record, cost and calls, and their
+// theorems, in specs/. The code here is the list of sections, and the table of sizes and limits that every charge
+// reads; it ports the `size_of` terms and the limits of serialize.rs.
 ghost use mathlib.Core.Path.{_≡_};
 ghost use Prim.Native.Nat.{_≤_, _<_};
 ghost use lib.ListN.{getD};
@@ -82,12 +82,13 @@ pub fn section_at(i: usize) -> Section
     }
 }
 
-// What a reading is set to: the 32 sizes, and behind them the limits, at the indexes that `limits` names (`settingsOf` in
-// specs/Settings.antt). Readers take it as `&Settings`. An entry is below 65,536 by its type, so that no count times a size wraps.
+// What a reading is set to: the 32 sizes, and behind them the limits, at the indexes that `limits` names (`settingsOf`
+// in specs/Settings.antt). Readers take it as `&Settings`. An entry is below 65,536 by its type, so that no count times
+// a size wraps.
 pub type Settings = [u16; 38];
 
-// What the Rust is set to: `size_of` on the pinned 64-bit compiler, in order of first use along the reading (StructMeta to
-// InlineSourceEntry); then its limits.
+// What the Rust is set to: `size_of` on the pinned 64-bit compiler, in order of first use along the reading (StructMeta
+// to InlineSourceEntry); then its limits.
 pub const MEASURED: [u16; 38] = [
     96,
     1,

@@ -1,4 +1,5 @@
-// Where the limits stand in the settings, behind the 32 sizes. One that may be above 65,535 takes two entries, low first.
+// Where the limits stand in the settings, behind the 32 sizes. One that may be above 65,535 takes two entries, low
+// first.
 pub const ARTIFACTS: usize = 32;
 
 pub const ARTIFACT_NAME_BYTES: usize = 33;
