@@ -103,8 +103,8 @@ fn short_number(x: u64) -> Short
     none
 }
 
-// From the next eight bytes: eight numbers of one byte each; else one of 1 to 4 bytes and, if it took one byte, a second; else none. Where
-// eight bytes are not there it reads none, and the leaf asks for its bytes.
+// From the next eight bytes: eight numbers of one byte each; else one of 1 to 4 bytes and, if it took one byte, a
+// second; else none. Where eight bytes are not there it reads none, and the leaf asks for its bytes.
 fn short_numbers(s: &[u8], c: Cursor, n: u64, tape: &mut [u32]) -> Rest
     requires { ⌜ ReadyAt (now s) c × (0 < n) ⌝ }
     ensures { λ q. ⌜ Runs sourceU32 (now (s .entry)) c (now (tape .entry)) n q (now (tape .exit)) × (q .items ≤ n) ⌝ }

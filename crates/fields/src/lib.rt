@@ -1,6 +1,6 @@
 // The field readers: a leaf, and its words on the tape. Each opens a leaf's answer by `let .. else` and passes the refusal up.
-// `field_` readers take the answer so far and give the next; `number_` and `span_` readers start at a cursor and also return
-// the number, or the start and length, that they read. Ports the read_ functions of serialize.rs on one field.
+// `field_` readers take the answer so far and give the next; `number_` and `span_` readers start at a cursor and also
+// return the number, or the start and length, that they read. Ports the read_ functions of serialize.rs on one field.
 ghost use Rattle.format.specs.Format.{number};
 ghost use Rattle.vob24.specs.Settings.{settingsOf};
 ghost use Rattle.vob24.specs.Leaves.{u8, u16, u32, u64, optionalId, bool, slotType, valueKind, direction, valueMeta, valueRttid, sourceU32, str, memberName, optional};

@@ -1,6 +1,6 @@
 // Leaves with a length or a count: payloads, texts, and the counts of lists, each with the bytes left and the charge.
-// Ports read_bytes, read_string and, for the counts, what read_vec, read_debug_vec and their kin of `impl ByteReader` in serialize.rs ask before
-// the first item.
+// Ports read_bytes, read_string and, for the counts, what read_vec, read_debug_vec and their kin of `impl ByteReader`
+// in serialize.rs ask before the first item.
 ghost use mathlib.Core.Path.{_≡_};
 ghost use Prim.Native.Nat.{_+_, _≤_};
 ghost use lib.ListN.{length as lengthOf};
@@ -130,7 +130,8 @@ fn text(s: &[u8], start: usize, length: usize, d: Cursor) -> Text
     Text::Got(start, length, n, d)
 }
 
-// Scalars, not a Cursor: each text depends on the place after the one before, and a store and load in between would add its latency to every text.
+// Scalars, not a Cursor: each text depends on the place after the one before, and a store and load in between would add
+// its latency to every text.
 pub fn read_string(s: &[u8], place: usize, left: u64, at: usize) -> Text
     requires { ⌜ ReadyAt (now s) (cursorAt place left at) ⌝ }
     ensures { λ q. ⌜ Texts (Leaf.string free Refusals.byteString wellFormed) (now (s .entry)) (cursorAt place left at) q ⌝ }

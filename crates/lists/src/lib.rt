@@ -1,6 +1,6 @@
 // The items of lists of u16, u32 and slot types, after the count. As many as possible are read at once, as a run.
-// Ports the loops of `read_vec` in serialize.rs over them. A run stops before an item that is refused, or whose words do
-// not all fit the tape; the rest is read item by item.
+// Ports the loops of `read_vec` in serialize.rs over them. A run stops before an item that is refused, or whose words
+// do not all fit the tape; the rest is read item by item.
 ghost use mathlib.Core.Path.{_≡_};
 ghost use mathlib.Core.Bool.{false};
 ghost use mathlib.Core.List.{[], _∷_};
@@ -34,7 +34,8 @@ pub fn fewer(n: u64, most: usize) -> usize
     if n < (most as u64) { n as usize } else { most }
 }
 
-// How many of n items of `words` words fit from `at` on; all n where the tape has ended, as words are then only counted.
+// How many of n items of `words` words fit from `at` on; all n where the tape has ended, as words are then only
+// counted.
 pub fn fitting(n: usize, words: usize, at: usize, length: usize) -> usize
     requires { ⌜ 0 < words ⌝ }
     ensures { λ q. ⌜ (q ≤ n) × Fits words q at length ⌝ }
@@ -174,7 +175,8 @@ fn part_of(n: usize) -> usize
     if n < PART { n } else { PART }
 }
 
-// Copies the parts before the first with a byte above `most`. The contract does not say why it stopped: the item reader tests again from there.
+// Copies the parts before the first with a byte above `most`. The contract does not say why it stopped: the item reader
+// tests again from there.
 fn copy_low(s: &[u8], from: usize, n: usize, most: u8, tape: &mut [u32], at: usize) -> usize
     requires { ⌜ (from + n ≤ length (now s)) × (at + n < 18446744073709551616) × Fits 1 n at (length (now tape)) ⌝ }
     ensures { λ q. ⌜ CopiedLow n (now (s .entry)) from most (now (tape .entry)) at q (now (tape .exit)) ⌝ }

@@ -1,6 +1,6 @@
 // The metadata of each instruction.
-// Ports InstructionMetadata of bytecode.rs and read_instruction_metadata_for_version of serialize.rs. A metadata is answered as an enum
-// without lists, in a record beside its lists' starts and counts.
+// Ports InstructionMetadata of bytecode.rs and read_instruction_metadata_for_version of serialize.rs. A metadata is
+// answered as an enum without lists, in a record beside its lists' starts and counts.
 ghost use mathlib.Core.Path.{_≡_};
 ghost use mathlib.Core.Bool.{true};
 ghost use Prim.Native.Nat.{_≤_};

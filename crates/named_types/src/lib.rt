@@ -58,8 +58,8 @@ fn read_methods(s: &[u8], d: Cursor, n: usize, first: usize, tape: &mut [u32]) -
     }
 }
 
-// Reads all methods, then, in a first pass, looks for the first repeat; if there is one, reads again up to it, so that the refusal shows that
-// method's place and budget.
+// Reads all methods, then, in a first pass, looks for the first repeat; if there is one, reads again up to it, so that
+// the refusal shows that method's place and budget.
 fn methods(s: &[u8], set: &Settings, r: Step, again: bool, tape: &mut [u32]) -> Step
     requires { ⌜ (Ready (now s) r) × (Accepted again (namedMethods (settingsOf (now set))) (now s) r) ⌝ }
     ensures { λ q. ⌜ Reader (namedMethods (settingsOf (now (set .entry)))) (now (s .entry)) r (now (tape .entry)) q (now (tape .exit)) ⌝ }

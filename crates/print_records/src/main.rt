@@ -1,5 +1,6 @@
-// Prints one record of each kind from its bytes: runtime types, instructions' metadata, select cases and constants. A line has the enum's case
-// with its fields; for a record, the start and count of its lists; then the place after it. A constant's line ends with its words on the tape.
+// Prints one record of each kind from its bytes: runtime types, instructions' metadata, select cases and constants. A
+// line has the enum's case with its fields; for a record, the start and count of its lists; then the place after it. A
+// constant's line ends with its words on the tape.
 ghost use Prim.Native.Nat.{_≤_};
 ghost use mathlib.Core.Path.{_≡_};
 ghost use lib.ListN.{length};

@@ -220,8 +220,8 @@ fn hash_bytes(s: &[u8], start: usize, len: usize, seed: u64, h: u64) -> u64
     join(s, start, start + len, seed, h, h)
 }
 
-// Extends the hash h by the text at p. Its length goes in first, times the seed: else ("a", "bc") and ("ab", "c") collide, and two lanes that
-// start from known values could be made to cancel out under every seed.
+// Extends the hash h by the text at p. Its length goes in first, times the seed: else ("a", "bc") and ("ab", "c")
+// collide, and two lanes that start from known values could be made to cancel out under every seed.
 fn hash_text(s: &[u8], p: usize, seed: u64, h: u64) -> u64
     requires { ⌜ (TextAt (now s) p) × (seed < 4294967296) ⌝ }
     ensures { λ q. ⌜ TextHash seed h (now (s .entry)) p q ⌝ }
@@ -304,8 +304,8 @@ fn outside(h: u64, lo: u64, hi: u64) -> bool
 
 // ---- a pass over the items
 
-// Does the item at p repeat one of the i before it? Considers only suspects of class lo to hi. `left`: how many comparisons without a repeat
-// this pass still tolerates.
+// Does the item at p repeat one of the i before it? Considers only suspects of class lo to hi. `left`: how many
+// comparisons without a repeat this pass still tolerates.
 fn probed(
     s: &[u8],
     table: Table,
@@ -498,7 +498,8 @@ fn past_items(s: &[u8], table: Table, from: usize, n: usize) -> usize
     p
 }
 
-// The next seed is a hash of the whole table, under a seed that no filter uses: names that collide under it cannot be chosen without changing it.
+// The next seed is a hash of the whole table, under a seed that no filter uses: names that collide under it cannot be
+// chosen without changing it.
 fn fresh_seed(s: &[u8], table: Table, from: usize, n: usize, seed: u64) -> u64
     requires { ⌜ (Items (formatIn table) n (now s) from) × (seed < 4294967296) ⌝ }
     ensures { λ q. ⌜ q < 4294967296 ⌝ }
@@ -512,7 +513,8 @@ fn fresh_seed(s: &[u8], table: Table, from: usize, n: usize, seed: u64) -> u64
 }
 
 // The first repeat, with a large filter or a small one. Names that were made to collide under one seed do not collide
-// under the next. `many` is called at two places so that the compiler does not inline it: its large frame must stay out of this one.
+// under the next. `many` is called at two places so that the compiler does not inline it: its large frame must stay out
+// of this one.
 fn searched(s: &[u8], table: Table, from: usize, n: usize, large: bool) -> usize
     requires { ⌜ Items (formatIn table) n (now s) from ⌝ }
     ensures { λ q. ⌜ FirstRepeat (keysAt table (now (s .entry)) from) n q ⌝ }

@@ -1,5 +1,5 @@
-// The members of runtime types: the fields of a struct, no two with the same identity, and the methods of an interface, no two
-// with the same name.
+// The members of runtime types: the fields of a struct, no two with the same identity, and the methods of an interface,
+// no two with the same name.
 // Ports StructField and InterfaceMethod of runtime_type.rs and their reading by read_runtime_type of serialize.rs.
 ghost use Rattle.vob24.specs.Settings.{settingsOf};
 ghost use Rattle.format.specs.Format.{counted};

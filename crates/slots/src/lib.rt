@@ -83,8 +83,8 @@ fn short(s: &[u8], place: usize, at: usize, tape: &mut [u32]) -> usize
     0
 }
 
-// Also returns the count. Where four can be paid, the short way asks nothing of the budget. `number_any` gets copies: a value whose address
-// escapes is spilled on the short way too.
+// Also returns the count. Where four can be paid, the short way asks nothing of the budget. `number_any` gets copies: a
+// value whose address escapes is spilled on the short way too.
 pub fn number_slot_types(s: &[u8], set: &Settings, c: Cursor, tape: &mut [u32]) -> Number
     requires { ⌜ ReadyAt (now s) c ⌝ }
     ensures { λ q. ⌜ NumberOf (slotTypes (settingsOf (now (set .entry)))) counted (now (s .entry)) c (now (tape .entry)) q (now (tape .exit)) ⌝ }
@@ -112,8 +112,8 @@ pub fn number_slot_types(s: &[u8], set: &Settings, c: Cursor, tape: &mut [u32]) 
     any
 }
 
-// The short way is here a second time: with `number_any` called at one place only, the compiler would inline it there, and the caller would
-// be too long to be inlined itself.
+// The short way is here a second time: with `number_any` called at one place only, the compiler would inline it there,
+// and the caller would be too long to be inlined itself.
 pub fn slot_types(s: &[u8], set: &Settings, r: Step, tape: &mut [u32]) -> Step
     requires { ⌜ Ready (now s) r ⌝ }
     ensures { λ q. ⌜ Reader (slotTypes (settingsOf (now (set .entry)))) (now (s .entry)) r (now (tape .entry)) q (now (tape .exit)) ⌝ }

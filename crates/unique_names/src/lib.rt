@@ -112,8 +112,8 @@ fn judged(s: &[u8], table: Table, from: usize, n: usize, first: usize, c: Cursor
     Step::Taken(here)
 }
 
-// The questions on n items whose keys cost `cost` in all, item `first` being the first that repeats another: at once where there is none
-// and all can be paid.
+// The questions on n items whose keys cost `cost` in all, item `first` being the first that repeats another: at once
+// where there is none and all can be paid.
 fn settled(
     s: &[u8],
     table: Table,

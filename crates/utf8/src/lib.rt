@@ -235,7 +235,8 @@ fn wrong(c3: u8, c2: u8, c1: u8, b: u8) -> u8
 // A multiple of 16, and so few that a u8 can count the trailing bytes.
 const PART: usize = 240;
 
-// What was found of `width` bytes: `wrong` is below 128 where each may follow those before it; `trailing` counts the trailing bytes.
+// What was found of `width` bytes: `wrong` is below 128 where each may follow those before it; `trailing` counts the
+// trailing bytes.
 struct Part {
     width: usize,
     wrong: u8,
@@ -527,7 +528,8 @@ pub fn try_short(s: &[u8], start: usize, size: usize) -> Tried
     Tried::Characters(size - p.trailing as usize)
 }
 
-// The text of `size` bytes at start. ASCII is tested first and whole: the cheapest for a text without accents, and one with some loses little.
+// The text of `size` bytes at start. ASCII is tested first and whole: the cheapest for a text without accents, and one
+// with some loses little.
 pub fn scan_at(s: &[u8], start: usize, size: usize) -> Scanned
     requires { ⌜ start + size ≤ length (now s) ⌝ }
     ensures { λ q. ⌜ scanOf q ≡ Utf8.scan (take size (drop start (now (s .entry)))) ⌝ }
