@@ -1,5 +1,6 @@
 // Fast path for 20 zero bytes, which are five empty lists: a small pack has no types, or no artifacts and debug
-// information. The Rust has none of these; it reads each by `read_vec` of serialize.rs.
+// information.
+// The Rust has none of these; it reads each by `read_vec` of serialize.rs.
 ghost use mathlib.Core.Bool.{true};
 ghost use mathlib.Core.Path.{_≡_};
 ghost use Rattle.reader.specs.Contract.{ReadyAt};
