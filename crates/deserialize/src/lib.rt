@@ -13,7 +13,7 @@ use reader::Step;
 use vob24::Section;
 use vob24::Settings;
 
-// The artifacts and the debug information: five lists, which are empty in a small pack.
+// The artifacts and the debug information: five lists, of which the inline sources have two, all empty in a small pack.
 fn artifacts_on(s: &[u8], set: &Settings, r: Step, functions: u64, tape: &mut [u32]) -> Step
     requires { ⌜ Ready (now s) r ⌝ }
     ensures { λ q. ⌜ Reader (fromSection (settingsOf (now (set .entry))) functions vob.artifacts) (now (s .entry)) r
