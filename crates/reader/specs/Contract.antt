@@ -102,7 +102,7 @@ pub record On (f : Format) (s : List ℕ) (v : Value) (q l : ℕ) (r : Step) : T
   pub is : r ≡ Taken cursor
   pub settles : settle (cursor .left) (trace f s (cursor .place)) ≡ taken v q l
 
--- The contract of a reader at a cursor that also hands out a number of the value that it read.
+-- The contract of a reader at a cursor that also returns a number of the value that it read.
 pub data ReadsOf (f : Format) (of : Value → ℕ) (s : List ℕ) (c : Cursor) (t : List ℕ) : Number → List ℕ → Type 0 where
   got : {v : Value} {n : ℕ} {c′ : Cursor} {t′ : List ℕ} → n ≡ of v → Takes f s c t v c′ t′
       → ReadsOf f of s c t (Got n c′) t′
@@ -112,7 +112,7 @@ pub record NumberOf (f : Format) (of : Value → ℕ) (s : List ℕ) (c : Cursor
   pub reads : ReadsOf f of s c t q t′
   pub ready : Ready s (stepOf q)
 
--- The contract of a reader at a cursor that also hands out the start and the length of the text or payload that it
+-- The contract of a reader at a cursor that also returns the start and the length of the text or payload that it
 -- read.
 pub data ReadsSpan (f : Format) (s : List ℕ) (c : Cursor) (t : List ℕ) : Payload → List ℕ → Type 0 where
   gotSpan : {p n : ℕ} {c′ : Cursor} {t′ : List ℕ} → p + n ≤ length s → Takes f s c t (text p (part s p n)) c′ t′
