@@ -389,7 +389,7 @@ def written_out(document):
         if shown:
             example = found.setdefault(title, Example())
             getattr(example, shown[1]).extend(numbers(shown[2], 16 if shown[1] == "bytes" else 10))
-        call = re.fullmatch(r"    read_(\w+) at (\d+): (.*)", line)
+        call = re.fullmatch(r"    vob_(\w+) at (\d+): +(.*)", line)
         if call:
             found[title].call = call[1], int(call[2]), numbers(call[3], 10)
     for title, rows in document.examples:
@@ -412,7 +412,7 @@ def examples(document):
             last = first + 1
             must(result.sections[first][0] == place, f"{title}: {name} starts at {result.sections[first][0]}")
             call = reader.section(pack, last, place, reader.RUST_BUDGET, 0, reader.NO_END)
-            must(call.words == words, f"{title}: read_{name} gives {call.words}")
+            must(call.words == words, f"{title}: vob_{name} gives {call.words}")
         # The table has the fields of the whole pack, or of the section of the call.
         walk = Walk(document, pack, example.words)
         before = len(walk.through(document.sections[:first]).leaves)
