@@ -14,10 +14,11 @@ use vob24::Settings;
 // The Rust's own, under which the lookup reads.
 pub const STARTING_BUDGET: u64 = 536_870_912;
 
-// A pack of at most SMALL bytes is read once, into a local tape of OWN words that is then copied.
+// A pack of at most SMALL bytes is read once, into a local tape of OWN words that is then copied. A pack without entries
+// has 37 words; clearing a longer tape would cost each small pack more.
 const SMALL: usize = 128;
 
-const OWN: usize = 64;
+const OWN: usize = 40;
 
 // A small pack: where its record fits the call's own tape, it is copied from there.
 fn read_once(pack: &[u8], set: &Settings, start: Step, budget: u64, tape: &mut [u32]) -> Answer
@@ -44,10 +45,15 @@ pub fn read(pack: &[u8], budget: u64, tape: &mut [u32]) -> Answer
     ensures { λ q. ⌜ ReadCall settings (now (pack .entry)) budget (now (tape .entry)) q (now (tape .exit)) ⌝ }
 {
     let set = &vob24::MEASURED;
-    let start = calls::opening_whole(pack, budget);
     if pack.len() <= SMALL {
+        let start = Step::Taken(Cursor {
+            place: 0,
+            left: budget,
+            at: 0,
+        });
         return read_once(pack, set, start, budget, tape);
     }
+    let start = calls::opening_whole(pack, budget);
     let first = deserialize::deserialize(pack, set, start, false, &mut tape[..0]);
     let answer = calls::closed_whole(first, pack.len(), budget, tape.len());
     let Answer::Taken { .. } = answer else {
