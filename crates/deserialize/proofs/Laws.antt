@@ -1,5 +1,5 @@
 -- Reading on to a section of what a whole reading has taken.
-use Prim.Native.Nat.{ℕ, suc, zero, _+_, _<_}
+use Prim.Native.Nat.{ℕ, suc, zero, min, _+_, _<_}
 use mathlib.Core.Path.{_≡_, refl}
 use mathlib.Core.List.{List, [], _∷_}
 use mathlib.Core.Bool.{Bool, true}
@@ -12,24 +12,51 @@ use Rattle.format.specs.Format.{Value, first, second, number, Rule, count, Form
 use Rattle.format.specs.Reading.{trace}
 use Rattle.format.specs.SettleTheorems.{settle-taken}
 use Rattle.format.specs.TraceTheorems.{seq-ends}
+use Rattle.vob24.specs.Settings as of
 use Rattle.vob24.specs.Settings.{Settings}
+use Rattle.vob24.specs.Leaves.{str}
 use Rattle.vob24.specs.Grammar as vob
-use Rattle.vob24.specs.Grammar.{inlineSources, section, afterFunctions, sections, magic, version, pack}
+use Rattle.vob24.specs.Grammar.{inlineSources, section, afterFunctions, sections, magic, version, pack, list, struct, interface, namedType, itab, runtimeType, constant, global, function, artifact, location, frame, inlineFunction, stillLeft, inlineFrames, inlineFunctions}
 use Rattle.vob24.specs.Sections.{sectionOf, functionsOf}
 use Rattle.vob24.specs.Fields.{after}
 use Rattle.vob24.specs.Cost.{allSections}
 use Rattle.vob24.specs.declared.Section.{Section}
 use Rattle.in_place.specs.Walk.{list-off}
-use Rattle.reader.specs.Contract.{Ready, ReadyAt, Reader, On}
+use Rattle.reader.specs.Contract.{Ready, ReadyAt, Reader, ComesTo, On}
 use Rattle.reader.specs.Accepted.{Accepted}
 use Rattle.reader.proofs.Accepting.{accepted-next, accepted-on, on-accepted, on-next}
+use Rattle.reader.proofs.Laws.{fieldThen, comes-next, comes-last}
+use Rattle.reader.specs.declared.Cursor.{Cursor}
 use Rattle.reader.specs.declared.Step.{Step}
-use Rattle.deserialize.specs.Parts.{formatOf, functionsBy, inOrder, fromNumber, functionsBefore}
+use Rattle.reader.specs.declared.Step.the-variants.{Taken}
+use Rattle.empty_lists.specs.Empty.{Zeros, PastEmpty, tapeAfter}
+use Rattle.empty_lists.proofs.Laws.{emptyRead, emptyChain, emptyThen, emptyCount}
+use Rattle.deserialize.specs.Parts.{formatOf, functionsBy, inOrder, fromNumber, fromSection, functionsBefore}
 use Rattle.deserialize.specs.Reach.{Reaches, ListStands}
 
 -- an empty list is within any limit
-pub within-any : (n : ℕ) → leb 0 n ≡ true
+within-any : (n : ℕ) → leb 0 n ≡ true
 within-any n = le-leb 0 n (omega arith)
+
+-- ---- lists without entries
+module _ (set : Settings) {s : List ℕ} {c d : Cursor} {t t′ : List ℕ} (y : ReadyAt s c) where
+  pub no-types : Zeros s (c .place) 5 → PastEmpty 5 c t d t′
+      → ComesTo (fromSection set 0 vob.structs) (fromSection set 0 vob.wellKnown) s (Taken c) t (Taken d) t′
+  unfolding section
+  no-types z p =
+      rw (p .is, p .writes) (comes-next (emptyRead y z t 0 (omega arith) (struct set) refl) (comes-next (emptyRead y z t 1 (omega arith) (interface set) refl) (comes-next (emptyRead y z t 2 (omega arith) (namedType set) refl) (comes-next (emptyRead y z t 3 (omega arith) (itab set) refl) (comes-last (emptyRead y z t 4 (omega arith) (runtimeType set) refl))))))
+
+  pub no-code : Zeros s (c .place) 4 → PastEmpty 4 c t d t′ → {q : Step} {t″ : List ℕ}
+      → Reader (fromSection set 0 vob.entry) s (Taken d) t′ q t″ → Reader (fromSection set 0 vob.constants) s (Taken c) t q t″
+  unfolding section
+  no-code z p k =
+      fieldThen (emptyRead y z t 0 (omega arith) constant refl) (λ _. fieldThen (emptyRead y z t 1 (omega arith) (global set) refl) (λ _. emptyThen y z t 2 (omega arith) (function set) refl (fieldThen (emptyCount y z t 3 (omega arith) refl) (λ _. rw (p .is, p .writes) at k))))
+
+  pub no-artifacts : Zeros s (c .place) 5 → PastEmpty 5 c t d t′ → (n : ℕ)
+      → Reader (fromSection set n vob.artifacts) s (Taken c) t (Taken d) t′
+  unfolding section inlineFrames inlineFunctions
+  no-artifacts z p n =
+      rw (p .is, p .writes) (fieldThen (emptyRead y z t 0 (omega arith) (artifact set) (within-any (set .artifacts))) (λ _. fieldThen (emptyRead y z t 1 (omega arith) str refl) (λ _. fieldThen (emptyRead y z t 2 (omega arith) (list set of.DebugLoc location) refl) (λ _. fieldThen (emptyRead y z t 3 (omega arith) frame (within-any (set .inlineRecords))) (λ _. emptyChain y z t 4 (omega arith) (inlineFunction set) stillLeft (set .inlineRecords) (within-any (min n (set .inlineRecords))))))))
 
 -- ---- one section, by its name
 module _ (set : Settings) {x : Section} (y : Section) (e : x ≡ y) {s : List ℕ} {r : Step} where

@@ -22,8 +22,8 @@ fn artifacts_on(s: &[u8], set: &Settings, r: Step, functions: u64, tape: &mut [u
     let Step::Taken(c) = r else {
         return r;
     };
-    if empty_lists::five_at(s, c) {
-        return Step::Taken(empty_lists::past_five(s, c, tape));
+    if empty_lists::empty_at(s, c, 5) {
+        return Step::Taken(empty_lists::past_empty(s, c, 5, tape));
     }
     let r1 = small_sections::artifacts(s, set, r, tape);
     let r2 = debug_info::files(s, set, r1, tape);
@@ -31,16 +31,15 @@ fn artifacts_on(s: &[u8], set: &Settings, r: Step, functions: u64, tape: &mut [u
     debug_info::inline_sources(s, set, r3, functions, tape)
 }
 
-// The sections after the functions, by the number of functions.
-fn after_functions(s: &[u8], set: &Settings, r: Step, functions: u64, tape: &mut [u32]) -> Step
+// The sections after the externs, by the number of functions.
+fn entry_on(s: &[u8], set: &Settings, r: Step, functions: u64, tape: &mut [u32]) -> Step
     requires { ⌜ Ready (now s) r ⌝ }
-    ensures { λ q. ⌜ Reader (fromSection (settingsOf (now (set .entry))) functions vob.externs) (now (s .entry)) r
+    ensures { λ q. ⌜ Reader (fromSection (settingsOf (now (set .entry))) functions vob.entry) (now (s .entry)) r
         (now (tape .entry)) q (now (tape .exit)) ⌝ }
 {
-    let r1 = small_sections::externs(s, r, tape);
-    let r2 = small_sections::entry(s, r1, tape);
-    let r3 = small_sections::island_init(s, r2, tape);
-    artifacts_on(s, set, r3, functions, tape)
+    let r1 = small_sections::entry(s, r, tape);
+    let r2 = small_sections::island_init(s, r1, tape);
+    artifacts_on(s, set, r2, functions, tape)
 }
 
 // The functions, and the sections after them.
@@ -56,7 +55,26 @@ fn functions_on(s: &[u8], set: &Settings, r: Step, tape: &mut [u32]) -> Step
     let Number::Got(n, d) = q else {
         return reader::step_of(q);
     };
-    after_functions(s, set, Step::Taken(d), n, tape)
+    let r1 = small_sections::externs(s, Step::Taken(d), tape);
+    entry_on(s, set, r1, n, tape)
+}
+
+// The constants, and the sections after them: four lists first, all empty in a pack without code.
+fn constants_on(s: &[u8], set: &Settings, r: Step, tape: &mut [u32]) -> Step
+    requires { ⌜ Ready (now s) r ⌝ }
+    ensures { λ q. ⌜ Reader (fromSection (settingsOf (now (set .entry))) 0 vob.constants) (now (s .entry)) r
+        (now (tape .entry)) q (now (tape .exit)) ⌝ }
+{
+    let Step::Taken(c) = r else {
+        return r;
+    };
+    if empty_lists::empty_at(s, c, 4) {
+        let d = empty_lists::past_empty(s, c, 4, tape);
+        return entry_on(s, set, Step::Taken(d), 0, tape);
+    }
+    let r1 = constants::constants(s, set, r, tape);
+    let r2 = small_sections::globals(s, set, r1, tape);
+    functions_on(s, set, r2, tape)
 }
 
 // The types: five lists, which are empty in a small pack.
@@ -69,8 +87,8 @@ fn types(s: &[u8], set: &Settings, r: Step, again: bool, tape: &mut [u32]) -> St
     let Step::Taken(c) = r else {
         return r;
     };
-    if empty_lists::five_at(s, c) {
-        return Step::Taken(empty_lists::past_five(s, c, tape));
+    if empty_lists::empty_at(s, c, 5) {
+        return Step::Taken(empty_lists::past_empty(s, c, 5, tape));
     }
     let r1 = structs::structs(s, set, r, again, tape);
     let r2 = interfaces::interfaces(s, set, r1, again, tape);
@@ -90,9 +108,7 @@ pub fn deserialize(s: &[u8], set: &Settings, r: Step, again: bool, tape: &mut [u
     let r3 = fields::field_str(s, r2, tape);
     let r4 = types(s, set, r3, again, tape);
     let r5 = small_sections::well_known(s, r4, tape);
-    let r6 = constants::constants(s, set, r5, tape);
-    let r7 = small_sections::globals(s, set, r6, tape);
-    functions_on(s, set, r7, tape)
+    constants_on(s, set, r5, tape)
 }
 
 // One section. A second pass leaves out the search for repeated names.

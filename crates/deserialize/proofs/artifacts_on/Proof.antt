@@ -1,12 +1,8 @@
-use Prim.Native.Nat.{min}
-use mathlib.Core.Path.{refl}
-use Rattle.vob24.specs.Settings as of
 use Rattle.vob24.specs.Settings.{settingsOf}
-use Rattle.vob24.specs.Leaves.{str}
-use Rattle.vob24.specs.Grammar.{section, list, artifact, location, frame, inlineFunction, stillLeft, inlineFrames, inlineFunctions}
+use Rattle.vob24.specs.Grammar.{section}
 use Rattle.reader.proofs.Laws.{fieldThen, at-step, at-refused, ready-at}
-use Rattle.empty_lists.proofs.Laws.{emptyFirst, emptySecond, emptyThird, emptyFourth, emptyFifth}
-use Rattle.deserialize.proofs.Laws.{within-any}
+use native.Mathlib.Omega.{arith}
+use Rattle.deserialize.proofs.Laws.{no-artifacts}
 use borrow.Author.Needs.{needs}
 use denote.Ref.{now}
 use Rattle.deserialize.proofs.artifacts_on.Statement.{statement}
@@ -21,18 +17,17 @@ enum-told c = search needs
 returns : tie.Need-returns
 returns c = at-refused ((c .enum-told) .given .1)
 
-five-at-requires : tie.Need-five-at-requires
-five-at-requires c κs = ready-at ((c .before .r) .given .1) (c .before .before .before .before .before .pre)
+empty-at-requires : tie.Need-empty-at-requires
+empty-at-requires c κs = (ready-at ((c .before .r) .given .1) (c .before .before .before .before .before .pre), omega arith)
 
-past-five-requires : tie.Need-past-five-requires
-past-five-requires c κs = ((ready-at ((c .before .before .before .before .r) .given .1) (c .before .before .before .before .before .before .before .before .pre)), ((c .before .before .five-at) .ensures ((c .before .if1) .taken)))
+past-empty-requires : tie.Need-past-empty-requires
+past-empty-requires c κs = (ready-at ((c .before .before .before .before .r) .given .1) (c .before .before .before .before .before .before .before .before .pre), (c .before .before .empty-at) .ensures ((c .before .if1) .taken))
 
 same-length : tie.Need-same-length
 same-length c = search needs
 
 returns-2 : tie.Need-returns-2
-unfolding section inlineFrames inlineFunctions
-returns-2 c = let set = settingsOf (now (c .before .before .before .before .before .before .before .before .before .before .before .args .set)) in at-step ((c .before .before .before .before .before .before .before .r) .given .1) (fieldThen (emptyFirst (ready-at ((c .before .before .before .before .before .before .before .r) .given .1) (c .before .before .before .before .before .before .before .before .before .before .before .pre)) ((c .before .before .before .before .before .five-at) .ensures ((c .before .before .before .before .if1) .taken)) ((c .before .before .past-five) .ensures) (artifact set) (within-any (set .artifacts))) (λ _. fieldThen (emptySecond (ready-at ((c .before .before .before .before .before .before .before .r) .given .1) (c .before .before .before .before .before .before .before .before .before .before .before .pre)) ((c .before .before .before .before .before .five-at) .ensures ((c .before .before .before .before .if1) .taken)) ((c .before .before .past-five) .ensures) str refl) (λ _. fieldThen (emptyThird (ready-at ((c .before .before .before .before .before .before .before .r) .given .1) (c .before .before .before .before .before .before .before .before .before .before .before .pre)) ((c .before .before .before .before .before .five-at) .ensures ((c .before .before .before .before .if1) .taken)) ((c .before .before .past-five) .ensures) (list set of.DebugLoc location) refl) (λ _. fieldThen (emptyFourth (ready-at ((c .before .before .before .before .before .before .before .r) .given .1) (c .before .before .before .before .before .before .before .before .before .before .before .pre)) ((c .before .before .before .before .before .five-at) .ensures ((c .before .before .before .before .if1) .taken)) ((c .before .before .past-five) .ensures) frame (within-any (set .inlineRecords))) (λ _. emptyFifth (ready-at ((c .before .before .before .before .before .before .before .r) .given .1) (c .before .before .before .before .before .before .before .before .before .before .before .pre)) ((c .before .before .before .before .before .five-at) .ensures ((c .before .before .before .before .if1) .taken)) ((c .before .before .past-five) .ensures) (inlineFunction set) stillLeft (set .inlineRecords) (within-any (min ((c .before .before .before .before .before .before .before .before .before .before .before .args) .functions) (set .inlineRecords))))))))
+returns-2 c = at-step ((c .before .before .before .before .before .before .before .r) .given .1) (no-artifacts (settingsOf (now ((c .before .before .before .before .before .before .before .before .before .before .before .args) .set))) (ready-at ((c .before .before .before .before .before .before .before .r) .given .1) (c .before .before .before .before .before .before .before .before .before .before .before .pre)) ((c .before .before .before .before .before .empty-at) .ensures ((c .before .before .before .before .if1) .taken)) ((c .before .before .past-empty) .ensures) ((c .before .before .before .before .before .before .before .before .before .before .before .args) .functions))
 
 artifacts-requires : tie.Need-artifacts-requires
 artifacts-requires c κs = ready-at ((c .before .before .before .before .r) .given .1) (c .before .before .before .before .before .before .before .before .pre)
@@ -56,5 +51,5 @@ returns-3 c = at-step ((c .before .before .before .before .before .before .befor
 pub artifacts-on-spec : {M : Type 1} → statement M
 artifacts-on-spec =
     tie.close
-    (tie.spec enum-known-r enum-told returns five-at-requires past-five-requires same-length returns-2
+    (tie.spec enum-known-r enum-told returns empty-at-requires past-empty-requires same-length returns-2
     artifacts-requires files-requires function-locations-requires inline-sources-requires same-length-2 returns-3)

@@ -21,24 +21,18 @@ types-requires c κs = (search needs, accepted-next ((c .before .before .before 
 well-known-requires : tie.Need-well-known-requires
 well-known-requires c κs = search needs
 
-constants-requires : tie.Need-constants-requires
-constants-requires c κs = search needs
-
-globals-requires : tie.Need-globals-requires
-globals-requires c κs = search needs
-
-functions-on-requires : tie.Need-functions-on-requires
-functions-on-requires c κs = search needs
+constants-on-requires : tie.Need-constants-on-requires
+constants-on-requires c κs = search needs
 
 same-length : tie.Need-same-length
-same-length c = search (needs, (c .before .before .before .before .before .before .before .before .before .before .before .before .before .before .before .before .before .before .before .before .before .before .before .before .before .before .before .before .before .tape) .given, (c .before .before .before .before .before .before .before .before .before .before .before .before .before .before .before .before .before .before .before .before .before .before .before .before .before .tape2) .given, (c .before .before .before .before .before .before .before .before .before .before .before .before .before .before .before .before .before .before .before .before .before .tape3) .given, (c .before .before .before .before .before .before .before .before .before .before .before .before .before .before .before .before .before .tape4) .given, (c .before .before .before .before .before .before .before .before .before .before .before .before .before .tape5) .given, (c .before .before .before .before .before .before .before .before .before .tape6) .given, (c .before .before .before .before .before .tape7) .given, (c .before .tape8) .given)
+same-length c = search (needs, (c .before .before .before .before .before .before .before .before .before .before .before .before .before .before .before .before .before .before .before .before .before .tape) .given, (c .before .before .before .before .before .before .before .before .before .before .before .before .before .before .before .before .before .tape2) .given, (c .before .before .before .before .before .before .before .before .before .before .before .before .before .tape3) .given, (c .before .before .before .before .before .before .before .before .before .tape4) .given, (c .before .before .before .before .before .tape5) .given, (c .before .tape6) .given)
 
 returns : tie.Need-returns
 unfolding section afterFunctions sections pack
-returns c = fieldThen ((c .before .before .before .before .before .before .before .before .before .before .before .before .before .before .before .before .before .before .before .before .before .before .before .before .before .before .before .before .before .before .field-magic) .ensures) (λ _. fieldThen ((c .before .before .before .before .before .before .before .before .before .before .before .before .before .before .before .before .before .before .before .before .before .before .before .before .before .before .field-version) .ensures) (λ _. fieldThen ((c .before .before .before .before .before .before .before .before .before .before .before .before .before .before .before .before .before .before .before .before .before .before .field-str) .ensures) (λ _. comesThen ((c .before .before .before .before .before .before .before .before .before .before .before .before .before .before .before .before .before .before .types) .ensures) (fieldThen ((c .before .before .before .before .before .before .before .before .before .before .before .before .before .before .well-known) .ensures) (λ _. fieldThen ((c .before .before .before .before .before .before .before .before .before .before .constants) .ensures) (λ _. fieldThen ((c .before .before .before .before .before .before .globals) .ensures) (λ _. (c .before .before .functions-on) .ensures)))))))
+returns c = fieldThen ((c .before .before .before .before .before .before .before .before .before .before .before .before .before .before .before .before .before .before .before .before .before .before .field-magic) .ensures) (λ _. fieldThen ((c .before .before .before .before .before .before .before .before .before .before .before .before .before .before .before .before .before .before .field-version) .ensures) (λ _. fieldThen ((c .before .before .before .before .before .before .before .before .before .before .before .before .before .before .field-str) .ensures) (λ _. comesThen ((c .before .before .before .before .before .before .before .before .before .before .types) .ensures) (fieldThen ((c .before .before .before .before .before .before .well-known) .ensures) (λ _. ((c .before .before .constants-on)) .ensures)))))
 
 pub deserialize-spec : {M : Type 1} → statement M
 deserialize-spec =
     tie.close
     (tie.spec field-magic-requires field-version-requires field-str-requires types-requires well-known-requires
-    constants-requires globals-requires functions-on-requires same-length returns)
+    constants-on-requires same-length returns)

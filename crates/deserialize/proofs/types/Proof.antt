@@ -1,9 +1,9 @@
-use mathlib.Core.Path.{refl}
 use Rattle.vob24.specs.Settings.{settingsOf}
-use Rattle.vob24.specs.Grammar.{section, struct, interface, namedType, itab, runtimeType}
+use Rattle.vob24.specs.Grammar.{section}
 use Rattle.reader.proofs.Laws.{ready-at, comes-not, comes-at, comes-last, comes-next}
 use Rattle.reader.proofs.Accepting.{accepted-at, accepted-first, accepted-next}
-use Rattle.empty_lists.proofs.Laws.{emptyFirst, emptySecond, emptyThird, emptyFourth, emptyFifth}
+use native.Mathlib.Omega.{arith}
+use Rattle.deserialize.proofs.Laws.{no-types}
 use borrow.Author.Needs.{needs}
 use denote.Ref.{now}
 use Rattle.deserialize.proofs.types.Statement.{statement}
@@ -18,18 +18,17 @@ enum-told c = search needs
 returns : tie.Need-returns
 returns c = comes-not ((c .enum-told) .given .1)
 
-five-at-requires : tie.Need-five-at-requires
-five-at-requires c κs = ready-at ((c .before .r) .given .1) ((c .before .before .before .before .before .pre) .0)
+empty-at-requires : tie.Need-empty-at-requires
+empty-at-requires c κs = (ready-at ((c .before .r) .given .1) ((c .before .before .before .before .before .pre) .0), omega arith)
 
-past-five-requires : tie.Need-past-five-requires
-past-five-requires c κs = ((ready-at ((c .before .before .before .before .r) .given .1) ((c .before .before .before .before .before .before .before .before .pre) .0)), ((c .before .before .five-at) .ensures ((c .before .if1) .taken)))
+past-empty-requires : tie.Need-past-empty-requires
+past-empty-requires c κs = (ready-at ((c .before .before .before .before .r) .given .1) ((c .before .before .before .before .before .before .before .before .pre) .0), (c .before .before .empty-at) .ensures ((c .before .if1) .taken))
 
 same-length : tie.Need-same-length
 same-length c = search needs
 
 returns-2 : tie.Need-returns-2
-unfolding section
-returns-2 c = let set = settingsOf (now (c .before .before .before .before .before .before .before .before .before .before .before .args .set)) in comes-at ((c .before .before .before .before .before .before .before .r) .given .1) (comes-next (emptyFirst (ready-at ((c .before .before .before .before .before .before .before .r) .given .1) ((c .before .before .before .before .before .before .before .before .before .before .before .pre) .0)) ((c .before .before .before .before .before .five-at) .ensures ((c .before .before .before .before .if1) .taken)) ((c .before .before .past-five) .ensures) (struct set) refl) (comes-next (emptySecond (ready-at ((c .before .before .before .before .before .before .before .r) .given .1) ((c .before .before .before .before .before .before .before .before .before .before .before .pre) .0)) ((c .before .before .before .before .before .five-at) .ensures ((c .before .before .before .before .if1) .taken)) ((c .before .before .past-five) .ensures) (interface set) refl) (comes-next (emptyThird (ready-at ((c .before .before .before .before .before .before .before .r) .given .1) ((c .before .before .before .before .before .before .before .before .before .before .before .pre) .0)) ((c .before .before .before .before .before .five-at) .ensures ((c .before .before .before .before .if1) .taken)) ((c .before .before .past-five) .ensures) (namedType set) refl) (comes-next (emptyFourth (ready-at ((c .before .before .before .before .before .before .before .r) .given .1) ((c .before .before .before .before .before .before .before .before .before .before .before .pre) .0)) ((c .before .before .before .before .before .five-at) .ensures ((c .before .before .before .before .if1) .taken)) ((c .before .before .past-five) .ensures) (itab set) refl) (comes-last (emptyFifth (ready-at ((c .before .before .before .before .before .before .before .r) .given .1) ((c .before .before .before .before .before .before .before .before .before .before .before .pre) .0)) ((c .before .before .before .before .before .five-at) .ensures ((c .before .before .before .before .if1) .taken)) ((c .before .before .past-five) .ensures) {S = Unit {0}} (λ _. runtimeType set) (λ _ _. tt) tt refl))))))
+returns-2 c = comes-at ((c .before .before .before .before .before .before .before .r) .given .1) (no-types (settingsOf (now ((c .before .before .before .before .before .before .before .before .before .before .before .args) .set))) (ready-at ((c .before .before .before .before .before .before .before .r) .given .1) ((c .before .before .before .before .before .before .before .before .before .before .before .pre) .0)) ((c .before .before .before .before .before .empty-at) .ensures ((c .before .before .before .before .if1) .taken)) ((c .before .before .past-empty) .ensures))
 
 structs-requires : tie.Need-structs-requires
 unfolding section
@@ -60,5 +59,6 @@ returns-3 c = comes-at ((c .before .before .before .before .before .before .befo
 pub types-spec : {M : Type 1} → statement M
 types-spec =
     tie.close
-    (tie.spec enum-known-r enum-told returns five-at-requires past-five-requires same-length returns-2 structs-requires
-    interfaces-requires named-types-requires itabs-requires runtime-types-requires same-length-2 returns-3)
+    (tie.spec enum-known-r enum-told returns empty-at-requires past-empty-requires same-length returns-2
+    structs-requires interfaces-requires named-types-requires itabs-requires runtime-types-requires same-length-2
+    returns-3)
