@@ -22,16 +22,19 @@ use Rattle.vob24.specs.Fields.{after}
 use Rattle.vob24.specs.Cost.{allSections}
 use Rattle.vob24.specs.declared.Section.{Section}
 use Rattle.in_place.specs.Walk.{list-off}
-use Rattle.reader.specs.Contract.{Ready, ReadyAt, Reader, ComesTo, On}
+use Rattle.reader.specs.Contract.{stepOf, numberOf, Ready, ReadyAt, Refuses, Reads, refuses, skips, Reader, ComesTo, ReadsOf, got, lost, NumberOf, On}
 use Rattle.reader.specs.Accepted.{Accepted}
 use Rattle.reader.proofs.Accepting.{accepted-next, accepted-on, on-accepted, on-next}
-use Rattle.reader.proofs.Laws.{fieldThen, comes-next, comes-last}
+use Rattle.reader.proofs.Laws.{seq-refuses, thenReads, fieldThen, at-refused, comes-not, comesThen, comes-next, comes-last}
 use Rattle.reader.specs.declared.Cursor.{Cursor}
+use Rattle.reader.specs.declared.Number.{Number}
+use Rattle.reader.specs.declared.Number.the-variants.{Got, Not}
+use Rattle.reader.specs.declared.Refusal.{Refusal}
 use Rattle.reader.specs.declared.Step.{Step}
-use Rattle.reader.specs.declared.Step.the-variants.{Taken}
+use Rattle.reader.specs.declared.Step.the-variants.{Taken, Refused}
 use Rattle.empty_lists.specs.Empty.{Zeros, PastEmpty, tapeAfter}
-use Rattle.empty_lists.proofs.Laws.{emptyRead, emptyChain, emptyThen, emptyCount}
-use Rattle.deserialize.specs.Parts.{formatOf, functionsBy, inOrder, fromNumber, fromSection, functionsBefore}
+use Rattle.empty_lists.proofs.Laws.{emptyRead, emptyChain, emptyComes}
+use Rattle.deserialize.specs.Parts.{formatOf, functionsBy, inOrder, fromNumber, fromSection, functionsBefore, countOf}
 use Rattle.deserialize.specs.Reach.{Reaches, ListStands}
 
 -- an empty list is within any limit
@@ -46,17 +49,47 @@ module _ (set : Settings) {s : List ℕ} {c d : Cursor} {t t′ : List ℕ} (y :
   no-types z p =
       rw (p .is, p .writes) (comes-next (emptyRead y z t 0 (omega arith) (struct set) refl) (comes-next (emptyRead y z t 1 (omega arith) (interface set) refl) (comes-next (emptyRead y z t 2 (omega arith) (namedType set) refl) (comes-next (emptyRead y z t 3 (omega arith) (itab set) refl) (comes-last (emptyRead y z t 4 (omega arith) (runtimeType set) refl))))))
 
-  pub no-code : Zeros s (c .place) 4 → PastEmpty 4 c t d t′ → {q : Step} {t″ : List ℕ}
-      → Reader (fromSection set 0 vob.entry) s (Taken d) t′ q t″ → Reader (fromSection set 0 vob.constants) s (Taken c) t q t″
+  pub no-code : Zeros s (c .place) 3 → PastEmpty 3 c t d t′
+      → ComesTo (fromSection set 0 vob.constants) (fromSection set 0 vob.externs) s (Taken c) t (Taken d) t′
   unfolding section
-  no-code z p k =
-      fieldThen (emptyRead y z t 0 (omega arith) constant refl) (λ _. fieldThen (emptyRead y z t 1 (omega arith) (global set) refl) (λ _. emptyThen y z t 2 (omega arith) (function set) refl (fieldThen (emptyCount y z t 3 (omega arith) refl) (λ _. rw (p .is, p .writes) at k))))
+  no-code z p =
+      rw (p .is, p .writes) (comes-next (emptyRead y z t 0 (omega arith) constant refl) (comes-next (emptyRead y z t 1 (omega arith) (global set) refl) (emptyComes y z t 2 (omega arith) (function set) refl)))
 
   pub no-artifacts : Zeros s (c .place) 5 → PastEmpty 5 c t d t′ → (n : ℕ)
       → Reader (fromSection set n vob.artifacts) s (Taken c) t (Taken d) t′
   unfolding section inlineFrames inlineFunctions
   no-artifacts z p n =
       rw (p .is, p .writes) (fieldThen (emptyRead y z t 0 (omega arith) (artifact set) (within-any (set .artifacts))) (λ _. fieldThen (emptyRead y z t 1 (omega arith) str refl) (λ _. fieldThen (emptyRead y z t 2 (omega arith) (list set of.DebugLoc location) refl) (λ _. fieldThen (emptyRead y z t 3 (omega arith) frame (within-any (set .inlineRecords))) (λ _. emptyChain y z t 4 (omega arith) (inlineFunction set) stillLeft (set .inlineRecords) (within-any (min n (set .inlineRecords))))))))
+
+-- a part of which the rest takes a number in
+pub number-comes : {f : Format} {of : Value → ℕ} (g : ℕ → Format) {s : List ℕ} {c : Cursor} {t t′ : List ℕ} {q : Number}
+    → NumberOf f of s c t q t′ → ComesTo (seq f (λ v. g (of v))) (g (countOf q)) s (Taken c) t (stepOf q) t′
+number-comes g k = go (k .reads) (k .ready)
+  where
+    lose : {f e : Format} {h : Value → Format} {s : List ℕ} {c : Cursor} {x : Refusal} {t t₁ t₂ : List ℕ} {r : Step}
+        → Refuses f s c x → Reads e s (Refused x) t₁ r t₂ → Reads (seq f h) s (Taken c) t r t₂
+    lose y skips = refuses (seq-refuses y)
+
+    go : {f : Format} {of : Value → ℕ} {s : List ℕ} {c : Cursor} {t t′ : List ℕ} {q : Number} → ReadsOf f of s c t q t′
+        → Ready s (stepOf q) → ComesTo (seq f (λ v. g (of v))) (g (countOf q)) s (Taken c) t (stepOf q) t′
+    go (got e h) r = record { rest = λ k. thenReads h (rw e at k); ready = r }
+    go (lost h) r = record { rest = λ k. lose h k; ready = r }
+
+-- refused before the number
+pub lost-comes : {f : Format} (g : ℕ → Format) {s : List ℕ} {r : Step} {t : List ℕ} {q : Number} (n : ℕ) {x : Refusal}
+    → r ≡ Refused x → q ≡ numberOf n r → ComesTo f (g (countOf q)) s r t (stepOf q) t
+lost-comes g n {x} e i = let h : stepOf (numberOf n (Refused x)) ≡ Refused x = refl in rw (i, e, h) (comes-not refl)
+
+module _ {f : Format} (g : ℕ → Format) {s : List ℕ} {r : Step} {t t′ : List ℕ} {q : Number} (k : ComesTo f (g (countOf q)) s r t (stepOf q) t′) where
+  pub number-got : {n : ℕ} {d : Cursor} → q ≡ Got n d → {r′ : Step} {t″ : List ℕ} → Reader (g n) s (Taken d) t′ r′ t″
+      → Reader f s r t r′ t″
+  number-got e m = comesThen (rw e at k) m
+
+  pub number-lost : {x : Refusal} {r′ : Step} {t″ : List ℕ} → q ≡ Not x → r′ ≡ stepOf q → Reader f s r t r′ t″
+  number-lost e i = rw (i, e) (comesThen (rw e at k) (at-refused refl))
+
+  pub number-ready : {n : ℕ} {d : Cursor} → q ≡ Got n d → ReadyAt s d
+  number-ready e = rw e at (k .ready)
 
 -- ---- one section, by its name
 module _ (set : Settings) {x : Section} (y : Section) (e : x ≡ y) {s : List ℕ} {r : Step} where

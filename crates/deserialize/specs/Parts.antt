@@ -11,6 +11,8 @@ use Rattle.vob24.specs.Fields.{after}
 use Rattle.vob24.specs.Cost.{allSections}
 use Rattle.vob24.specs.InTurn.{functionsAfter}
 use Rattle.vob24.specs.declared.Section.{Section}
+use Rattle.reader.specs.declared.Number.{Number}
+use Rattle.reader.specs.declared.Number.the-variants.{Got, Not}
 
 -- one section
 abbrev pub formatOf : Settings → Section → Format
@@ -37,3 +39,8 @@ fromSection set n x = fromNumber set n (numberOf x)
 abbrev pub functionsBefore : ℕ → Value → ℕ
 functionsBefore zero v = 0
 functionsBefore (suc i) v = functionsBy (functionsBefore i v) (getD allSections i inlineSources) (first (after i v))
+
+-- The number of functions of an answer: what the sections after them go by.
+abbrev pub countOf : Number → ℕ
+countOf (Got n c) = n
+countOf (Not x) = 0

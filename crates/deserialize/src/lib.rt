@@ -4,9 +4,9 @@ ghost use mathlib.Core.Bool.{true};
 ghost use Rattle.vob24.specs.Settings.{settingsOf};
 ghost use Rattle.vob24.specs.Grammar as vob;
 ghost use Rattle.vob24.specs.Sections.{sectionOf, numberOf};
-ghost use Rattle.reader.specs.Contract.{Ready, Reader, ComesTo};
+ghost use Rattle.reader.specs.Contract.{stepOf, Ready, Reader, ComesTo};
 ghost use Rattle.reader.specs.Accepted.{Accepted};
-ghost use Rattle.deserialize.specs.Parts.{formatOf, fromSection};
+ghost use Rattle.deserialize.specs.Parts.{formatOf, fromSection, countOf};
 ghost use Rattle.deserialize.specs.Reach.{Reaches};
 use reader::Number;
 use reader::Step;
@@ -31,50 +31,51 @@ fn artifacts_on(s: &[u8], set: &Settings, r: Step, functions: u64, tape: &mut [u
     debug_info::inline_sources(s, set, r3, functions, tape)
 }
 
-// The sections after the externs, by the number of functions.
-fn entry_on(s: &[u8], set: &Settings, r: Step, functions: u64, tape: &mut [u32]) -> Step
+// The sections after the functions, by their number.
+fn after_functions(s: &[u8], set: &Settings, r: Step, functions: u64, tape: &mut [u32]) -> Step
     requires { ⌜ Ready (now s) r ⌝ }
-    ensures { λ q. ⌜ Reader (fromSection (settingsOf (now (set .entry))) functions vob.entry) (now (s .entry)) r
+    ensures { λ q. ⌜ Reader (fromSection (settingsOf (now (set .entry))) functions vob.externs) (now (s .entry)) r
         (now (tape .entry)) q (now (tape .exit)) ⌝ }
 {
-    let r1 = small_sections::entry(s, r, tape);
-    let r2 = small_sections::island_init(s, r1, tape);
-    artifacts_on(s, set, r2, functions, tape)
+    let r1 = small_sections::externs(s, r, tape);
+    let r2 = small_sections::entry(s, r1, tape);
+    let r3 = small_sections::island_init(s, r2, tape);
+    artifacts_on(s, set, r3, functions, tape)
 }
 
-// The functions, and the sections after them.
-fn functions_on(s: &[u8], set: &Settings, r: Step, tape: &mut [u32]) -> Step
+// The constants, globals and functions: three lists, which are empty in a pack without code. Also returns the number of
+// functions.
+fn number_code(s: &[u8], set: &Settings, r: Step, tape: &mut [u32]) -> Number
     requires { ⌜ Ready (now s) r ⌝ }
-    ensures { λ q. ⌜ Reader (fromSection (settingsOf (now (set .entry))) 0 vob.functions) (now (s .entry)) r
-        (now (tape .entry)) q (now (tape .exit)) ⌝ }
+    ensures { λ q. ⌜ ComesTo (fromSection (settingsOf (now (set .entry))) 0 vob.constants)
+        (fromSection (settingsOf (now (set .entry))) (countOf q) vob.externs) (now (s .entry)) r (now (tape .entry))
+        (stepOf q) (now (tape .exit)) ⌝ }
 {
     let Step::Taken(c) = r else {
-        return r;
+        return reader::number_of(0, r);
     };
-    let q = functions::number_functions(s, set, c, tape);
-    let Number::Got(n, d) = q else {
-        return reader::step_of(q);
+    if empty_lists::empty_at(s, c, 3) {
+        return Number::Got(0, empty_lists::past_empty(s, c, 3, tape));
+    }
+    let r1 = constants::constants(s, set, r, tape);
+    let r2 = small_sections::globals(s, set, r1, tape);
+    let Step::Taken(d) = r2 else {
+        return reader::number_of(0, r2);
     };
-    let r1 = small_sections::externs(s, Step::Taken(d), tape);
-    entry_on(s, set, r1, n, tape)
+    functions::number_functions(s, set, d, tape)
 }
 
-// The constants, and the sections after them: four lists first, all empty in a pack without code.
+// The constants, and the sections after them.
 fn constants_on(s: &[u8], set: &Settings, r: Step, tape: &mut [u32]) -> Step
     requires { ⌜ Ready (now s) r ⌝ }
     ensures { λ q. ⌜ Reader (fromSection (settingsOf (now (set .entry))) 0 vob.constants) (now (s .entry)) r
         (now (tape .entry)) q (now (tape .exit)) ⌝ }
 {
-    let Step::Taken(c) = r else {
-        return r;
+    let q = number_code(s, set, r, tape);
+    let Number::Got(n, d) = q else {
+        return reader::step_of(q);
     };
-    if empty_lists::empty_at(s, c, 4) {
-        let d = empty_lists::past_empty(s, c, 4, tape);
-        return entry_on(s, set, Step::Taken(d), 0, tape);
-    }
-    let r1 = constants::constants(s, set, r, tape);
-    let r2 = small_sections::globals(s, set, r1, tape);
-    functions_on(s, set, r2, tape)
+    after_functions(s, set, Step::Taken(d), n, tape)
 }
 
 // The types: five lists, which are empty in a small pack.

@@ -12,9 +12,8 @@ use Rattle.format.specs.Format.{Value, num, none, pair, number, Rule, count, Fo
 use Rattle.format.specs.Reading.{traceLeaf, trace}
 use Rattle.format.specs.Record.{words, wordsLeaf}
 use Rattle.vob24.specs.Ranges.{lt-or-ge}
-use Rattle.reader.specs.Contract.{ReadyAt, Takes, takes, Reader, Kept}
+use Rattle.reader.specs.Contract.{ReadyAt, Takes, takes, Reader, ComesTo, Kept}
 use Rattle.reader.specs.declared.Cursor.{Cursor}
-use Rattle.reader.specs.declared.Step.{Step}
 use Rattle.reader.specs.declared.Step.the-variants.{Taken}
 use Rattle.reader.proofs.Settles.{guard-yes, room-yes, field-yes, pay-yes}
 use Rattle.reader.proofs.Laws.{thenReads, then-takes}
@@ -113,15 +112,7 @@ module _ {s : List ℕ} {c : Cursor} {n : ℕ} (r : ReadyAt s c) (o : Zeros s (c
   pub ready-passed : {t t′ : List ℕ} {d : Cursor} {k : ℕ} → Passed n c t d t′ k → ReadyAt s d
   ready-passed {k = k} l = rw (l .past .is) (ready-after k (l .upto))
 
-  pub ready-past : {t t′ : List ℕ} {d : Cursor} → PastEmpty n c t d t′ → ReadyAt s d
-  ready-past p = rw (p .is) (ready-after n (omega arith))
-
   module _ (t : List ℕ) (k : ℕ) (h : k < n) where
-    -- a count alone
-    pub emptyCount : {ρ : Rule} {m l z : ℕ} → ρ .test 0 ≡ true
-        → Reader (leaf (count ρ m l z)) s (Taken (cursorAfter k c)) (tapeAfter k c t) (Taken (cursorAfter (suc k) c)) (tapeAfter (suc k) c t)
-    emptyCount {ρ} {m} {l} {z} i = record { reads = takes (count-takes ρ m l z s (cursorAfter k c) (tapeAfter k c t) (zero-after k h) i); ready = ready-after (suc k) (omega arith) }
-
     -- a list whose items go by a state, as what is taken
     emptyTakes : {S : Type 0} (f : S → Format) (u : S → Value → S) (x : S) {ρ : Rule} {m l z : ℕ}
         → ρ .test 0 ≡ true
@@ -141,7 +132,6 @@ module _ {s : List ℕ} {c : Cursor} {n : ℕ} (r : ReadyAt s c) (o : Zeros s (c
     emptyRead f i = emptyChain {S = Unit {0}} (λ _. f) (λ _ _. tt) tt i
 
     -- such a list, and a rest that goes by its value
-    pub emptyThen : (f : Format) {ρ : Rule} {m l z : ℕ} {g : Value → Format} {q : Step} {t′ : List ℕ} → ρ .test 0 ≡ true
-        → Reader (g (pair (num 0) none)) s (Taken (cursorAfter (suc k) c)) (tapeAfter (suc k) c t) q t′
-        → Reader (seq (seq (leaf (count ρ m l z)) (λ v. times f (number v))) g) s (Taken (cursorAfter k c)) (tapeAfter k c t) q t′
-    emptyThen f i y = record { reads = thenReads (emptyTakes {S = Unit {0}} (λ _. f) (λ _ _. tt) tt i) (y .reads); ready = y .ready }
+    pub emptyComes : (f : Format) {ρ : Rule} {m l z : ℕ} {g : Value → Format} → ρ .test 0 ≡ true
+        → ComesTo (seq (seq (leaf (count ρ m l z)) (λ v. times f (number v))) g) (g (pair (num 0) none)) s (Taken (cursorAfter k c)) (tapeAfter k c t) (Taken (cursorAfter (suc k) c)) (tapeAfter (suc k) c t)
+    emptyComes f i = record { rest = λ y. thenReads (emptyTakes {S = Unit {0}} (λ _. f) (λ _ _. tt) tt i) y; ready = ready-after (suc k) (omega arith) }
