@@ -1,7 +1,6 @@
 -- Where each byte stands as it should, the scan goes from character to character up to the end.
 use Prim.Native.Nat.{ℕ, suc, zero, _+_, _-_, _/_, _≤_, _<_}
 use mathlib.Core.Path.{_≡_, refl, sym, ap, _∙_}
-use mathlib.Core.Bool.{Bool, true}
 use mathlib.Core.List.{List, _∷_}
 use mathlib.Core.Logic.{_⊎_, ⊎-elim}
 use native.Mathlib.Omega.{arith}
@@ -325,10 +324,6 @@ tried-known {s} {start} {m} size h e = go (rw e at h)
   where
     go : TriesAt s (start + size) 0 start (Characters m) → characters m ≡ scan (take size (drop start s))
     go (told x) = let z : start + size - start ≡ size = omega arith in sym x ∙ ap (λ j. scan (take j (drop start s))) z
-
-pub text-both : {s : List ℕ} {start size : ℕ} {q : Bool} → start + size ≤ length s
-    → (q ≡ true → Both s start start size) → q ≡ true → characters size ≡ scan (take size (drop start s))
-text-both h f e = sym (text-low h (f e .first))
 
 pub text-slice : (s : List ℕ) (start size : ℕ) {o : Scan} → o ≡ scan (take (start + size - start) (drop start s))
     → o ≡ scan (take size (drop start s))

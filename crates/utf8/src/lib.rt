@@ -405,6 +405,9 @@ fn next_part(s: &[u8], from: usize, end: usize) -> Part
 
 // ---- texts
 
+// So many bytes of a long text are asked first whether they are ASCII.
+const HEAD: usize = 4096;
+
 // Can a character start at i? It can where the bytes before it ask for no more.
 fn starts(s: &[u8], i: usize) -> bool
     requires { ⌜ (3 ≤ i) × (i ≤ length (now s)) ⌝ }
@@ -529,14 +532,30 @@ pub fn try_short(s: &[u8], start: usize, size: usize) -> Tried
     Tried::Characters(size - p.trailing as usize)
 }
 
-// The text of `size` bytes at start. ASCII is tested first and whole: the cheapest for a text without accents, and one
-// with some loses little.
+// Are the `size` bytes at start all below 128? A long text is asked for its first bytes first: one with accents mostly
+// shows them there, and the rest of it is not looked at here.
+fn plain(s: &[u8], start: usize, size: usize) -> bool
+    requires { ⌜ start + size ≤ length (now s) ⌝ }
+    ensures { λ q. ⌜ (q ≡ true → Ascii (now (s .entry)) start (start + size)) ⌝ }
+{
+    if size <= HEAD {
+        return ascii(s, start, start, size);
+    }
+    if !ascii(s, start, start, HEAD) {
+        return false;
+    }
+    let from = start + HEAD;
+    ascii(s, from, from, size - HEAD)
+}
+
+// The text of `size` bytes at start. ASCII is tested first: the cheapest for a text without accents, and one with some
+// loses little.
 pub fn scan_at(s: &[u8], start: usize, size: usize) -> Scanned
     requires { ⌜ start + size ≤ length (now s) ⌝ }
     ensures { λ q. ⌜ scanOf q ≡ Utf8.scan (take size (drop start (now (s .entry)))) ⌝ }
 {
     if 32 < size {
-        if ascii(s, start, start, size) {
+        if plain(s, start, size) {
             return Scanned::Characters(size);
         }
     }
