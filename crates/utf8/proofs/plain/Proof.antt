@@ -1,7 +1,7 @@
 use native.Mathlib.Omega.{arith}
 use borrow.Author.Tests.{not-false}
-use Rattle.utf8.proofs.Laws.{low-join}
-use Rattle.utf8.proofs.Bytes.{no-true}
+use Rattle.utf8_parts.proofs.Bytes.{low-join}
+use Rattle.utf8.proofs.Laws.{no-true}
 use borrow.Author.Needs.{needs}
 use Rattle.utf8.proofs.plain.Statement.{statement}
 use Rattle.utf8.proofs.plain.Tie as tie
