@@ -1,7 +1,6 @@
 -- Where each byte stands as it should, the scan goes from character to character up to the end.
 use Prim.Native.Nat.{ℕ, suc, zero, _+_, _-_, _/_, _≤_, _<_}
 use mathlib.Core.Path.{_≡_, refl, sym, ap, _∙_}
-use mathlib.Core.Bool.{Bool, true}
 use mathlib.Core.List.{List, _∷_}
 use mathlib.Core.Logic.{_⊎_, ⊎-elim}
 use native.Mathlib.Omega.{arith}
@@ -11,15 +10,15 @@ use Rattle.format.specs.Trace.{pick}
 use Rattle.vob24.specs.Utf8.{Scan, lead, want, characters, scanFrom, scan}
 use Rattle.vob24.specs.Ranges.{inside, lt-or-ge}
 use Rattle.vob24.specs.Rows.{Row, r00, r80, rc2, re0, re1, red, ree, rf0, rf1, rf4, rf5, row}
-use Rattle.utf8.specs.Answers.{scanAt, Ascii, Both, Scans, reaches, TriesAt, told, untold}
-use Rattle.utf8.specs.Parts.{Stands, Standing, Starts, trailingIn, Tests, PartOf}
-use Rattle.utf8.specs.declared.Part.{Part}
+use Rattle.utf8_parts.specs.Parts.{Ascii, Stands, Standing, isTrailing, trailingIn, Tests}
+use Rattle.utf8_parts.specs.declared.Part.{Part}
+use Rattle.utf8_parts.proofs.Bytes.{low-join, trailing-yes, trailing-no, trailingIn-add, standing-none, standing-join, tests-at}
+use Rattle.utf8.specs.Answers.{scanAt, Both, Starts, Scans, reaches, TriesAt, told, untold}
 use Rattle.utf8.specs.declared.Upto.{Upto}
 use Rattle.utf8.specs.declared.Upto.the-variants.{At}
 use Rattle.utf8.specs.declared.Tried.{Tried}
 use Rattle.utf8.specs.declared.Tried.the-variants.{Characters}
-use Rattle.utf8.proofs.Laws.{part-cons, any-range, low-join, ascii-scan}
-use Rattle.utf8.proofs.Bytes.{trailing-yes, trailing-no, trailingIn-cons, trailingIn-add, standing-none, standing-join}
+use Rattle.utf8.proofs.Laws.{part-cons, any-range, ascii-scan}
 
 -- ---- one character
 module _ (s : List ℕ) (to n i : ℕ) {lo hi : ℕ} (k : to ≤ length s) where
@@ -67,6 +66,10 @@ module _ (s : List ℕ) (to n i : ℕ) {lo hi : ℕ} (k : to ≤ length s) where
       ∙ rw (e, inside lo hi (getD s (i + 1) 0) a b, inside 0x80 0xbf (getD s (i + 2) 0) (omega arith) (omega arith), inside 0x80 0xbf (getD s (i + 3) 0) (omega arith) (omega arith), add-one n)
 
 -- ---- places
+trailingIn-cons : (s : List ℕ) (i to : ℕ) → i < to
+    → trailingIn s i (to - i) ≡ isTrailing (getD s i 0) + trailingIn s (i + 1) (to - (i + 1))
+trailingIn-cons s i to h = let e : to - i ≡ suc (to - (i + 1)) = omega arith in rw (e, add-one i)
+
 starts-of : {s : List ℕ} {j : ℕ} (p1 p2 p3 : ℕ) → p1 ≡ j - 1 → p2 ≡ j - 2 → p3 ≡ j - 3 → getD s p1 0 < 0xc0
     → getD s p2 0 < 0xe0 → getD s p3 0 < 0xf0 → Starts s j
 starts-of p1 p2 p3 e1 e2 e3 a b c = record { one = rw (sym e1) a; two = rw (sym e2) b; three = rw (sym e3) c }
@@ -239,10 +242,6 @@ pub text-ends : {s : List ℕ} {start size : ℕ} → start + size ≤ length s 
     → Both s start (start + size - 16) 16 → scan (take size (drop start s)) ≡ characters size
 text-ends h i l = text-low h (record { low = λ k x y. low-join (l .first) (l .second) (omega arith) .low k x (omega arith) })
 
--- what is found of bytes holds of them wherever the place comes from
-pub tests-at : {s : List ℕ} {a b : ℕ} {p : Part} → a ≡ b → Tests s a p → Tests s b p
-tests-at e l = rw (sym e) l
-
 pub text-part : {s : List ℕ} {start size : ℕ} {p : Part} → 3 ≤ start → start + size ≤ length s → Starts s start
     → Starts s (start + size) → Tests s (start + size - size) p → p .width ≡ size → p .wrong ≤ 127
     → scan (take size (drop start s)) ≡ characters (size - p .trailing)
@@ -250,10 +249,6 @@ text-part {s} {start} {size} {p} h k a b l e w =
     let t : Tests s start p = tests-at (omega arith) l in
     let c : trailingIn s start (p .width) ≡ trailingIn s start size = ap (trailingIn s start) e in
     text-stands (size - p .trailing) h k a b (record { each = λ j x y. t .stands (omega arith) .each j x (omega arith) }) (omega (arith, t .count, t .few))
-
-pub part-sixteen : {s : List ℕ} {from end : ℕ} {p : Part} → from + 16 ≤ end → Tests s (from + 16 - 16) p → p .width ≡ 16
-    → PartOf s from end p
-part-sixteen h l e = record { tests = tests-at (omega arith) l; some = omega arith; within = omega arith }
 
 -- ---- part by part, from start with n characters: the invariant of a loop that has come to at, with m
 pub record Parting (s : List ℕ) (start end n at m : ℕ) : Type 0 where
@@ -325,10 +320,6 @@ tried-known {s} {start} {m} size h e = go (rw e at h)
   where
     go : TriesAt s (start + size) 0 start (Characters m) → characters m ≡ scan (take size (drop start s))
     go (told x) = let z : start + size - start ≡ size = omega arith in sym x ∙ ap (λ j. scan (take j (drop start s))) z
-
-pub text-both : {s : List ℕ} {start size : ℕ} {q : Bool} → start + size ≤ length s
-    → (q ≡ true → Both s start start size) → q ≡ true → characters size ≡ scan (take size (drop start s))
-text-both h f e = sym (text-low h (f e .first))
 
 pub text-slice : (s : List ℕ) (start size : ℕ) {o : Scan} → o ≡ scan (take (start + size - start) (drop start s))
     → o ≡ scan (take size (drop start s))

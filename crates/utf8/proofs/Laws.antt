@@ -1,12 +1,13 @@
--- The laws of the scan: a character byte by byte, bytes of ASCII at once, and the characters of a text.
+-- The laws of the scan: a character byte by byte, bytes of ASCII at once, the characters of a text, and where one can
+-- start.
 use Prim.Native.Nat.{ℕ, suc, zero, _+_, _-_, _≤_, _<_}
 use mathlib.Core.Path.{_≡_, refl, sym, ap, _∙_}
-use mathlib.Core.Bool.{Bool, true, false}
+use mathlib.Core.Bool.{true, false}
 use mathlib.Core.List.{List, [], _∷_}
 use native.Mathlib.Omega.{arith}
 use native.Mathlib.Numerals.{add-one}
-use borrow.Author.Tests.{ltb-true, ltb-false, ne-eqb}
-use lib.Bits.{bitOr, or-add-and, and-le-l, and-le-r}
+use borrow.Author.Tests.{ltb-true, ne-eqb}
+use lib.Bits.{bitOr}
 use lib.Dec.{ltb, eqb}
 use lib.ListN.{length, getD, take, drop}
 use lib.Seq.{drop-cons, take-length}
@@ -14,7 +15,9 @@ use Rattle.format.specs.Trace.{pick}
 use Rattle.vob24.specs.Utf8.{lead, illFormed, characters, scanFrom, scan}
 use Rattle.vob24.specs.Ranges.{inside, below, above}
 use Rattle.vob24.specs.Rows.{lead00}
-use Rattle.utf8.specs.Answers.{nextOf, scanAt, Ascii, Both, Scans, fails, reaches}
+use Rattle.utf8_parts.specs.Parts.{Ascii}
+use Rattle.utf8_parts.proofs.Bytes.{or-low-l, or-low-r, low-before, low-byte, low-join}
+use Rattle.utf8.specs.Answers.{nextOf, scanAt, Both, Starts, Scans, fails, reaches}
 use Rattle.utf8.specs.declared.Next.{Next}
 use Rattle.utf8.specs.declared.Next.the-variants.{Bad, Want}
 use Rattle.utf8.specs.declared.Upto.{Upto}
@@ -93,21 +96,7 @@ module _ {s : List ℕ} {to n from more lo hi i : ℕ} where
 
 pub ruleset charing = (char-start, char-bad, char-short, char-low, char-high, char-done)
 
--- ---- bytes of ASCII
-pub low-before : {s : List ℕ} {from to : ℕ} → to ≤ from → Ascii s from to
-low-before h = record { low = λ k x y. absurd (omega arith) }
-
-pub low-byte : {s : List ℕ} {i j : ℕ} → getD s i 0 < 128 → j ≤ i + 1 → Ascii s i j
-low-byte {s} {i} h l = record { low = λ k x y. let e : k ≡ i = omega arith in rw e h }
-
-pub low-join : {s : List ℕ} {a b c d : ℕ} → Ascii s a b → Ascii s c d → c ≤ b → Ascii s a d
-low-join {s} {a} {b} {c} {d} l m h = record { low = λ k x y. go k x y (ltb k b) refl }
-  where
-    go : (k : ℕ) → a ≤ k → k < d → (t : Bool) → ltb k b ≡ t → getD s k 0 < 128
-    go k x y true e = l .low k x (ltb-true k b e)
-    go k x y false e = m .low k (omega (arith, ltb-false k b e)) y
-
--- ---- bytes at two places: m below 128 says that each byte passed is
+-- ---- bytes of ASCII at two places: m below 128 says that each byte passed is
 pub record Oring (s : List ℕ) (a b width m k : ℕ) : Type 0 where
   pub within : k ≤ width
   pub all : m < 128 → Both s a b k
@@ -129,13 +118,11 @@ module _ {s : List ℕ} {a b width : ℕ} where
 
         both : bitOr (bitOr m x) y < 128 → Both s a b (k + 1)
         both e =
-            let f : bitOr m x < 128 = omega (arith, or-add-and (bitOr m x) y, and-le-r (bitOr m x) y) in
-            let i : m < 128 = omega (arith, or-add-and m x, and-le-r m x) in
-            let xs : x < 128 = omega (arith, or-add-and m x, and-le-l m x) in
-            let ys : y < 128 = omega (arith, or-add-and (bitOr m x) y, and-le-l (bitOr m x) y) in
+            let f : bitOr m x < 128 = or-low-l (bitOr m x) y e in
+            let i : Both s a b k = l .all (or-low-l m x f) in
             record {
-              first = low-join (l .all i .first) (low-byte {i = a + k} xs (omega arith)) (omega arith);
-              second = low-join (l .all i .second) (low-byte {i = b + k} ys (omega arith)) (omega arith);
+              first = low-join (i .first) (low-byte {i = a + k} (or-low-r m x f) (omega arith)) (omega arith);
+              second = low-join (i .second) (low-byte {i = b + k} (or-low-r (bitOr m x) y e) (omega arith)) (omega arith);
             }
 
     pub oring-done : width ≤ k → Oring s a b width m k → ltb m 128 ≡ true → Both s a b width
@@ -188,3 +175,11 @@ module _ {s : List ℕ} where
     going-done h l = let e : length s - i ≡ 0 = omega arith in sym (l .leads ∙ rw e)
 
 pub ruleset going = (going-start, going-reached, going-lost, going-done)
+
+-- ---- where a character can start
+pub starts-if : {s : List ℕ} {i : ℕ} → getD s (i - 1) 0 ≤ 0xbf → getD s (i - 2) 0 ≤ 0xdf
+    → ltb (getD s (i - 3) 0) 0xf0 ≡ true → Starts s i
+starts-if {s} {i} a b e = record { one = omega arith; two = omega arith; three = ltb-true (getD s (i - 3) 0) 0xf0 e }
+
+pub no-true : {A : Type 0} → false ≡ true → A
+no-true e = absurd (let z : _≡_ {A = ℕ} 0 1 = cc in omega arith)

@@ -4,6 +4,7 @@ use mathlib.Core.Path.{_≡_}
 use mathlib.Core.List.{List}
 use lib.ListN.{getD, take, drop}
 use Rattle.vob24.specs.Utf8 as def
+use Rattle.utf8_parts.specs.Parts.{Ascii}
 use Rattle.utf8.specs.declared.Next.{Next}
 use Rattle.utf8.specs.declared.Next.the-variants.{Bad, Want}
 use Rattle.utf8.specs.declared.Scanned.{Scanned}
@@ -25,13 +26,16 @@ scanOf (Characters n) = def.characters n
 abbrev pub scanAt : List ℕ → ℕ → ℕ → ℕ → def.Scan
 scanAt s to n i = def.scanFrom n 0 0x80 0xbf (take (to - i) (drop i s))
 
-pub record Ascii (s : List ℕ) (from to : ℕ) : Type 0 where
-  pub low : (k : ℕ) → from ≤ k → k < to → getD s k 0 < 128
-
 -- so many bytes at a, and as many at b
 pub record Both (s : List ℕ) (a b width : ℕ) : Type 0 where
   pub first : Ascii s a (a + width)
   pub second : Ascii s b (b + width)
+
+-- a character can start at i: the bytes before it ask for no more
+pub record Starts (s : List ℕ) (i : ℕ) : Type 0 where
+  pub one : getD s (i - 1) 0 < 0xc0
+  pub two : getD s (i - 2) 0 < 0xe0
+  pub three : getD s (i - 3) 0 < 0xf0
 
 -- The scan from i, after n characters, fails or comes down to that from a place at or past stop.
 pub data Scans (s : List ℕ) (to n i stop : ℕ) : Upto → Type 0 where

@@ -1,14 +1,15 @@
+use mathlib.Core.Path.{sym}
 use native.Mathlib.Omega.{arith}
-use Rattle.utf8.proofs.Characters.{text-both, text-slice, tried-known}
+use Rattle.utf8.proofs.Characters.{text-low, text-slice, tried-known}
 use borrow.Author.Needs.{needs}
 use Rattle.utf8.proofs.scan_at.Statement.{statement}
 use Rattle.utf8.proofs.scan_at.Tie as tie
 
-ascii-requires : tie.Need-ascii-requires
-ascii-requires c κs = search needs
+plain-requires : tie.Need-plain-requires
+plain-requires c κs = search needs
 
 returns : tie.Need-returns
-returns c = text-both (omega arith) (c .before .ascii .ensures) (c .if2 .taken)
+returns c = sym (text-low (omega arith) (c .before .plain .ensures (c .if2 .taken)))
 
 add-end : tie.Need-add-end
 add-end c = search needs
@@ -43,5 +44,5 @@ returns-3 c = text-slice (c .before .before .before .before .before .before .bef
 pub scan-at-spec : {M : Type 1} → statement M
 scan-at-spec =
     tie.close
-    (tie.spec ascii-requires returns add-end try-at-requires enum-known-tried returns-2 enum-told sub-scan
+    (tie.spec plain-requires returns add-end try-at-requires enum-known-tried returns-2 enum-told sub-scan
     part-scan-start part-scan-end scan-requires returns-3)

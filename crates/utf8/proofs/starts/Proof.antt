@@ -1,4 +1,4 @@
-use Rattle.utf8.proofs.Bytes.{no-true, starts-if}
+use Rattle.utf8.proofs.Laws.{no-true, starts-if}
 use borrow.Author.Needs.{needs}
 use Rattle.utf8.proofs.starts.Statement.{statement}
 use Rattle.utf8.proofs.starts.Tie as tie
