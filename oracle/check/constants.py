@@ -100,24 +100,24 @@ agree("numbers of the sizes", {
     settings: named,
 })
 count = len(named)
-table = [number(n) for n in re.findall(r"[\d_]+", part("crates/vob24/src/lib.rt", "MEASURED: [u16;", "];").split("= [")[1])]
+table = [number(n) for n in re.findall(r"[\d_]+", part("crates/vob24_data/src/lib.rt", "MEASURED: [u16;", "];").split("= [")[1])]
 measured = re.search(r"^measured =\n?((?:[\s\d∷]|\[\])+)", text(settings), re.M).group(1)
 python = re.search(r"SIZES = \(([\d,\s]+)\)", text("oracle/check/reader.py")).group(1)
 readme = part("oracle/README.md", "(`oracle/sizes`), in order of first use along the reading:", "Beside the table")
 agree("sizes", {
-    "crates/vob24/src/lib.rt": table[:count],
+    "crates/vob24_data/src/lib.rt": table[:count],
     settings: [int(n) for n in re.findall(r"\d+", measured)],
     "oracle/check/reader.py": [int(n) for n in re.findall(r"\d+", python)],
     "oracle/README.md": [int(n) for n in re.findall(r"(?:^|,)\s*(\d+) ", readme)],
 })
 
 # Limits, by the names that the specification has: those above 65,535 take two entries of the array, low first.
-entries = {name: at for name, at in rattle(text("crates/vob24/src/limits.rt"))}
+entries = {name: at for name, at in rattle(text("crates/vob24_data/src/limits.rt"))}
 limits = {name: table[at] + 65536 * (table[entries[name + "_high"]] if name + "_high" in entries else 0)
           for name, at in entries.items() if not name.endswith("_high")}
 standing = re.search(r"^settings = record \{(.*)\}$", text(settings), re.M).group(1)
 agree("limits", {
-    "crates/vob24/src/lib.rt": sorted(limits.items()),
+    "crates/vob24_data/src/lib.rt": sorted(limits.items()),
     settings: sorted((snake(name), int(value)) for name, value in re.findall(r"(\w+) = (\d+)", standing)),
 })
 
@@ -131,7 +131,7 @@ def sections_of_python():
 grammar = part("crates/vob24/specs/Grammar.antt", "data Section : Type 0 where\n", ": Section")
 agree("sections", {
     "crates/vob24/specs/Grammar.antt": [snake(name) for name in grammar.split()],
-    "crates/vob24/src/lib.rt": rust_variants(part("crates/vob24/src/lib.rt", "pub enum Section {", "\n}")),
+    "crates/vob24_data/src/lib.rt": rust_variants(part("crates/vob24_data/src/lib.rt", "pub enum Section {", "\n}")),
     "crates/exports/src/lib.rt": re.findall(
         r'pub extern "C" fn vob_(\w+)', text("crates/exports/src/lib.rt").split("// ---- the sections")[1]),
     "bindings/c/vob.h": re.findall(r"VOB_SECTION\(vob_(\w+)\)", text("bindings/c/vob.h"))

@@ -5,7 +5,7 @@ use mathlib.Core.List.{List}
 use native.Mathlib.Omega.{arith}
 use Rattle.format.specs.Trace.{Wrong}
 use Rattle.vob24.specs.Calls as vob
-use Rattle.vob24.specs.RefusalNumbers.{Answered, taken, refused, Looked, found, missed}
+use Rattle.vob24_theorems.specs.RefusalNumbers.{Answered, taken, refused, Looked, found, missed}
 use Rattle.c_answers.specs.declared.VobAnswer.{VobAnswer}
 
 abbrev refusedNumbers : Wrong → ℕ → ℕ → VobAnswer

@@ -19,7 +19,7 @@ use Rattle.vob24.specs.Refusals
 use Rattle.vob24.specs.Settings.{Settings, maxPackBytes}
 use Rattle.vob24.specs.Grammar.{Section, section, pack}
 use Rattle.vob24.specs.Calls as vob
-use Rattle.vob24.specs.Theorems.{whole-settled, section-alone}
+use Rattle.vob24_theorems.specs.Theorems.{whole-settled, section-alone}
 use Rattle.reader.specs.Contract.{refusal, wrongOf, ReadyAt, Takes, Reads, takes, refuses, skips, Reader}
 use Rattle.reader.specs.Accepted.{Accepted}
 use Rattle.reader.proofs.Accepting.{taken-accepted}

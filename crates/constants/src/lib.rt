@@ -15,7 +15,7 @@ use reader::Payload;
 use reader::Signed;
 use reader::Step;
 use reader::sizes;
-use vob24::Settings;
+use vob24_data::Settings;
 
 pub mod answers;
 

@@ -16,7 +16,7 @@ use reader::Number;
 use reader::Step;
 use reader::numbers;
 use reader::sizes;
-use vob24::Settings;
+use vob24_data::Settings;
 
 pub fn files(s: &[u8], set: &Settings, r: Step, tape: &mut [u32]) -> Step
     requires { ⌜ Ready (now s) r ⌝ }
@@ -280,7 +280,7 @@ fn inline_frames(s: &[u8], set: &Settings, r: Step, tape: &mut [u32]) -> Step
     let Step::Taken(c) = r else {
         return r;
     };
-    let most = vob24::inline_records(set);
+    let most = vob24_data::inline_records(set);
     let q = fields::number_debug_count(
         s,
         set,
@@ -362,7 +362,7 @@ fn inline_functions(s: &[u8], set: &Settings, r: Step, functions: u64, tape: &mu
     let Step::Taken(c) = r else {
         return r;
     };
-    let all = vob24::inline_records(set);
+    let all = vob24_data::inline_records(set);
     let most = smaller(functions, all);
     let q = fields::number_debug_count(
         s,

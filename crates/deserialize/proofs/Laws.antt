@@ -17,10 +17,10 @@ use Rattle.vob24.specs.Settings.{Settings}
 use Rattle.vob24.specs.Leaves.{str}
 use Rattle.vob24.specs.Grammar as vob
 use Rattle.vob24.specs.Grammar.{inlineSources, section, afterFunctions, sections, magic, version, pack, list, struct, interface, namedType, itab, runtimeType, constant, global, function, artifact, location, frame, inlineFunction, stillLeft, inlineFrames, inlineFunctions}
-use Rattle.vob24.specs.Sections.{sectionOf, functionsOf}
+use Rattle.vob24_data.specs.Sections.{sectionOf, functionsOf}
 use Rattle.vob24.specs.Fields.{after}
 use Rattle.vob24.specs.Cost.{allSections}
-use Rattle.vob24.specs.declared.Section.{Section}
+use Rattle.vob24_data.specs.declared.Section.{Section}
 use Rattle.in_place.specs.Walk.{list-off}
 use Rattle.reader.specs.Contract.{stepOf, numberOf, Ready, ReadyAt, Refuses, Reads, refuses, skips, Reader, ComesTo, ReadsOf, got, lost, NumberOf, On}
 use Rattle.reader.specs.Accepted.{Accepted}

@@ -6,11 +6,11 @@ use Rattle.format.specs.Format.{Value, first, Format, empty, seq, counted}
 use Rattle.vob24.specs.Settings.{Settings}
 use Rattle.vob24.specs.Grammar as vob
 use Rattle.vob24.specs.Grammar.{inlineSources, section}
-use Rattle.vob24.specs.Sections.{sectionOf, functionsOf, numberOf}
+use Rattle.vob24_data.specs.Sections.{sectionOf, functionsOf, numberOf}
 use Rattle.vob24.specs.Fields.{after}
 use Rattle.vob24.specs.Cost.{allSections}
-use Rattle.vob24.specs.InTurn.{functionsAfter}
-use Rattle.vob24.specs.declared.Section.{Section}
+use Rattle.vob24_theorems.specs.InTurn.{functionsAfter}
+use Rattle.vob24_data.specs.declared.Section.{Section}
 use Rattle.reader.specs.declared.Number.{Number}
 use Rattle.reader.specs.declared.Number.the-variants.{Got, Not}
 

@@ -3,15 +3,15 @@
 ghost use mathlib.Core.Bool.{true};
 ghost use Rattle.vob24.specs.Settings.{settingsOf};
 ghost use Rattle.vob24.specs.Grammar as vob;
-ghost use Rattle.vob24.specs.Sections.{sectionOf, numberOf};
+ghost use Rattle.vob24_data.specs.Sections.{sectionOf, numberOf};
 ghost use Rattle.reader.specs.Contract.{stepOf, Ready, Reader, ComesTo};
 ghost use Rattle.reader.specs.Accepted.{Accepted};
 ghost use Rattle.deserialize.specs.Parts.{formatOf, fromSection, countOf};
 ghost use Rattle.deserialize.specs.Reach.{Reaches};
 use reader::Number;
 use reader::Step;
-use vob24::Section;
-use vob24::Settings;
+use vob24_data::Section;
+use vob24_data::Settings;
 
 // The artifacts and the debug information: five lists, of which the inline sources have two, all empty in a small pack.
 fn artifacts_on(s: &[u8], set: &Settings, r: Step, functions: u64, tape: &mut [u32]) -> Step
@@ -153,10 +153,10 @@ pub fn to_section(s: &[u8], set: &Settings, to: Section, r: Step, tape: &mut [u3
 {
     let r1 = fields::field_magic(s, r, tape);
     let mut here = fields::field_version(s, r1, tape);
-    let last = vob24::section_number(to);
+    let last = vob24_data::section_number(to);
     let mut i = 0;
     while i < last {
-        let x = vob24::section_at(i);
+        let x = vob24_data::section_at(i);
         here = section(s, set, x, here, true, tape);
         i += 1;
     }

@@ -7,7 +7,7 @@ ghost use Rattle.vob24.specs.Grammar as vob;
 ghost use Rattle.vob24.specs.Calls.{readOutcome, sectionOutcome, findOutcome};
 ghost use Rattle.c_answers.specs.Numbers.{foundNumbers, Shows};
 pub use c_answers::VobAnswer;
-use vob24::Section;
+use vob24_data::Section;
 
 #[no_mangle]
 pub extern "C" fn vob_read(pack: &[u8], budget: u64, tape: &mut [u32]) -> VobAnswer
@@ -29,7 +29,7 @@ pub extern "C" fn vob_find_artifact(pack: &[u8], name: &[u8]) -> VobAnswer
 pub extern "C" fn vob_charge_size(index: u64) -> u64
     ensures { λ q. ⌜ q ≡ sizeOf settings index ⌝ }
 {
-    vob24::measured_size(index as usize)
+    vob24_data::measured_size(index as usize)
 }
 
 // ---- the sections, in file order

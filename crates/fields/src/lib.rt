@@ -14,7 +14,7 @@ use reader::Payload;
 use reader::Step;
 use reader::Text;
 use reader::numbers;
-use vob24::Settings;
+use vob24_data::Settings;
 
 // ---- numbers
 
@@ -441,7 +441,7 @@ pub fn field_artifact_name(s: &[u8], set: &Settings, r: Step, tape: &mut [u32]) 
         s,
         c,
         numbers::ARTIFACT_NAME,
-        vob24::artifact_name_bytes(set),
+        vob24_data::artifact_name_bytes(set),
     );
     let Text::Got(start, length, _, d) = q else {
         return reader::text_step(q);
@@ -461,7 +461,7 @@ pub fn field_artifact_payload(s: &[u8], set: &Settings, r: Step, tape: &mut [u32
         s,
         c,
         numbers::ARTIFACT_PAYLOAD,
-        vob24::artifact_payload_bytes(set),
+        vob24_data::artifact_payload_bytes(set),
     );
     let Payload::Got(start, length, d) = q else {
         return reader::payload_step(q);

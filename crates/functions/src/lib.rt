@@ -11,7 +11,7 @@ use reader::Refusal;
 use reader::Step;
 use reader::numbers;
 use reader::sizes;
-use vob24::Settings;
+use vob24_data::Settings;
 
 // ---- code
 

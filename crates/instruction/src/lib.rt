@@ -14,7 +14,7 @@ use reader::Cursor;
 use reader::Number;
 use reader::Step;
 use reader::sizes;
-use vob24::Settings;
+use vob24_data::Settings;
 
 // op, flags, a, b, c
 fn instruction(s: &[u8], r: Step, tape: &mut [u32]) -> Step

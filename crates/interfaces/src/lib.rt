@@ -8,7 +8,7 @@ use in_place::Item;
 use reader::Number;
 use reader::Step;
 use reader::sizes;
-use vob24::Settings;
+use vob24_data::Settings;
 
 fn method_names(s: &[u8], set: &Settings, r: Step, tape: &mut [u32]) -> Step
     requires { ⌜ Ready (now s) r ⌝ }

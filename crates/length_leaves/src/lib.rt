@@ -23,7 +23,7 @@ use reader::numbers;
 use reader::sizes;
 use utf8::Scanned;
 use utf8::Tried;
-use vob24::Settings;
+use vob24_data::Settings;
 
 // A refusal of another answer type. The first arm is never run, here and in the two below.
 fn payload_refusal(q: Number) -> Payload
@@ -199,7 +199,7 @@ pub fn read_count(s: &[u8], set: &Settings, c: Cursor, entry: usize) -> Number
     let Number::Got(n, d) = q else {
         return q;
     };
-    counted(s, d, n, 1, numbers::VECTOR, vob24::size(set, entry))
+    counted(s, d, n, 1, numbers::VECTOR, vob24_data::size(set, entry))
 }
 
 // The count of an inline list, which is at most `most`: `read_debug_vec`.
@@ -223,7 +223,7 @@ pub fn read_debug_count(
     if most < n {
         return Number::Not(over(d, numbers::DEBUG_METADATA_LIMIT_EXCEEDED, context, n, most));
     }
-    counted(s, d, n, 1, numbers::VECTOR, vob24::size(set, entry))
+    counted(s, d, n, 1, numbers::VECTOR, vob24_data::size(set, entry))
 }
 
 // The count of artifacts, which is not compared with the bytes left.
@@ -238,7 +238,7 @@ pub fn read_artifact_count(s: &[u8], set: &Settings, c: Cursor) -> Number
     let Number::Got(n, d) = q else {
         return q;
     };
-    let most = vob24::artifacts(set);
+    let most = vob24_data::artifacts(set);
     if most < n {
         return Number::Not(over(
             d,
@@ -254,7 +254,7 @@ pub fn read_artifact_count(s: &[u8], set: &Settings, c: Cursor) -> Number
         n,
         0,
         numbers::MODULE_ARTIFACTS,
-        vob24::size(set, sizes::MODULE_ARTIFACT),
+        vob24_data::size(set, sizes::MODULE_ARTIFACT),
     )
 }
 
@@ -268,7 +268,8 @@ pub fn read_method_count(s: &[u8], set: &Settings, c: Cursor) -> Number
     let Number::Got(n, d) = q else {
         return q;
     };
-    let size = vob24::size(set, sizes::STRING_METHOD_INFO) + 3 * vob24::size(set, sizes::USIZE);
+    let size = vob24_data::size(set, sizes::STRING_METHOD_INFO)
+        + 3 * vob24_data::size(set, sizes::USIZE);
     counted(s, d, n, 14, numbers::NAMED_METHOD_MAP, size)
 }
 

@@ -8,7 +8,7 @@ use lib.ListN.{length}
 use Rattle.vob24.specs.Settings.{settings}
 use Rattle.vob24.specs.Grammar.{Section}
 use Rattle.vob24.specs.Calls as vob
-use Rattle.vob24.specs.Theorems.{section-within}
+use Rattle.vob24_theorems.specs.Theorems.{section-within}
 use Rattle.calls.specs.declared.Answer.{Answer}
 use Rattle.calls.specs.Contract.{answerOf, SectionCall}
 use Rattle.position.specs.Moving.{positionOf, Moves, Fits}

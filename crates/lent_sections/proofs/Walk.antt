@@ -20,9 +20,9 @@ use denote.Triple.Statement.{Contract, Triple}
 use denote.Triple.Clauses.{Ended, Clauses, closing}
 use denote.Triple.Table.{entered, cited}
 use denote.Triple.Walked.{Stays, AllGo, Walks, walk-meets}
-use Rattle.vob24.specs.declared.Section.{Section}
-use Rattle.vob24.proofs.Section as E
-use Rattle.vob24.proofs.Section.Laws as E′
+use Rattle.vob24_data.specs.declared.Section.{Section}
+use Rattle.vob24_data.proofs.Section as E
+use Rattle.vob24_data.proofs.Section.Laws as E′
 use Rattle.position.specs.declared.Position.{Position}
 use Rattle.position.proofs.Position as P
 use Rattle.position.proofs.Position.Laws as P′

@@ -1,10 +1,10 @@
 // The section call that is lent its place and budget and advances them, over the section call by value.
 // The Rust has no such call; its ByteReader does the same with pos and allocation_remaining.
-ghost use Rattle.vob24.specs.Sections.{sectionOf, functionsOf};
+ghost use Rattle.vob24_data.specs.Sections.{sectionOf, functionsOf};
 ghost use Rattle.position.specs.Contract.{LentCall};
 use calls::Answer;
 pub use position::Position;
-use vob24::Section;
+use vob24_data::Section;
 
 // An answer, and the position after it.
 pub struct Lent {

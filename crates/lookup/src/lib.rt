@@ -9,7 +9,7 @@ ghost use Rattle.lookup.specs.Look.{IsName, Looks, ArtifactsAt, LooksFro
 use reader::Cursor;
 use reader::Refusal;
 use reader::numbers;
-use vob24::Settings;
+use vob24_data::Settings;
 
 // start, length
 pub enum Found {

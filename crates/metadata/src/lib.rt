@@ -19,7 +19,7 @@ use reader::Number;
 use reader::Refusal;
 use reader::Step;
 use reader::sizes;
-use vob24::Settings;
+use vob24_data::Settings;
 
 // The tags of the two commonest metadata.
 const NONE: u8 = 0;

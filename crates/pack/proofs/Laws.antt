@@ -11,7 +11,7 @@ use Rattle.format.specs.Reading.{part, trace}
 use Rattle.vob24.specs.Settings.{Settings, startingBudget}
 use Rattle.vob24.specs.Calls.{wholeTrace, findOutcome}
 use Rattle.vob24.specs.Grammar.{artifacts, section, pack, artifact}
-use Rattle.vob24.specs.Sections.{numberOf}
+use Rattle.vob24_data.specs.Sections.{numberOf}
 use Rattle.vob24.specs.Cost.{partOf}
 use Rattle.calls.specs.Contract.{from, Opens, Ends}
 use Rattle.calls.proofs.Laws.{Passed, passed, denied, read-passed}

@@ -8,8 +8,8 @@ use calls::Answer;
 use lookup::Found;
 use reader::Cursor;
 use reader::Step;
-use vob24::Section;
-use vob24::Settings;
+use vob24_data::Section;
+use vob24_data::Settings;
 
 // The Rust's own, under which the lookup reads.
 pub const STARTING_BUDGET: u64 = 536_870_912;
@@ -44,7 +44,7 @@ fn read_once(pack: &[u8], set: &Settings, start: Step, budget: u64, tape: &mut [
 pub fn read(pack: &[u8], budget: u64, tape: &mut [u32]) -> Answer
     ensures { λ q. ⌜ ReadCall settings (now (pack .entry)) budget (now (tape .entry)) q (now (tape .exit)) ⌝ }
 {
-    let set = &vob24::MEASURED;
+    let set = &vob24_data::MEASURED;
     if pack.len() <= SMALL {
         let start = Step::Taken(Cursor {
             place: 0,
@@ -80,7 +80,7 @@ fn located(s: &[u8], set: &Settings, r: Step, name: &[u8], end: Cursor) -> Found
 pub fn locate_artifact(pack: &[u8], name: &[u8]) -> Found
     ensures { λ q. ⌜ LocateCall settings (now (pack .entry)) (now (name .entry)) q ⌝ }
 {
-    let set = &vob24::MEASURED;
+    let set = &vob24_data::MEASURED;
     let mut none = [0u32; 1];
     let start = calls::opening_whole(pack, STARTING_BUDGET);
     let first = deserialize::deserialize(pack, set, start, false, &mut none[..0]);

@@ -161,7 +161,7 @@ fn runtime_type(s: &[u8]) {
     if MOST < s.len() {
         return;
     }
-    let set = &vob24::MEASURED;
+    let set = &vob24_data::MEASURED;
     let mut tape = [0; 64];
     let c = start();
     let q = runtime_type::runtime_type(s, set, c, false, &mut tape);
@@ -239,7 +239,7 @@ fn metadata(s: &[u8]) {
     if MOST < s.len() {
         return;
     }
-    let set = &vob24::MEASURED;
+    let set = &vob24_data::MEASURED;
     let mut tape = [0; 64];
     match metadata::instruction_metadata(s, set, start(), &mut tape) {
         MetadataRead::Got(record, d) => {
@@ -323,7 +323,7 @@ fn select(s: &[u8]) {
     if MOST < s.len() {
         return;
     }
-    let set = &vob24::MEASURED;
+    let set = &vob24_data::MEASURED;
     let mut tape = [0; 64];
     match metadata::instruction_metadata(s, set, start(), &mut tape) {
         MetadataRead::Got(record, d) => {

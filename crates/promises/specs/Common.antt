@@ -19,7 +19,7 @@ use Rattle.vob24.specs.PackCost.{Costs}
 use Rattle.vob24.specs.Calls.{Answer, Taken, Refused, Outcome, noRoomFor, closing}
 use Rattle.vob24.specs.CallTheorems as of
 use Rattle.vob24.specs.CallTheorems.{leftOf, Account, IsTaken, IsBroke, Reads, taken-record, call-texts, call-record, call-cost}
-use Rattle.vob24.specs.RefusalNumbers.{Listed}
+use Rattle.vob24_theorems.specs.RefusalNumbers.{Listed}
 
 -- "A refusal changes no lent memory, an acceptance only the tape's counted words": the tape at entry, and at exit.
 abbrev pub Kept : Answer → List ℕ → List ℕ → Type 0

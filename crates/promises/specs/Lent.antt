@@ -18,7 +18,7 @@ use Rattle.vob24.specs.Cost.{sectionCost, sectionRecordCost}
 use Rattle.vob24.specs.Calls as vob
 use Rattle.vob24.specs.Calls.{Taken, Refused, noRoomFor}
 use Rattle.vob24.specs.CallTheorems.{leftOf, Account, IsBroke}
-use Rattle.vob24.specs.RefusalNumbers.{Answered}
+use Rattle.vob24_theorems.specs.RefusalNumbers.{Answered}
 use Rattle.calls.specs.Contract.{answerOf, SectionCall}
 use Rattle.calls.specs.declared.Answer.{Answer}
 use Rattle.position.specs.Moving.{positionOf}

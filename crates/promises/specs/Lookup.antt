@@ -17,10 +17,10 @@ use Rattle.vob24.specs.Grammar.{artifacts}
 use Rattle.vob24.specs.Cost.{partOf, packCost}
 use Rattle.vob24.specs.PackCost.{pack-costs}
 use Rattle.vob24.specs.Calls.{At, Not, foundPart}
-use Rattle.vob24.specs.Theorems.{whole-reads, whole-layout}
-use Rattle.vob24.specs.LookupTheorems as spec
-use Rattle.vob24.specs.LookupTheorems.{NoneNamed, FirstNamed, payloadOf}
-use Rattle.vob24.specs.RefusalNumbers.{Looked, find-numbered, whole-listed}
+use Rattle.vob24_theorems.specs.Theorems.{whole-reads, whole-layout}
+use Rattle.vob24_theorems.specs.LookupTheorems as spec
+use Rattle.vob24_theorems.specs.LookupTheorems.{NoneNamed, FirstNamed, payloadOf}
+use Rattle.vob24_theorems.specs.RefusalNumbers.{Looked, find-numbered, whole-listed}
 use Rattle.lookup.specs.Look.{foundOf, Room, LocateCall, FindCall}
 use Rattle.lookup.specs.declared.Found.{Found}
 use Rattle.promises.specs.Common.{ends-cost}

@@ -21,8 +21,8 @@ use Rattle.vob24.specs.PackCost.{section-costs}
 use Rattle.vob24.specs.Calls as vob
 use Rattle.vob24.specs.Calls.{Taken, Refused, noRoomFor, sectionTrace}
 use Rattle.vob24.specs.CallTheorems.{leftOf, Account, IsBroke}
-use Rattle.vob24.specs.Theorems as spec
-use Rattle.vob24.specs.RefusalNumbers.{Answered, section-numbered, section-listed}
+use Rattle.vob24_theorems.specs.Theorems as spec
+use Rattle.vob24_theorems.specs.RefusalNumbers.{Answered, section-numbered, section-listed}
 use Rattle.calls.specs.Contract.{answerOf, SectionCall}
 use Rattle.calls.specs.declared.Answer.{Answer}
 use Rattle.promises.specs.Common as common

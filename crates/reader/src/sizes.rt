@@ -1,4 +1,4 @@
-// The numbers of the 32 sizes, for vob24::size: the entries' types in order of first use along the reading.
+// The numbers of the 32 sizes, for vob24_data::size: the entries' types in order of first use along the reading.
 pub const STRUCT_META: usize = 1;
 
 pub const SLOT_TYPE: usize = 2;

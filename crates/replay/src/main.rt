@@ -9,7 +9,7 @@ use stored_answers::SECTION_CALL;
 use stored_answers::TEXT;
 use stored_answers::Tally;
 use stored_answers::WHOLE;
-use vob24::Section;
+use vob24_data::Section;
 
 fn whole(t: Tally, h: &[u8], pack: &[u8], words: &[u8], tape: &mut [u32]) -> Tally {
     stored_answers::fill(tape);

@@ -12,7 +12,7 @@ use reader::Cursor;
 use reader::Number;
 use reader::Step;
 use reader::sizes;
-use vob24::Settings;
+use vob24_data::Settings;
 
 // ---- fields of structs
 

@@ -17,7 +17,7 @@ use reader::Number;
 use reader::Refusal;
 use reader::Step;
 use reader::sizes;
-use vob24::Settings;
+use vob24_data::Settings;
 
 // An id that may be absent.
 pub enum OptionalId {

@@ -1,10 +1,10 @@
 // The section call by value: one section of a pack alone, from a place and a budget, into a tape of its own.
 // The Rust has no such call; it reads what Module::deserialize reads of the section.
 ghost use Rattle.vob24.specs.Settings.{settings};
-ghost use Rattle.vob24.specs.Sections.{sectionOf, functionsOf};
+ghost use Rattle.vob24_data.specs.Sections.{sectionOf, functionsOf};
 ghost use Rattle.calls.specs.Contract.{SectionCall};
 use calls::Answer;
-use vob24::Section;
+use vob24_data::Section;
 
 pub fn read_section(
     pack: &[u8],
@@ -16,7 +16,7 @@ pub fn read_section(
     ensures { λ q. ⌜ SectionCall settings (functionsOf section) (sectionOf section) (now (pack .entry)) place budget
         (now (tape .entry)) q (now (tape .exit)) ⌝ }
 {
-    let set = &vob24::MEASURED;
+    let set = &vob24_data::MEASURED;
     let start = calls::opening(pack, place, budget);
     let first = deserialize::section(pack, set, section, start, false, &mut tape[..0]);
     let answer = calls::closed(first, place, budget, tape.len());

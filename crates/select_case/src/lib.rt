@@ -10,7 +10,7 @@ use reader::Cursor;
 use reader::Number;
 use reader::Refusal;
 use reader::sizes;
-use vob24::Settings;
+use vob24_data::Settings;
 
 pub enum SelectCase {
     Send {

@@ -11,7 +11,7 @@ use reader::Cursor;
 use reader::Number;
 use reader::Step;
 use reader::sizes;
-use vob24::Settings;
+use vob24_data::Settings;
 
 // A list of any length.
 fn number_any(s: &[u8], set: &Settings, c: Cursor, tape: &mut [u32]) -> Number
@@ -91,7 +91,7 @@ pub fn number_slot_types(s: &[u8], set: &Settings, c: Cursor, tape: &mut [u32]) 
     ensures { λ q. ⌜ NumberOf (slotTypes (settingsOf (now (set .entry)))) counted (now (s .entry)) c
         (now (tape .entry)) q (now (tape .exit)) ⌝ }
 {
-    let size = vob24::size(set, sizes::SLOT_TYPE);
+    let size = vob24_data::size(set, sizes::SLOT_TYPE);
     let left = c.left;
     if 4 * size <= left {
         let place = c.place;
@@ -124,7 +124,7 @@ pub fn slot_types(s: &[u8], set: &Settings, r: Step, tape: &mut [u32]) -> Step
     let Step::Taken(c) = r else {
         return r;
     };
-    let size = vob24::size(set, sizes::SLOT_TYPE);
+    let size = vob24_data::size(set, sizes::SLOT_TYPE);
     let left = c.left;
     if 4 * size <= left {
         let place = c.place;

@@ -8,7 +8,7 @@ ghost use Rattle.small_sections.specs.Tables.{itabMethods, itabFormat, i
 use reader::Number;
 use reader::Step;
 use reader::sizes;
-use vob24::Settings;
+use vob24_data::Settings;
 
 fn itab_methods(s: &[u8], set: &Settings, r: Step, tape: &mut [u32]) -> Step
     requires { ⌜ Ready (now s) r ⌝ }

@@ -7,7 +7,7 @@ ghost use Rattle.structs.specs.Structs.{fieldFormat, fieldList, structFo
 use reader::Number;
 use reader::Step;
 use reader::sizes;
-use vob24::Settings;
+use vob24_data::Settings;
 
 fn struct_field(s: &[u8], r: Step, tape: &mut [u32]) -> Step
     requires { ⌜ Ready (now s) r ⌝ }

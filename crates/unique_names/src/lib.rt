@@ -24,7 +24,7 @@ use reader::Refusal;
 use reader::Step;
 use reader::numbers;
 use reader::sizes;
-use vob24::Settings;
+use vob24_data::Settings;
 
 // ---- the charge and the refusal of an item
 
@@ -213,7 +213,7 @@ pub fn field_index(s: &[u8], set: &Settings, r: Step, r1: Step, again: bool) -> 
     let tally = named(s, from, n);
     let names = tally.names;
     let bytes = tally.bytes;
-    let size = names * vob24::size(set, sizes::STRING_USIZE);
+    let size = names * vob24_data::size(set, sizes::STRING_USIZE);
     let paid = reader::charge_allocation(d, numbers::STRUCT_FIELD_INDEX, size);
     let Step::Taken(e) = paid else {
         return paid;
@@ -239,7 +239,7 @@ pub fn method_set(s: &[u8], set: &Settings, item: Item, r: Step, r1: Step, again
     };
     let place = c.place;
     let n = in_place::word_at(s, place);
-    let size = (n as u64) * (2 * vob24::size(set, sizes::STR));
+    let size = (n as u64) * (2 * vob24_data::size(set, sizes::STR));
     let paid = reader::charge_allocation(d, numbers::INTERFACE_METHOD_SET, size);
     let Step::Taken(e) = paid else {
         return paid;
@@ -284,7 +284,7 @@ pub fn field_set(s: &[u8], set: &Settings, r: Step, r1: Step, again: bool) -> St
     };
     let place = c.place;
     let n = in_place::word_at(s, place);
-    let size = (n as u64) * (2 * vob24::size(set, sizes::STR_STR));
+    let size = (n as u64) * (2 * vob24_data::size(set, sizes::STR_STR));
     let paid = reader::charge_allocation(d, numbers::RUNTIME_STRUCT_FIELD_SET, size);
     let Step::Taken(e) = paid else {
         return paid;

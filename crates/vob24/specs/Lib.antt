@@ -6,23 +6,15 @@ pub mod Leaves
 pub mod Fields
 pub mod Questions
 pub mod Grammar
-pub mod Sections
 pub mod Cost
 pub mod Calls
 -- theorems
 pub mod SizeTable
 pub mod Ranges
 pub mod Rows
-pub mod Scalars
 pub mod Packed
 pub mod MarkedCases
 pub mod Examples
 pub mod Accessors
 pub mod PackCost
-pub mod PackLayout
-pub mod PackBound
 pub mod CallTheorems
-pub mod Theorems
-pub mod LookupTheorems
-pub mod InTurn
-pub mod RefusalNumbers

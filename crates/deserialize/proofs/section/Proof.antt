@@ -1,7 +1,7 @@
 use denote.Ref.{now}
 use Rattle.vob24.specs.Settings.{settingsOf}
 use Rattle.vob24.specs.Grammar.{section}
-use Rattle.vob24.specs.declared.Section.the-variants.{Name, Structs, Interfaces, NamedTypes, Itabs, RuntimeTypes, WellKnown, Constants, Globals, Functions, Externs, Entry, IslandInit, Artifacts, Files, FunctionLocations, InlineSources}
+use Rattle.vob24_data.specs.declared.Section.the-variants.{Name, Structs, Interfaces, NamedTypes, Itabs, RuntimeTypes, WellKnown, Constants, Globals, Functions, Externs, Entry, IslandInit, Artifacts, Files, FunctionLocations, InlineSources}
 use Rattle.deserialize.proofs.Laws.{section-at, accepted-section}
 use borrow.Author.Needs.{needs}
 use Rattle.deserialize.proofs.section.Statement.{statement}

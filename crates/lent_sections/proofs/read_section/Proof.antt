@@ -39,10 +39,10 @@ use denote.Triple.Call.{calls-at}
 use denote.Triple.Clauses.{ensured, lasts}
 use denote.Triple.Walked.{says, Stays, stay-dropped, stay-ref, gave-slice, walkOf, goes-dropped, goes-ref, goes-gave-slice, ends-at, walked}
 use denote.Exit.{yes}
-use Rattle.vob24.specs.Sections.{sectionOf, functionsOf}
-use Rattle.vob24.specs.declared.Section.{Section}
-use Rattle.vob24.proofs.Section as E
-use Rattle.vob24.proofs.Section.Laws as E′
+use Rattle.vob24_data.specs.Sections.{sectionOf, functionsOf}
+use Rattle.vob24_data.specs.declared.Section.{Section}
+use Rattle.vob24_data.proofs.Section as E
+use Rattle.vob24_data.proofs.Section.Laws as E′
 use Rattle.calls.proofs.Answer as R
 use Rattle.calls.proofs.Answer.Laws as R′
 use Rattle.position.specs.declared.Position.{Position}

@@ -1,6 +1,6 @@
 use borrow.Author.Needs.{needs}
 use Rattle.vob24.specs.Settings.{settings, settingsOf}
-use Rattle.vob24.specs.Sections.{sectionOf, functionsOf}
+use Rattle.vob24_data.specs.Sections.{sectionOf, functionsOf}
 use Rattle.calls.proofs.Laws.{section-since, section-accepted, section-refused, section-taken}
 use Rattle.reader.proofs.Accepting.{unknown}
 use Rattle.sections.proofs.read_section.Statement.{statement}

@@ -21,13 +21,13 @@ use Rattle.format.specs.CountsCovered.{layout-iff}
 use Rattle.format.specs.RecordTheorems.{trace-held}
 use Rattle.format.specs.ChargeBound.{guard-under, end-free}
 use Rattle.format.specs.PlacesRise.{Rising, rising-bind, rising-guard, rising-end, trace-rising}
 use Rattle.vob24.specs.Refusals
 use Rattle.vob24.specs.Settings.{Settings, Licensed, maxPackBytes}
 use Rattle.vob24.specs.Grammar.{Section, section, pack}
-use Rattle.vob24.specs.PackLayout.{closed-section, closed-pack}
-use Rattle.vob24.specs.PackBound.{section-bound, pack-bound}
+use Rattle.vob24_theorems.specs.PackLayout.{closed-section, closed-pack}
+use Rattle.vob24_theorems.specs.PackBound.{section-bound, pack-bound}
 use Rattle.vob24.specs.Calls.{Taken, tooLarge, wholeTrace, sectionTrace, sectionOutcome}
 use Rattle.vob24.specs.CallTheorems.{only-when, Reads}
 
 -- a last question charges nothing
 judged : (t : Trace Value) (d : Value → ℕ → Bool) (w : Value → ℕ → Wrong)

@@ -1,7 +1,7 @@
 use native.Mathlib.Omega.{arith}
 use borrow.Author.Needs.{needs}
-use Rattle.vob24.proofs.section_number.Statement.{statement}
-use Rattle.vob24.proofs.section_number.Tie as tie
+use Rattle.vob24_data.proofs.section_number.Statement.{statement}
+use Rattle.vob24_data.proofs.section_number.Tie as tie
 
 enum-told : tie.Need-enum-told
 enum-told c = search needs

@@ -1,8 +1,8 @@
 -- What the code's sections stand for in the grammar.
 use Prim.Native.Nat.{ℕ}
 use Rattle.vob24.specs.Grammar as vob
-use Rattle.vob24.specs.declared.Section.{Section}
-use Rattle.vob24.specs.declared.Section.the-variants.{Name, Structs, Interfaces, NamedTypes, Itabs, RuntimeTypes, WellKnown, Constants, Globals, Functions, Externs, Entry, IslandInit, Artifacts, Files, FunctionLocations, InlineSources}
+use Rattle.vob24_data.specs.declared.Section.{Section}
+use Rattle.vob24_data.specs.declared.Section.the-variants.{Name, Structs, Interfaces, NamedTypes, Itabs, RuntimeTypes, WellKnown, Constants, Globals, Functions, Externs, Entry, IslandInit, Artifacts, Files, FunctionLocations, InlineSources}
 
 abbrev pub sectionOf : Section → vob.Section
 sectionOf Name = vob.name

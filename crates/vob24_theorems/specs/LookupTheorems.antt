@@ -13,13 +13,13 @@ use Rattle.format.specs.Reading.{part, same}
 use Rattle.format.specs.Record.{Held}
 use Rattle.format.specs.SettleTheorems.{settle-taken}
 use Rattle.format.specs.LayoutTheorems.{same-eq, same-refl}
 use Rattle.vob24.specs.Refusals
 use Rattle.vob24.specs.Settings.{Settings, startingBudget}
 use Rattle.vob24.specs.Grammar.{artifacts}
 use Rattle.vob24.specs.Fields.{after, artifactOf}
 use Rattle.vob24.specs.Cost.{partOf}
 use Rattle.vob24.specs.Calls.{Found, At, Not, wholeTrace, lookIn, looking, findOutcome, foundPart}
-use Rattle.vob24.specs.Theorems.{whole-held}
+use Rattle.vob24_theorems.specs.Theorems.{whole-held}
 
 -- The artifact's name is these bytes.
 abbrev pub Named : List ℕ → Value → Type 0

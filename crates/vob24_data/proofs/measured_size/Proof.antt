@@ -1,8 +1,8 @@
 use borrow.Author.Needs.{needs}
 use Rattle.vob24.specs.Settings.{settingsOf}
 use Rattle.vob24.specs.SizeTable.{settings-licensed, size-most}
-use Rattle.vob24.proofs.measured_size.Statement.{statement}
-use Rattle.vob24.proofs.measured_size.Tie as tie
+use Rattle.vob24_data.proofs.measured_size.Statement.{statement}
+use Rattle.vob24_data.proofs.measured_size.Tie as tie
 
 size-requires : tie.Need-size-requires
 size-requires c κs = search needs

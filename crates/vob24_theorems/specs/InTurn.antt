@@ -14,13 +14,13 @@ use Rattle.format.specs.Record.{wordsLeaf, words}
 use Rattle.format.specs.SettleTheorems.{thenS, settle-taken}
 use Rattle.format.specs.TraceTheorems.{leaf-ends, trace-within, slim, settle-seq}
 use Rattle.format.specs.ChargeSums.{chargesLeaf, charges, trace-charges}
 use Rattle.vob24.specs.Refusals
 use Rattle.vob24.specs.Settings.{Settings, maxPackBytes}
 use Rattle.vob24.specs.Grammar.{Section, name, structs, interfaces, namedTypes, itabs, runtimeTypes, wellKnown, constants, globals, functions, externs, entry, islandInit, artifacts, files, functionLocations, inlineSources, section, afterFunctions, sections, magic, version, pack}
 use Rattle.vob24.specs.Cost.{allSections}
 use Rattle.vob24.specs.Calls.{Answer, Taken, Refused, Outcome, written, closing, readOutcome, sectionOutcome, Position, LentOutcome, advancing, lentOutcome}
 use Rattle.vob24.specs.CallTheorems.{taken-when}
-use Rattle.vob24.specs.Theorems.{whole-settled, section-alone}
+use Rattle.vob24_theorems.specs.Theorems.{whole-settled, section-alone}
 
 -- The number of functions that the sections after this one go by, from this one's words: a list opens with its count.
 abbrev pub functionsAfter : ℕ → Section → List ℕ → ℕ

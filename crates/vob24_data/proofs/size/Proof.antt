@@ -1,9 +1,9 @@
 use borrow.Author.Needs.{needs}
 use mathlib.Core.Path.{_∙_}
 use native.Mathlib.Omega.{arith}
 use Rattle.vob24.specs.SizeTable.{array-below, array-past, array-at}
-use Rattle.vob24.proofs.size.Statement.{statement}
-use Rattle.vob24.proofs.size.Tie as tie
+use Rattle.vob24_data.proofs.size.Statement.{statement}
+use Rattle.vob24_data.proofs.size.Tie as tie
 
 returns : tie.Need-returns
 returns c = (array-below _ _ (omega arith), omega arith)

@@ -2,8 +2,8 @@ use Prim.Native.Nat.{ℕ, suc, zero, _≤_}
 use mathlib.Core.Path.{_≡_, refl}
 use native.Mathlib.Omega.{arith}
 use borrow.Author.Needs.{needs}
-use Rattle.vob24.proofs.section_at.Statement.{statement}
-use Rattle.vob24.proofs.section_at.Tie as tie
+use Rattle.vob24_data.proofs.section_at.Statement.{statement}
+use Rattle.vob24_data.proofs.section_at.Tie as tie
 
 -- i is none of the numbers below k
 abbrev NoneOf : ℕ → ℕ → Type 0

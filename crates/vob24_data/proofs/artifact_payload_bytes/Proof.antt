@@ -1,7 +1,7 @@
 use borrow.Author.Needs.{needs}
 use Rattle.vob24.specs.Settings.{settingsOf}
-use Rattle.vob24.proofs.inline_records.Statement.{statement}
-use Rattle.vob24.proofs.inline_records.Tie as tie
+use Rattle.vob24_data.proofs.artifact_payload_bytes.Statement.{statement}
+use Rattle.vob24_data.proofs.artifact_payload_bytes.Tie as tie
 
 element-copy-out-wide : tie.Need-element-copy-out-wide
 element-copy-out-wide c = search needs
@@ -25,7 +25,7 @@ returns : tie.Need-returns
 unfolding settingsOf
 returns c = search needs
 
-pub inline-records-spec : {M : Type 1} → statement M
-inline-records-spec =
+pub artifact-payload-bytes-spec : {M : Type 1} → statement M
+artifact-payload-bytes-spec =
     tie.close
     (tie.spec element-copy-out-wide wide-requires element-copy-out-wide-2 wide-requires-2 mul-result add-result returns)
