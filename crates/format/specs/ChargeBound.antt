@@ -1,6 +1,6 @@
 -- A bound on the charges of every reading, also of one that stops: so much a byte.
 use Prim.Native.Nat.{ℕ, suc, zero, _+_, _-_, _*_, _≤_}
-use mathlib.Core.Path.{_≡_, refl, ap, _∙_}
+use mathlib.Core.Path.{_≡_, refl, ap, sym, _∙_}
 use mathlib.Core.List.{List, [], _∷_, map}
 use mathlib.Core.Bool.{Bool, true, false}
 use native.Mathlib.Omega.{arith}
@@ -210,7 +210,7 @@ count-under r m c z s p x h = field-under 4 s p _ _ (λ _. guard-under _ _ _ _ _
 four : (k e p : ℕ) → p + 4 ≤ e → 4 * k ≤ 0 + k * (e - p)
 four k e p b = let i : 4 ≤ e - p = omega arith in omega (arith, mul-le-mul-left k i, mul-comm 4 k)
 
-pub rated-count : {r : Rule} {m c z k : ℕ} → ((n : ℕ) → T (r .test n) → n * z ≤ 4 * k)
+rated-count : {r : Rule} {m c z k : ℕ} → ((n : ℕ) → T (r .test n) → n * z ≤ 4 * k)
     → Rated 0 k (leaf (count r m c z))
 unfolding trace
 rated-count {r} {m} {c} {z} {k} few =
@@ -292,6 +292,33 @@ pub rated-few : {S : Type 0} {r : Rule} {m c z k : ℕ} {f : S → Format} (u : 
     → ((n : ℕ) → T (r .test n) → n * z ≤ 4 * k) → ((x : S) → Rated 0 k (f x))
     → Rated 0 k (seq (leaf (count r m c z)) (λ n. chain f u x (number n)))
 rated-few u x few h = rated-plain (rated-count few) (λ v. rated-chain u h (number v) x)
+
+-- A count held against the bytes left, and questions that let no count but 0 pass.
+pub rated-none : {r : Rule} {m c z : ℕ} {g : Value → Format} → 1 ≤ m → ((v : Value) → Rated 0 0 (g v))
+    → ((v w : Value) (p : ℕ) → Valid (g v) w p → number v ≡ 0) → Rated 0 z (seq (leaf (count r m c z)) g)
+unfolding trace
+rated-none {r} {m} {c} {z} {g} one quiet zero′ = record { stops = λ s p b i. stops′ s p b i (seq-sum _ _ s p); ends = ends′ }
+  where
+    counted-stops : (s : List ℕ) (p : ℕ) → total (trace (leaf (count r m c z)) s p) ≤ z * (length s - p)
+    counted-stops s p = count-under r m c z s p _ (λ _ i. covers (little (part s p 4)) (length s) (omega (arith, mul-le-mul-left (little (part s p 4)) one)))
+      where
+        covers : (n e : ℕ) → p + 4 + n ≤ e → n * z ≤ z * (e - p)
+        covers n e h = let i : n ≤ e - p = omega arith in omega (arith, mul-le-mul-left z i, mul-comm n z)
+
+    stops′ : (s : List ℕ) (p : ℕ) → Bytes s → p ≤ length s → Sum (leaf (count r m c z)) g s p
+        → total (trace (seq (leaf (count r m c z)) g) s p) ≤ 0 + z * (length s - p)
+    stops′ s p b i (alone e) = omega (arith, e, counted-stops s p)
+    stops′ s p b i (both v q e j) = let w = trace-within (leaf (count r m c z)) s p e in omega (arith, j, counted-stops s p, quiet v .stops s q b (w .1 i))
+
+    ends′ : (s : List ℕ) (p : ℕ) {v : Value} {q : ℕ} → Bytes s → p ≤ length s
+        → Ends (trace (seq (leaf (count r m c z)) g) s p) v q
+        → total (trace (seq (leaf (count r m c z)) g) s p) ≤ 0 + z * (q - p)
+    ends′ s p {v} {q} b i e =
+        let w = seq-ends (leaf (count r m c z)) g s p e in
+        let j = leaf-ends (count r m c z) s p (w .fore) in
+        let n : number (first v) ≡ 0 = zero′ (first v) (second v) (w .mid) (trace-placed (g (first v)) s (w .mid) b (w .back) .0) in
+        let none : little (part s p 4) ≡ 0 = sym (ap number (j .2)) ∙ n in
+        omega (arith, w .sums, count-under r m c z s p 0 (λ _ _. rw none (omega arith)), quiet (first v) .ends s (w .mid) b (trace-within (leaf (count r m c z)) s p (w .fore) .1 i) (w .back))
 
 -- what the items of a list weigh, against the bytes they take
 

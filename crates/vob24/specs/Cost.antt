@@ -166,7 +166,7 @@ sectionCost set wellKnown = nothing
 sectionCost set constants = listCost (sizeOf set of.Constant) (constantCost set)
 sectionCost set globals = listCost (sizeOf set of.GlobalDef) (globalCost set)
 sectionCost set functions = listCost (sizeOf set of.FunctionDef) (functionCost set)
-sectionCost set externs = nothing
+sectionCost set externs = listCost (sizeOf set of.ExternDef) nothing
 sectionCost set entry = nothing
 sectionCost set islandInit = nothing
 -- "ModuleArtifact × count", in place of a list's

@@ -261,9 +261,31 @@ refusalRows =
     ∷ refused functions (four 1 ++ zeros 8 ++ (2 ∷ 0 ∷ []) ++ zeros 22 ++ four 1 ++ (0 ∷ []) ++ zeros 20) 10000 (refusal 20 5 1 2 61 9759)
     -- 21
     ∷ refused functionLocations (four 1 ++ four 1 ++ (0x80 ∷ 0 ∷ [])) 10000 (refusal 21 0 0 0 10 9956)
-    -- 25, before that list's other questions
-    ∷ refused externs (four 1) 10000 (refusal 25 0 1 0 4 10000)
-    ∷ refused externs (0xff ∷ 0xff ∷ 0xff ∷ 0xff ∷ []) 10000 (refusal 25 0 4294967295 0 4 10000)
+    ∷ []
+
+-- the bare pack up to its extern count
+abbrev toExterns : List ℕ
+toExterns = head ++ zeros 73
+
+-- "The bytes-left question now comes first, the budget second, HostCalls third."
+abbrev pub externRows : List Reading
+externRows =
+    -- "a count above the bytes left was 25 and is 2"
+    packRefused (toExterns ++ four 1) (refusal 2 0 0 0 84 536870912)
+    ∷ packRefused (toExterns ++ (0xff ∷ 0xff ∷ 0xff ∷ 0xff ∷ []) ++ zeros 31) (refusal 2 0 0 0 84 536870912)
+    ∷ refused externs (four 4 ++ zeros 3) 10000 (refusal 2 0 0 0 4 10000)
+    ∷ refused externs (four 4 ++ zeros 3) 0 (refusal 2 0 0 0 4 0)
+    -- "A pack still refused with 25 now shows the budget left after that charge": 144 for each extern
+    ∷ packRefused (toExterns ++ four 1 ++ zeros 1) (refusal 25 0 1 0 84 536870768)
+    ∷ packRefused (toExterns ++ four 1 ++ zeros 31) (refusal 25 0 1 0 84 536870768)
+    ∷ refused externs (four 4 ++ zeros 4) 10000 (refusal 25 0 4 0 4 9424)
+    ∷ refused externs (four 4 ++ zeros 5) 10000 (refusal 25 0 4 0 4 9424)
+    -- "a count within them whose charge can't be paid was 25 and is 5": one short of the charge, and exactly it
+    ∷ refused externs (four 4 ++ zeros 4) 575 (refusal 5 2 576 575 4 575)
+    ∷ refused externs (four 4 ++ zeros 4) 576 (refusal 25 0 4 0 4 0)
+    -- "All other answers are as before": the count word is cut; the count is 0
+    ∷ packRefused (toExterns ++ zeros 3) (refusal 2 0 0 0 80 536870912)
+    ∷ packRefused (toExterns ++ four 0) (refusal 2 0 0 0 84 536870912)
     ∷ []
 
 -- "is the charge affordable? 5 (c context, d1 asked, d2 left)": the budget ends where the charge stands.
@@ -381,7 +403,9 @@ chargeLists =
     -- a count above the bytes left is refused before its charge; one equal to them is charged
     ∷ charged itabs (four 2 ++ zeros 1) []
     ∷ charged itabs (four 1 ++ zeros 1) (32 ∷ [])
-    -- an extern count of 0 is charged
+    -- so it is with externs; a count of 0 is charged
+    ∷ charged externs (four 2 ++ zeros 1) []
+    ∷ charged externs (four 1 ++ zeros 1) (144 ∷ [])
     ∷ charged externs (four 0) (0 ∷ [])
     -- "Artifact count is never held against the bytes left."
     ∷ charged artifacts (four 64) (3584 ∷ [])
@@ -410,9 +434,9 @@ lookups =
     ∷ finds [] (110 ∷ []) (missing 2 0 0 0 0 536870912)
     ∷ []
 
-pub examples-hold : Hold packRows × Hold recordRows × Hold refusalRows × Hold contextRows × Hold nameRows × Hold limitRows × Hold chargeLists × Hold lookups
+pub examples-hold : Hold packRows × Hold recordRows × Hold refusalRows × Hold externRows × Hold contextRows × Hold nameRows × Hold limitRows × Hold chargeLists × Hold lookups
 unfolding amounts findOutcome lookIn partOf readOutcome sectionOutcome wholeTrace sectionTrace settle trace traceLeaf traceAsk tracePacked packedStep field room guard bind pick little same chain items words wordsLeaf sizeOf Questions.among Questions.named Questions.fieldKeys Questions.newNames Questions.amongIdentities Questions.newIdentities Questions.transferWords Grammar.structField Grammar.interfaceMethod Grammar.method Grammar.newMethod Grammar.runtimeField Grammar.runtimeMethod Grammar.errorTypes Grammar.objectInterfaces Grammar.constant Grammar.selectCase Grammar.instruction Grammar.transfer Grammar.functionHead Grammar.functionTraits Grammar.location Grammar.span Grammar.frame Grammar.inlineEntry Grammar.struct Grammar.interface Grammar.methods Grammar.namedType Grammar.itab Grammar.runtimeStruct Grammar.runtimeInterface Grammar.runtimeType Grammar.global Grammar.metadata Grammar.code Grammar.transfers Grammar.functionReturns Grammar.functionBody Grammar.function Grammar.artifact Grammar.inlineFunction Grammar.inlineFrames Grammar.inlineFunctions Grammar.section Grammar.afterFunctions Grammar.sections Grammar.pack
-examples-hold = (refl, refl, refl, refl, refl, refl, refl, refl)
+examples-hold = (refl, refl, refl, refl, refl, refl, refl, refl, refl)
 
 -- "Length at most 134,217,728? 1 (d1 length, d2 maximum)": any longer pack, at once, with the place and budget as
 -- given.

@@ -4,7 +4,7 @@ use Prim.Native.Nat.{ℕ, _+_, _-_, _*_, min}
 use mathlib.Core.List.{List, [], _∷_, map}
 use mathlib.Core.Bool.{true, false}
 use lib.ListN.{length}
-use lib.Dec.{leb, eqb}
+use lib.Dec.{leb}
 use Rattle.format.specs.Trace.{wrong, pick}
 use Rattle.format.specs.Format.{Value, number, content, Rule, byte, Ask, pay, fixed, string, payload, count, ask, Format, empty, leaf, seq, _▸_, chain, times, entries, counted}
 use Rattle.vob24.specs.Refusals
@@ -13,7 +13,7 @@ use Rattle.vob24.specs.Settings.{Settings, sizeOf}
 use Rattle.vob24.specs.Utf8.{wellFormed}
 use Rattle.vob24.specs.Leaves.{free, atMost, atMostBare, limit, magicMark, versionMark, u8, u16, u32, u64, optionalId, bool, slotType, valueKind, direction, valueMeta, valueRttid, sourceU32, str, memberName, listOf, choose, optional}
 use Rattle.vob24.specs.Fields.{structFieldOf, interfaceMethodOf, newMethodOf, runtimeFieldOf, transferOf, inlineFunctionOf}
-use Rattle.vob24.specs.Questions.{refuseIf, among, repeat, named, fieldKeys, newNames, Identity, newIdentities, transferWords, sameSlots, sameCode}
+use Rattle.vob24.specs.Questions.{refuseIf, among, repeat, named, fieldKeys, newNames, Identity, newIdentities, transferWords, sameSlots, sameCode, noHostCalls}
 
 -- The questions on what was read.
 abbrev pub asking : List Ask → Format
@@ -110,10 +110,6 @@ functionHead = str ▸ u16 ▸ u16
 -- is_closure, error_ret_slot, has_defer
 unfoldable pub functionTraits : Format
 functionTraits = bool ▸ u32 ▸ bool
-
--- "extern count 0? 25 HostCalls (d1), before that list's other questions"
-abbrev pub noHostCalls : Rule
-noHostCalls = record { test = λ n. eqb n 0; why = λ n. wrong Refusals.hostCalls n }
 
 -- Debug information. pc, file_id, line, col, len
 unfoldable pub location : Format
@@ -277,7 +273,8 @@ section set n wellKnown = errorTypes ▸ objectInterfaces
 section set n constants = list set of.Constant constant
 section set n globals = list set of.GlobalDef (global set)
 section set n functions = list set of.FunctionDef (function set)
-section set n externs = leaf (count noHostCalls 1 Refusals.vector 0)
+-- "The bytes-left question now comes first, the budget second, HostCalls third."
+section set n externs = seq (leaf (count free 1 Refusals.vector (sizeOf set of.ExternDef))) (λ n. asking (noHostCalls (number n)))
 section set n entry = u32
 section set n islandInit = u32
 -- "Artifact count is never held against the bytes left."

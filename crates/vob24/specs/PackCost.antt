@@ -79,6 +79,11 @@ free-seq : {f : Format} {h : Value → Format} → Costs f nothing → ((v : Val
 unfolding charges
 free-seq a b = record { is = λ v. omega (arith, a .is (first v), b (first v) .is (second v)) }
 
+sum-nothing : (vs : List Value) → sum (map nothing vs) ≡ 0
+unfolding sum
+sum-nothing [] = refl
+sum-nothing (v ∷ vs) = omega (arith, sum-nothing vs)
+
 two-fixed : {w w′ : Width} {r r′ : Rule} → Costs (leaf (fixed w r) ▸ leaf (fixed w′ r′)) nothing
 two-fixed = free-seq fixed-costs (λ _. fixed-costs)
 
@@ -373,9 +378,9 @@ module _ (set : Settings) where
       let functions′ : Costs (seq (leaf (count (limit Refusals.debugMetadataLimitExceeded Refusals.inlineFunctions (min n (set .inlineRecords))) 1 Refusals.vector (sizeOf set of.InlineFunctionSources))) (λ n. chain (g.inlineFunction set) g.stillLeft (set .inlineRecords) (number n))) (listCost (sizeOf set of.InlineFunctionSources) (cost.inlineFunctionCost set)) = chained-costs g.stillLeft (set .inlineRecords) inlineFunction-costs in
       record { is = λ v. omega (arith, frames .is (inlineSourcesOf v .frames), functions′ .is (inlineSourcesOf v .functions)) }
 
-  externs-costs : Costs (leaf (count g.noHostCalls 1 Refusals.vector 0)) nothing
-  unfolding charges chargesLeaf
-  externs-costs = record { is = λ v. omega arith }
+  externs-costs : (n : ℕ) → Costs (g.section set n externs) (sectionCost set externs)
+  unfolding charges chargesLeaf g.section sectionCost
+  externs-costs n = record { is = λ v. omega (arith, agree-free (eqb (counted v) 0) (wrong Refusals.hostCalls (counted v)), sum-nothing (entries v)) }
 
   wellKnown-costs : Costs (g.errorTypes ▸ g.objectInterfaces) nothing
   unfolding g.errorTypes g.objectInterfaces
@@ -397,7 +402,7 @@ module _ (set : Settings) where
   section-costs n constants = list-costs constant-costs
   section-costs n globals = list-costs global-costs
   section-costs n functions = list-costs function-costs
-  section-costs n externs = externs-costs
+  section-costs n externs = externs-costs n
   section-costs n entry = fixed-costs
   section-costs n islandInit = fixed-costs
   section-costs n artifacts = list-costs artifact-costs

@@ -7,7 +7,7 @@ use lib.Dec.{eqb}
 use Rattle.format.specs.Trace.{Wrong, wrong, pick}
 use Rattle.format.specs.Format.{Value, number, start, content, Ask, pay, deny}
 use Rattle.format.specs.Reading.{same}
-use Rattle.vob24.specs.Refusals.{duplicateStructField, duplicateInterfaceMethod, duplicateRuntimeStructField, invalidFunctionMetadata, invalidInstructionMetadata, structFieldKey, slotCount}
+use Rattle.vob24.specs.Refusals.{duplicateStructField, duplicateInterfaceMethod, duplicateRuntimeStructField, invalidFunctionMetadata, invalidInstructionMetadata, hostCalls, structFieldKey, slotCount}
 use Rattle.vob24.specs.Leaves.{packedOk}
 
 abbrev pub refuseIf : Bool → Wrong → List Ask
@@ -79,3 +79,7 @@ sameSlots types locals = refuseUnless (eqb types locals) (functionWrong slotCoun
 -- "as many metadata as instructions? 15"
 abbrev pub sameCode : ℕ → ℕ → List Ask
 sameCode metadata instructions = refuseUnless (eqb metadata instructions) (wrong invalidInstructionMetadata 0)
+
+-- "extern count 0? 25 HostCalls (d1)"
+abbrev pub noHostCalls : ℕ → List Ask
+noHostCalls externs = refuseUnless (eqb externs 0) (wrong hostCalls externs)

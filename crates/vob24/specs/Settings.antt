@@ -108,10 +108,18 @@ InlineFunctionSources = 31
 abbrev pub InlineSourceEntry : ℕ
 InlineSourceEntry = 32
 
+-- "The extern entry's size joins the charge table as the 33rd."
+abbrev pub ExternDef : ℕ
+ExternDef = 33
+
+-- How many they are.
+abbrev pub manySizes : ℕ
+manySizes = 33
+
 -- `size_of` of each on the pinned 64-bit compiler, as `oracle/` measures them.
 abbrev pub measured : List ℕ
 measured =
-    96 ∷ 1 ∷ 64 ∷ 32 ∷ 72 ∷ 24 ∷ 32 ∷ 16 ∷ 56 ∷ 40 ∷ 8 ∷ 32 ∷ 4 ∷ 56 ∷ 4 ∷ 80 ∷ 32 ∷ 32 ∷ 24 ∷ 56 ∷ 240 ∷ 2 ∷ 8 ∷ 64 ∷ 8 ∷ 12 ∷ 56 ∷ 24 ∷ 20 ∷ 28 ∷ 32 ∷ 8 ∷ []
+    96 ∷ 1 ∷ 64 ∷ 32 ∷ 72 ∷ 24 ∷ 32 ∷ 16 ∷ 56 ∷ 40 ∷ 8 ∷ 32 ∷ 4 ∷ 56 ∷ 4 ∷ 80 ∷ 32 ∷ 32 ∷ 24 ∷ 56 ∷ 240 ∷ 2 ∷ 8 ∷ 64 ∷ 8 ∷ 12 ∷ 56 ∷ 24 ∷ 20 ∷ 28 ∷ 32 ∷ 8 ∷ 144 ∷ []
 
 pub record Settings : Type 0 where
   pub sizes : List ℕ
@@ -131,11 +139,11 @@ settings = record { sizes = measured; artifacts = 64; artifactNameBytes = 128; a
 unfoldable pub settingsOf : List ℕ → Settings
 settingsOf l =
     record {
-      sizes = take 32 l;
-      artifacts = getD l 32 0;
-      artifactNameBytes = getD l 33 0;
-      artifactPayloadBytes = getD l 34 0 + 65536 * getD l 35 0;
-      inlineRecords = getD l 36 0 + 65536 * getD l 37 0;
+      sizes = take manySizes l;
+      artifacts = getD l 33 0;
+      artifactNameBytes = getD l 34 0;
+      artifactPayloadBytes = getD l 35 0 + 65536 * getD l 36 0;
+      inlineRecords = getD l 37 0 + 65536 * getD l 38 0;
     }
 
 -- The size numbered i; 0 where there is none.
@@ -151,9 +159,9 @@ pub data AllWithin : List ℕ → Type 0 where
   done : AllWithin []
   also : {n : ℕ} {ns : List ℕ} → 1 ≤ n → n ≤ 4096 → AllWithin ns → AllWithin (n ∷ ns)
 
--- Settings under which the promises hold: 32 sizes, each in 1..4096, and no limit above the Rust's.
+-- Settings under which the promises hold: all sizes, each in 1..4096, and no limit above the Rust's.
 pub record Licensed (set : Settings) : Type 0 where
-  pub many : length (set .sizes) ≡ 32
+  pub many : length (set .sizes) ≡ manySizes
   pub within : AllWithin (set .sizes)
   pub artifacts : set .artifacts ≤ 64
   pub artifactNameBytes : set .artifactNameBytes ≤ 128

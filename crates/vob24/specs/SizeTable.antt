@@ -1,4 +1,4 @@
--- The measured sizes are 32, each in 1..4096; so are those of any licensed settings.
+-- The measured sizes are 33, each in 1..4096; so are those of any licensed settings.
 use Prim.Native.Nat.{ℕ, zero, suc, _-_, _≤_, _<_}
 use mathlib.Core.Path.{_≡_, refl, sym, _∙_}
 use mathlib.Core.List.{List, [], _∷_}
@@ -8,7 +8,7 @@ use lib.Dec.{T, leb, leb→le}
 use lib.ListN.{getD, length, length-take}
 use lib.Seq.{getD-take}
 use Rattle.format.specs.Trace.{pick}
-use Rattle.vob24.specs.Settings.{Settings, settings, measured, settingsOf, sizeOf, AllWithin, done, also, Licensed}
+use Rattle.vob24.specs.Settings.{Settings, manySizes, settings, measured, settingsOf, sizeOf, AllWithin, done, also, Licensed}
 
 -- one computed test over the whole table
 abbrev within? : List ℕ → Bool
@@ -52,8 +52,8 @@ unfolding sizeOf
 size-most l zero = omega arith
 size-most l (suc i) = at-most (l .within) i
 
--- "numbered from 1": each of the 32 is there
-pub size-least : {set : Settings} → Licensed set → (i : ℕ) → 1 ≤ i → i ≤ 32 → 1 ≤ sizeOf set i
+-- "numbered from 1": each is there
+pub size-least : {set : Settings} → Licensed set → (i : ℕ) → 1 ≤ i → i ≤ manySizes → 1 ≤ sizeOf set i
 unfolding sizeOf
 size-least l zero g h = absurd (omega arith)
 size-least l (suc i) g h = at-least (l .within) i (omega (arith, l .many))
@@ -83,10 +83,10 @@ size-at set (suc i) h = let e : suc i - 1 ≡ i = omega arith in rw e
 pub array-below : (l : List ℕ) (i : ℕ) → i < 1 → 0 ≡ sizeOf (settingsOf l) i
 array-below l i h = sym (size-below (settingsOf l) i h)
 
-pub array-past : (l : List ℕ) (i : ℕ) → 32 < i → 0 ≡ sizeOf (settingsOf l) i
+pub array-past : (l : List ℕ) (i : ℕ) → manySizes < i → 0 ≡ sizeOf (settingsOf l) i
 unfolding settingsOf
-array-past l i h = sym (size-past (settingsOf l) i (omega (arith, length-take 32 l)))
+array-past l i h = sym (size-past (settingsOf l) i (omega (arith, length-take manySizes l)))
 
-pub array-at : (l : List ℕ) (i : ℕ) → 1 ≤ i → i ≤ 32 → getD l (i - 1) 0 ≡ sizeOf (settingsOf l) i
+pub array-at : (l : List ℕ) (i : ℕ) → 1 ≤ i → i ≤ manySizes → getD l (i - 1) 0 ≡ sizeOf (settingsOf l) i
 unfolding settingsOf
-array-at l i h k = let j : i - 1 < 32 = omega arith in sym (getD-take 32 l (i - 1) 0 j) ∙ size-at (settingsOf l) i h
+array-at l i h k = let j : i - 1 < manySizes = omega arith in sym (getD-take manySizes l (i - 1) 0 j) ∙ size-at (settingsOf l) i h

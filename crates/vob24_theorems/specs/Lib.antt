@@ -5,3 +5,4 @@ pub mod Theorems
 pub mod LookupTheorems
 pub mod InTurn
 pub mod RefusalNumbers
+pub mod HostCalls

@@ -6,15 +6,15 @@ use mathlib.Core.Bool.{Bool, true, false}
 use native.Mathlib.Omega.{arith}
 use native.Mathlib.Nat.{mul-le-mul-left}
 use lib.ListN.{length, getD, length-append}
-use lib.Dec.{T, leb, leb→le}
-use Rattle.format.specs.Trace.{Wrong, pick, sum, total}
+use lib.Dec.{T, leb, eqb, leb→le}
+use Rattle.format.specs.Trace.{Wrong, wrong, pick, sum, total}
 use Rattle.format.specs.Format.{Value, number, content, first, second, Rule, Width, Ask, fixed, mark, packed, string, payload, count, ask, Format, empty, leaf, seq, _▸_, chain, times, entries, counted}
 use Rattle.format.specs.Reading.{trace}
 use Rattle.format.specs.Layout.{digits, Bytes, bytesLeaf, bytes, Valid}
 use Rattle.format.specs.LayoutTheorems.{length-digits}
 use Rattle.format.specs.ChargeSums.{chargesAsk}
 use Rattle.format.specs.CountsCovered.{AtLeast, least-fore, least-packed, one-fixed, one-string, one-count}
-use Rattle.format.specs.ChargeBound.{Rated, rated-up, rated-seq, rated-plain, rated-empty, rated-fixed, rated-mark, rated-packed, rated-string, rated-payload, rated-ask, rated-list, rated-count, rated-few, entries-under, counted-under}
+use Rattle.format.specs.ChargeBound.{Rated, rated-up, rated-seq, rated-plain, rated-empty, rated-fixed, rated-mark, rated-packed, rated-string, rated-payload, rated-ask, rated-list, rated-few, rated-none, entries-under, counted-under}
 use Rattle.vob24.specs.Refusals
 use Rattle.vob24.specs.Settings as of
 use Rattle.vob24.specs.Settings.{Settings, Licensed, sizeOf, maxPackBytes}
@@ -24,6 +24,7 @@ use Rattle.vob24.specs.Questions
 use Rattle.vob24.specs.Grammar as g
 use Rattle.vob24.specs.Grammar.{Section, name, structs, interfaces, namedTypes, itabs, runtimeTypes, wellKnown, constants, globals, functions, externs, entry, islandInit, artifacts, files, functionLocations, inlineSources}
 use Rattle.vob24.specs.Cost.{textCost}
+use Rattle.vob24_theorems.specs.PackLayout.{no-externs}
 use Rattle.vob24.specs.PackCost.{keys-cost, names-free, identities-free, transfers-free, agree-free, if-free, length-map, length-items}
 
 -- At most 65,536 a byte for each of d levels of lists.
@@ -325,6 +326,13 @@ module _ (set : Settings) (licensed : Licensed set) where
   unfolding g.section
   level-artifacts {d} = record { rated = rated-few (λ _ _. tt) tt (λ n t. omega (arith, few n t)) (λ _. level-artifact .rated) }
 
+  level-externs : {d : ℕ} (n : ℕ) → Level (suc d) (g.section set n externs)
+  unfolding g.section Valid
+  level-externs {d} n = record { rated = rated-up (omega arith) (omega (arith, small of.ExternDef)) (rated-none {z = sizeOf set of.ExternDef} (omega arith) (λ v. quiet v) (λ v w p h. no-externs (number v) (h .1))) }
+    where
+      quiet : (v : Value) → Rated 0 0 (leaf (ask (Questions.noHostCalls (number v))))
+      quiet v = rated-up (omega (arith, agree-free (eqb (number v) 0) (wrong Refusals.hostCalls (number v)))) (omega arith) (rated-ask {k = 0} (Questions.noHostCalls (number v)))
+
   level-section : (n : ℕ) (x : Section) → Level 5 (g.section set n x)
   unfolding g.section g.struct g.interface g.namedType g.itab g.constant g.global
   level-section n name = level-string
@@ -337,7 +345,7 @@ module _ (set : Settings) (licensed : Licensed set) where
   level-section n constants = level-list (small of.Constant) (search levels depth 20) level-constant
   level-section n globals = level-list (small of.GlobalDef) (search levels depth 20) level-global
   level-section n functions = level-list (small of.FunctionDef) least-function level-function
-  level-section n externs = record { rated = rated-count (λ n t. omega arith) }
+  level-section n externs = level-externs n
   level-section n entry = level-fixed
   level-section n islandInit = level-fixed
   level-section n artifacts = level-artifacts

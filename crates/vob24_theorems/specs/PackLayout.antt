@@ -1,21 +1,33 @@
 -- No count of the pack asks for bytes that its items do not take: a section, or a pack, is read to its end exactly
 -- where it is the layout of a valid value.
 use Prim.Native.Nat.{ℕ, _-_}
+use mathlib.Core.Path.{_≡_}
 use mathlib.Core.List.{List}
+use mathlib.Core.Bool.{Bool, true, false}
 use native.Mathlib.Omega.{arith}
-use lib.Dec.{eqb→eq}
-use Rattle.format.specs.Format.{number, Rule, byte, word, count, Format, leaf, _▸_}
-use Rattle.format.specs.Layout.{Valid, aheadLeaf, ahead}
+use lib.Dec.{T, eqb, eqb→eq}
+use Rattle.format.specs.Trace.{wrong, pick}
+use Rattle.format.specs.Format.{number, Rule, byte, word, Format, _▸_, counted}
+use Rattle.format.specs.Layout.{bytesLeaf, bytes, clear, Valid, aheadLeaf, ahead}
 use Rattle.format.specs.CountsCovered.{AtLeast, Closed, All, least-zero, least-fixed, least-string, least-seq, least-fore, closed-seq, closed-fixed, closed-get, closed}
 use Rattle.vob24.specs.Refusals
 use Rattle.vob24.specs.Settings.{Settings}
 use Rattle.vob24.specs.Leaves.{choose}
+use Rattle.vob24.specs.Questions
 use Rattle.vob24.specs.Grammar as g
 use Rattle.vob24.specs.Grammar.{Section, name, structs, interfaces, namedTypes, itabs, runtimeTypes, wellKnown, constants, globals, functions, externs, entry, islandInit, artifacts, files, functionLocations, inlineSources}
 
 -- a part for each tag
 closed-choose : (r : Rule) (fs : List Format) → All fs → Closed (choose r fs)
 closed-choose r fs h = closed-seq _ _ (closed-fixed byte r) (λ v. closed-get h (number v))
+
+-- only a count of 0 passes
+pub no-externs : (n : ℕ) → T (clear (Questions.noHostCalls n)) → n ≡ 0
+unfolding pick clear
+no-externs n h = go (eqb n 0) (eqb→eq n 0) h
+  where
+    go : (d : Bool) → (T d → n ≡ 0) → T (clear (Questions.refuseUnless d (wrong Refusals.hostCalls n))) → n ≡ 0
+    go true y h = y tt
 
 module _ (set : Settings) where
   -- a named method takes 14 bytes at the least
@@ -88,9 +100,9 @@ module _ (set : Settings) where
   unfolding g.function g.functionHead g.functionReturns g.functionTraits
   closed-function = search (closed-body, closed-slotTypes, closed) depth 40
 
-  closed-externs : Closed (leaf (count g.noHostCalls 1 Refusals.vector 0))
-  unfolding Closed ahead aheadLeaf Valid
-  closed-externs v p h = omega (arith, eqb→eq (number v) 0 (h .2))
+  closed-externs : (n : ℕ) → Closed (g.section set n externs)
+  unfolding Closed ahead aheadLeaf Valid g.section bytes bytesLeaf
+  closed-externs n v p h = omega (arith, no-externs (counted v) (h .2 .1))
 
   closed-artifact : Closed (g.artifact set)
   unfolding g.artifact
@@ -116,7 +128,7 @@ module _ (set : Settings) where
   closed-section n constants = search (closed-constant, closed)
   closed-section n globals = search (closed-global, closed)
   closed-section n functions = search (closed-function, closed)
-  closed-section n externs = closed-externs
+  closed-section n externs = closed-externs n
   closed-section n entry = search closed
   closed-section n islandInit = search closed
   closed-section n artifacts = search (closed-artifact, closed, least-zero)

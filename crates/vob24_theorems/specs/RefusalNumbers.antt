@@ -286,7 +286,7 @@ module _ (set : Settings) where
   sound-section n constants = search (sound-constant, sound)
   sound-section n globals = search (sound-global, sound)
   sound-section n functions = search (sound-function, sound)
-  sound-section n externs = search (sound, sound-count)
+  sound-section n externs = search (sound, sound-count, asking)
   sound-section n entry = search sound
   sound-section n islandInit = search sound
   sound-section n artifacts = search (sound-artifact, sound)

@@ -1,0 +1,445 @@
+-- Request 1: what is answered to a pack that claims host calls, beside the base's answer; and that every other answer is
+-- the base's, under all settings.
+use Prim.Native.Nat.{ℕ, zero, suc, _+_, _-_, _*_, _≤_, _<_}
+use mathlib.Core.Path.{_≡_, refl, ap, ap₂, sym, _∙_}
+use mathlib.Core.List.{List}
+use mathlib.Core.Bool.{Bool, true, false, not}
+use native.Mathlib.Omega.{arith}
+use lib.ListN.{length}
+use lib.Dec.{T, leb, eqb, leb→le, nleb→lt, le→leb, eqb→eq}
+use Rattle.format.specs.Trace.{Wrong, wrong, unexpectedEof, Trace, end, charge, needs, bind, guard, pick, Settled, refused, taken, spent, settle}
+use Rattle.format.specs.Format.{Value, none, num, pair, number, first, second, Rule, Leaf, count, Format, empty, leaf, seq, _▸_, chain, counted}
+use Rattle.format.specs.Reading.{little, part, room, field, traceAsk, traceLeaf, trace}
+use Rattle.format.specs.Record.{wordsLeaf, words}
+use Rattle.format.specs.SettleTheorems.{thenS, settle-bind}
+use Rattle.format.specs.TraceTheorems.{guard-true, settle-seq}
+use Rattle.vob24.specs.Refusals
+use Rattle.vob24.specs.Settings as of
+use Rattle.vob24.specs.Settings.{Settings, sizeOf, maxPackBytes, startingBudget}
+use Rattle.vob24.specs.Leaves.{free}
+use Rattle.vob24.specs.Questions.{refuseUnless, noHostCalls}
+use Rattle.vob24.specs.Grammar.{Section, name, structs, interfaces, namedTypes, itabs, runtimeTypes, wellKnown, constants, globals, functions, externs, entry, islandInit, artifacts, files, functionLocations, inlineSources, section, afterFunctions, sections, magic, version, pack}
+use Rattle.vob24.specs.Cost.{partOf}
+use Rattle.vob24.specs.Calls.{Answer, Taken, Refused, Outcome, tooLarge, closing, wholeTrace, sectionTrace, readOutcome, sectionOutcome, Found, Not, looking, findOutcome}
+
+-- ---- settled readings that are alike but for their values
+
+abbrev turned : (Value → Value) → Settled Value → Settled Value
+turned h (refused w p l) = refused w p l
+turned h (taken v p l) = taken (h v) p l
+
+-- Wherever k is taken, it ends at a place with P: then f′ settles as f does.
+record Alike (s : List ℕ) (P : ℕ → Type 0) (f f′ k : Format) (h : Value → Value) : Type 0 where
+  same : (b p : ℕ) → ((v : Value) (q l : ℕ) → settle b (trace k s p) ≡ taken v q l → P q)
+      → settle b (trace f′ s p) ≡ turned h (settle b (trace f s p))
+
+alike-seq : (s : List ℕ) (P : ℕ → Type 0) (f : Format) (g g′ k : Value → Format) (h : Value → Value)
+    → ((v : Value) → Alike s P (g v) (g′ v) (k v) h)
+    → Alike s P (seq f g) (seq f g′) (seq f k) (λ v. pair (first v) (h (second v)))
+unfolding thenS
+alike-seq s P f g g′ k h a = record { same = λ b p c. settle-seq b f g′ s p ∙ outer b p c (settle b (trace f s p)) refl ∙ ap (turned (λ v. pair (first v) (h (second v)))) (sym (settle-seq b f g s p)) }
+  where
+    inner : (v : Value) (r : Settled Value)
+        → thenS (turned h r) (λ w x m. taken (pair v w) x m) ≡ turned (λ v. pair (first v) (h (second v))) (thenS r (λ w x m. taken (pair v w) x m))
+    inner v (refused w x m) = refl
+    inner v (taken w x m) = refl
+
+    outer : (b p : ℕ) → ((v : Value) (q l : ℕ) → settle b (trace (seq f k) s p) ≡ taken v q l → P q) → (r : Settled Value)
+        → settle b (trace f s p) ≡ r
+        → thenS r (λ v q l. thenS (settle l (trace (g′ v) s q)) (λ w x m. taken (pair v w) x m)) ≡ turned (λ v. pair (first v) (h (second v))) (thenS r (λ v q l. thenS (settle l (trace (g v) s q)) (λ w x m. taken (pair v w) x m)))
+    outer b p c (refused w q l) e = refl
+    outer b p c (taken v q l) e =
+        let on : (w : Value) (x m : ℕ) → settle l (trace (k v) s q) ≡ taken w x m → P x = λ w x m i. c (pair v w) x m (settle-seq b f k s p ∙ ap (λ r. thenS r (λ v q l. thenS (settle l (trace (k v) s q)) (λ w x m. taken (pair v w) x m))) e ∙ ap (λ r. thenS r (λ w x m. taken (pair v w) x m)) i) in
+        ap (λ r. thenS r (λ w x m. taken (pair v w) x m)) (a v .same l q on) ∙ inner v (settle l (trace (g v) s q))
+
+-- the first part read alike
+fore-alike : (s : List ℕ) (f f′ g : Format) (h : Value → Value) (b p : ℕ)
+    → settle b (trace f′ s p) ≡ turned h (settle b (trace f s p))
+    → settle b (trace (f′ ▸ g) s p) ≡ turned (λ v. pair (h (first v)) (second v)) (settle b (trace (f ▸ g) s p))
+unfolding thenS
+fore-alike s f f′ g h b p e =
+    settle-seq b f′ (λ _. g) s p
+    ∙ ap (λ r. thenS r (λ v q l. thenS (settle l (trace g s q)) (λ w x m. taken (pair v w) x m))) e
+    ∙ outer (settle b (trace f s p))
+    ∙ ap (turned (λ v. pair (h (first v)) (second v))) (sym (settle-seq b f (λ _. g) s p))
+  where
+    inner : (v : Value) (r : Settled Value)
+        → thenS r (λ w x m. taken (pair (h v) w) x m) ≡ turned (λ v. pair (h (first v)) (second v)) (thenS r (λ w x m. taken (pair v w) x m))
+    inner v (refused w x m) = refl
+    inner v (taken w x m) = refl
+
+    outer : (r : Settled Value)
+        → thenS (turned h r) (λ v q l. thenS (settle l (trace g s q)) (λ w x m. taken (pair v w) x m)) ≡ turned (λ v. pair (h (first v)) (second v)) (thenS r (λ v q l. thenS (settle l (trace g s q)) (λ w x m. taken (pair v w) x m)))
+    outer (refused w q l) = refl
+    outer (taken v q l) = inner v (settle l (trace g s q))
+
+-- ---- readings that come so far, and no further
+
+-- Where k is taken up to q, with l left, f is refused.
+record Stops (s : List ℕ) (q l : ℕ) (f k : Format) (w : Wrong) (x m : ℕ) : Type 0 where
+  stops : (b p : ℕ) {v : Value} → settle b (trace k s p) ≡ taken v q l → settle b (trace f s p) ≡ refused w x m
+
+stops-seq : (s : List ℕ) (q l : ℕ) (f : Format) (g k : Value → Format) (w : Wrong) (x m : ℕ)
+    → ((v : Value) → Stops s q l (g v) (k v) w x m) → Stops s q l (seq f g) (seq f k) w x m
+unfolding thenS
+stops-seq s q l f g k w x m a = record { stops = λ b p {v} e. settle-seq b f g s p ∙ outer v (settle b (trace f s p)) (sym (settle-seq b f k s p) ∙ e) }
+  where
+    inner : (u v : Value) (o c : ℕ) (r : Settled Value) → settle c (trace (k u) s o) ≡ r
+        → thenS r (λ w x m. taken (pair u w) x m) ≡ taken v q l
+        → thenS (settle c (trace (g u) s o)) (λ w x m. taken (pair u w) x m) ≡ refused w x m
+    inner u v o c (refused w′ x′ m′) i e = let no : _≡_ {A = ℕ} 0 1 = cc in absurd (omega arith)
+    inner u v o c (taken v′ q′ l′) i e =
+        let y : q′ ≡ q = cc in
+        let z : l′ ≡ l = cc in
+        ap (λ r. thenS r (λ w x m. taken (pair u w) x m)) (a u .stops c o (i ∙ ap₂ (taken v′) y z))
+
+    outer : (v : Value) (r : Settled Value)
+        → thenS r (λ u o c. thenS (settle c (trace (k u) s o)) (λ w x m. taken (pair u w) x m)) ≡ taken v q l
+        → thenS r (λ u o c. thenS (settle c (trace (g u) s o)) (λ w x m. taken (pair u w) x m)) ≡ refused w x m
+    outer v (refused w′ x′ m′) e = let no : _≡_ {A = ℕ} 0 1 = cc in absurd (omega arith)
+    outer v (taken u o c) e = inner u v o c (settle c (trace (k u) s o)) refl e
+
+fore-stops : (s : List ℕ) (f g : Format) (w : Wrong) (x m b p : ℕ) → settle b (trace f s p) ≡ refused w x m
+    → settle b (trace (f ▸ g) s p) ≡ refused w x m
+unfolding thenS
+fore-stops s f g w x m b p e = settle-seq b f (λ _. g) s p ∙ ap (λ r. thenS r (λ v q l. thenS (settle l (trace g s q)) (λ w x m. taken (pair v w) x m))) e
+
+-- ---- the extern count
+
+pick-yes : {A : Type 0} (d : Bool) (x y : A) → T d → pick d x y ≡ x
+unfolding pick
+pick-yes true x y t = refl
+
+pick-no : {A : Type 0} (d : Bool) (x y : A) → (T d → _≡_ {A = ℕ} 0 1) → pick d x y ≡ y
+unfolding pick
+pick-no true x y h = let no = h tt in absurd (omega arith)
+pick-no false x y h = refl
+
+count-cut : (r : Rule) (m c z : ℕ) (s : List ℕ) (p b : ℕ) → length s < p + 4
+    → settle b (trace (leaf (count r m c z)) s p) ≡ refused (wrong unexpectedEof 0) p b
+unfolding trace traceLeaf field room guard settle
+count-cut r m c z s p b h = go (leb (p + 4) (length s)) _ (leb→le (p + 4) (length s))
+  where
+    go : (d : Bool) (t : Trace Value) → (T d → p + 4 ≤ length s)
+        → settle b (guard d (wrong unexpectedEof 0) p (needs (p + 4) p t)) ≡ refused (wrong unexpectedEof 0) p b
+    go true t i = let j = i tt in absurd (omega arith)
+    go false t i = refl
+
+-- The rule, then the bytes left, then the charge.
+count-settled : (r : Rule) (m c z : ℕ) (s : List ℕ) (p b : ℕ) → p + 4 ≤ length s
+    → (let n = little (part s p 4) in settle b (trace (leaf (count r m c z)) s p) ≡ pick (r .test n) (pick (leb (p + 4 + n * m) (length s)) (pick (leb (n * z) b) (taken (num n) (p + 4) (b - n * z)) (refused (spent c (n * z) b) (p + 4) b)) (refused (wrong unexpectedEof 0) (p + 4) b)) (refused (r .why n) (p + 4) b))
+unfolding trace traceLeaf field room guard settle pick
+count-settled r m c z s p b h = ap (settle b) (guard-true (leb (p + 4) (length s)) _ p _ (le→leb (p + 4) (length s) h)) ∙ go (r .test n) (leb (p + 4 + n * m) (length s))
+  where
+    n : ℕ
+    n = little (part s p 4)
+
+    go : (d e : Bool)
+        → settle b (needs (p + 4) p (guard d (r .why n) (p + 4) (guard e (wrong unexpectedEof 0) (p + 4) (needs (p + 4 + n * m) (p + 4) (charge c (n * z) (p + 4) (end (num n) (p + 4))))))) ≡ pick d (pick e (pick (leb (n * z) b) (taken (num n) (p + 4) (b - n * z)) (refused (spent c (n * z) b) (p + 4) b)) (refused (wrong unexpectedEof 0) (p + 4) b)) (refused (r .why n) (p + 4) b)
+    go true true = refl
+    go true false = refl
+    go false e = refl
+
+-- "extern count 0? 25 HostCalls (d1), before that list's other questions": the base, which stands here only.
+abbrev baseRule : Rule
+baseRule = record { test = λ n. eqb n 0; why = λ n. wrong Refusals.hostCalls n }
+
+abbrev pub baseExterns : Format
+baseExterns = leaf (count baseRule 1 Refusals.vector 0)
+
+-- What is answered to n externs of this size, whose count ends at p, in a file of e bytes with l of the budget left, and
+-- what it leaves. "The bytes-left question now comes first, the budget second, HostCalls third."
+pub data Claims (size n p e l : ℕ) : Wrong → ℕ → Type 0 where
+  -- "a count above the bytes left was 25 and is 2"
+  cut : e < p + n → Claims size n p e l (wrong Refusals.unexpectedEof 0) l
+  -- "a count within them whose charge can't be paid was 25 and is 5"
+  dear : p + n ≤ e → l < n * size → Claims size n p e l (spent Refusals.vector (n * size) l) l
+  -- "A pack still refused with 25 now shows the budget left after that charge."
+  calls : p + n ≤ e → n * size ≤ l → Claims size n p e l (wrong Refusals.hostCalls n) (l - n * size)
+
+module _ (set : Settings) (k : ℕ) (s : List ℕ) (p b : ℕ) where
+  abbrev size : ℕ
+  size = sizeOf set of.ExternDef
+
+  abbrev n : ℕ
+  n = little (part s p 4)
+
+  -- the section: taken with no externs, else refused so
+  externs-settled : p + 4 ≤ length s
+      → settle b (trace (section set k externs) s p) ≡ pick (leb (p + 4 + n * 1) (length s)) (pick (leb (n * size) b) (pick (eqb n 0) (taken (pair (num n) none) (p + 4) (b - n * size)) (refused (wrong Refusals.hostCalls n) (p + 4) (b - n * size))) (refused (spent Refusals.vector (n * size) b) (p + 4) b)) (refused (wrong unexpectedEof 0) (p + 4) b)
+  unfolding section trace traceLeaf traceAsk settle thenS pick
+  externs-settled h =
+      settle-seq b (leaf (count free 1 Refusals.vector size)) (λ v. leaf (Leaf.ask (noHostCalls (number v)))) s p
+      ∙ ap (λ r. thenS r (λ v q l. thenS (settle l (trace (leaf (Leaf.ask (noHostCalls (number v)))) s q)) (λ w x m. taken (pair v w) x m))) (count-settled free 1 Refusals.vector size s p b h)
+      ∙ go (leb (p + 4 + n * 1) (length s)) (leb (n * size) b)
+    where
+      asked : (d : Bool) (l : ℕ)
+          → thenS (settle l (trace (leaf (Leaf.ask (refuseUnless d (wrong Refusals.hostCalls n)))) s (p + 4))) (λ w x m. taken (pair (num n) w) x m) ≡ pick d (taken (pair (num n) none) (p + 4) l) (refused (wrong Refusals.hostCalls n) (p + 4) l)
+      asked true l = refl
+      asked false l = refl
+
+      go : (d e : Bool)
+          → thenS (pick d (pick e (taken (num n) (p + 4) (b - n * size)) (refused (spent Refusals.vector (n * size) b) (p + 4) b)) (refused (wrong unexpectedEof 0) (p + 4) b)) (λ v q l. thenS (settle l (trace (leaf (Leaf.ask (noHostCalls (number v)))) s q)) (λ w x m. taken (pair v w) x m)) ≡ pick d (pick e (pick (eqb n 0) (taken (pair (num n) none) (p + 4) (b - n * size)) (refused (wrong Refusals.hostCalls n) (p + 4) (b - n * size))) (refused (spent Refusals.vector (n * size) b) (p + 4) b)) (refused (wrong unexpectedEof 0) (p + 4) b)
+      go true true = asked (eqb n 0) (b - n * size)
+      go true false = refl
+      go false e = refl
+
+  -- a count that is not 0
+  externs-claimed : p + 4 ≤ length s → 1 ≤ n → {w : Wrong} {m : ℕ} → Claims size n (p + 4) (length s) b w m
+      → settle b (trace (section set k externs) s p) ≡ refused w (p + 4) m
+  externs-claimed h i (cut j) = externs-settled h ∙ pick-no (leb (p + 4 + n * 1) (length s)) _ _ (λ t. let y = leb→le (p + 4 + n * 1) (length s) t in omega arith)
+  externs-claimed h i (dear j l) =
+      externs-settled h
+      ∙ pick-yes (leb (p + 4 + n * 1) (length s)) _ _ (le→leb (p + 4 + n * 1) (length s) (omega arith))
+      ∙ pick-no (leb (n * size) b) _ _ (λ t. let y = leb→le (n * size) b t in omega arith)
+  externs-claimed h i (calls j l) =
+      externs-settled h
+      ∙ pick-yes (leb (p + 4 + n * 1) (length s)) _ _ (le→leb (p + 4 + n * 1) (length s) (omega arith))
+      ∙ pick-yes (leb (n * size) b) _ _ (le→leb (n * size) b l)
+      ∙ pick-no (eqb n 0) _ _ (λ t. let y = eqb→eq n 0 t in omega arith)
+
+  base-claimed : p + 4 ≤ length s → 1 ≤ n
+      → settle b (trace baseExterns s p) ≡ refused (wrong Refusals.hostCalls n) (p + 4) b
+  base-claimed h i = count-settled baseRule 1 Refusals.vector 0 s p b h ∙ pick-no (eqb n 0) _ _ (λ t. let y = eqb→eq n 0 t in omega arith)
+
+  -- no count, or a count of 0
+  externs-alike : (p + 4 ≤ length s → n ≡ 0)
+      → settle b (trace baseExterns s p) ≡ turned first (settle b (trace (section set k externs) s p))
+  unfolding section thenS pick
+  externs-alike h = go (leb (p + 4) (length s)) (leb→le (p + 4) (length s)) (nleb→lt (p + 4) (length s))
+    where
+      cut : length s < p + 4 → settle b (trace (section set k externs) s p) ≡ refused (wrong unexpectedEof 0) p b
+      cut i =
+          settle-seq b (leaf (count free 1 Refusals.vector size)) (λ v. leaf (Leaf.ask (noHostCalls (number v)))) s p
+          ∙ ap (λ r. thenS r (λ v q l. thenS (settle l (trace (leaf (Leaf.ask (noHostCalls (number v)))) s q)) (λ w x m. taken (pair v w) x m))) (count-cut free 1 Refusals.vector size s p b i)
+
+      zeros : (n x y : ℕ) → n ≡ 0 → x ≡ 0 → y ≡ 0 → (d : Bool)
+          → pick (eqb n 0) (pick d (pick (leb y b) (taken (num n) (p + 4) (b - y)) (refused (spent Refusals.vector y b) (p + 4) b)) (refused (wrong unexpectedEof 0) (p + 4) b)) (refused (wrong Refusals.hostCalls n) (p + 4) b) ≡ turned first (pick d (pick (leb x b) (pick (eqb n 0) (taken (pair (num n) none) (p + 4) (b - x)) (refused (wrong Refusals.hostCalls n) (p + 4) (b - x))) (refused (spent Refusals.vector x b) (p + 4) b)) (refused (wrong unexpectedEof 0) (p + 4) b))
+      zeros n x y e f g d = rw (e, f, g) (by d (leb 0 b))
+        where
+          by : (d e : Bool)
+              → pick d (pick e (taken (num 0) (p + 4) (b - 0)) (refused (spent Refusals.vector 0 b) (p + 4) b)) (refused (wrong unexpectedEof 0) (p + 4) b) ≡ turned first (pick d (pick e (taken (pair (num 0) none) (p + 4) (b - 0)) (refused (spent Refusals.vector 0 b) (p + 4) b)) (refused (wrong unexpectedEof 0) (p + 4) b))
+          by true true = refl
+          by true false = refl
+          by false e = refl
+
+      go : (d : Bool) → (T d → p + 4 ≤ length s) → (T (not d) → length s < p + 4)
+          → settle b (trace baseExterns s p) ≡ turned first (settle b (trace (section set k externs) s p))
+      go true i j =
+          let e = h (i tt) in
+          count-settled baseRule 1 Refusals.vector 0 s p b (i tt) ∙ zeros n (n * size) (n * 0) e (rw e (omega arith)) (omega arith) (leb (p + 4 + n * 1) (length s)) ∙ ap (turned first) (sym (externs-settled (i tt)))
+      go false i j = count-cut baseRule 1 Refusals.vector 0 s p b (j tt) ∙ ap (turned first) (sym (cut (j tt)))
+
+-- ---- the pack
+
+-- The part of a value after the first k, turned.
+abbrev turnedAt : ℕ → (Value → Value) → Value → Value
+turnedAt zero h v = h v
+turnedAt (suc k) h v = pair (first v) (turnedAt k h (second v))
+
+-- The base's value: the extern count alone, with no question after it; from the externs on, and of a pack.
+abbrev baseFrom : Value → Value
+baseFrom v = pair (first (first v)) (second v)
+
+abbrev baseValue : Value → Value
+baseValue = turnedAt 12 baseFrom
+
+module _ (set : Settings) where
+  -- A pack with this after its functions, by their number.
+  abbrev packWith : (ℕ → Format) → Format
+  packWith rest =
+      magic ▸ version ▸ section set 0 name ▸ section set 0 structs ▸ section set 0 interfaces ▸ section set 0 namedTypes ▸ section set 0 itabs ▸ section set 0 runtimeTypes
+      ▸ section set 0 wellKnown ▸ section set 0 constants ▸ section set 0 globals
+      ▸ seq (section set 0 functions) (λ v. rest (counted v))
+
+  abbrev afterExterns : ℕ → Format
+  afterExterns n =
+      section set n entry ▸ section set n islandInit ▸ section set n artifacts ▸ section set n files ▸ section set n functionLocations
+      ▸ section set n inlineSources
+
+  abbrev pub basePack : Format
+  basePack = packWith (λ n. baseExterns ▸ afterExterns n)
+
+  -- magic to functions
+  abbrev pub beforeExterns : Format
+  beforeExterns = packWith (λ _. empty)
+
+  -- The call on a file of this format: the questions of 1 and 24 around it.
+  abbrev last : List ℕ → Value → ℕ → Trace Value
+  last s v q = guard (eqb q (length s)) (wrong Refusals.trailingBytes (length s - q)) q (end v q)
+
+  abbrev calling : Format → List ℕ → Trace Value
+  calling f s = guard (leb (length s) maxPackBytes) (tooLarge (length s)) 0 (bind (trace f s 0) (last s))
+
+  -- the base's calls
+  abbrev pub baseRead : List ℕ → ℕ → List ℕ → Outcome
+  baseRead s b t = closing basePack 0 b t (settle b (calling basePack s))
+
+  abbrev pub baseFind : List ℕ → List ℕ → Found
+  baseFind s x = looking x (settle startingBudget (calling basePack s))
+
+  -- The reading comes to the extern count, at the place q with l of the budget left, and it is n.
+  pub record Counts (s : List ℕ) (b q l n : ℕ) : Type 0 where
+    pub small : length s ≤ maxPackBytes
+    pub value : Value
+    pub comes : settle b (trace beforeExterns s 0) ≡ taken value q l
+    pub there : q + 4 ≤ length s
+    pub is : little (part s q 4) ≡ n
+
+  -- the extern count that the reading comes to, if it comes to one, is 0
+  abbrev NoExterns : List ℕ → ℕ → Type 0
+  NoExterns s q = q + 4 ≤ length s → little (part s q 4) ≡ 0
+
+  next : {s : List ℕ} {f g g′ c : Format} (k : ℕ) → Alike s (NoExterns s) g g′ c (turnedAt k baseFrom)
+      → Alike s (NoExterns s) (f ▸ g) (f ▸ g′) (f ▸ c) (turnedAt (suc k) baseFrom)
+  next {s} {f} {g} {g′} {c} k a = alike-seq s (NoExterns s) f (λ _. g) (λ _. g′) (λ _. c) (turnedAt k baseFrom) (λ _. a)
+
+  from-externs : (s : List ℕ) (k : ℕ)
+      → Alike s (NoExterns s) (section set k externs ▸ afterExterns k) (baseExterns ▸ afterExterns k) empty baseFrom
+  unfolding trace settle
+  from-externs s k = record { same = λ b p c. fore-alike s (section set k externs) baseExterns (afterExterns k) first b p (externs-alike set k s p b (c none p b refl)) }
+
+  pack-alike : (s : List ℕ) → Alike s (NoExterns s) (pack set) basePack beforeExterns baseValue
+  unfolding pack sections afterFunctions
+  pack-alike s =
+      next 11 (next 10 (next 9 (next 8 (next 7 (next 6 (next 5 (next 4 (next 3 (next 2 (next 1
+      (alike-seq s (NoExterns s) (section set 0 functions) _ _ _ baseFrom (λ v. from-externs s (counted v)))))))))))))
+
+  next-stops : {s : List ℕ} {q l : ℕ} {f g c : Format} {w : Wrong} {x m : ℕ} → Stops s q l g c w x m
+      → Stops s q l (f ▸ g) (f ▸ c) w x m
+  next-stops {s} {q} {l} {f} {g} {c} {w} {x} {m} a = stops-seq s q l f (λ _. g) (λ _. c) w x m (λ _. a)
+
+  here-stops : (s : List ℕ) (q l : ℕ) (f : Format) (w : Wrong) (x m : ℕ) → settle l (trace f s q) ≡ refused w x m
+      → Stops s q l f empty w x m
+  unfolding trace settle
+  here-stops s q l f w x m h = record { stops = λ b p {v} e. let y : p ≡ q = cc in let z : b ≡ l = cc in rw (y, z) h }
+
+  pack-stops : (s : List ℕ) (q l : ℕ) (rest : ℕ → Format) (w : Wrong) (x m : ℕ)
+      → ((k : ℕ) → settle l (trace (rest k) s q) ≡ refused w x m) → Stops s q l (packWith rest) beforeExterns w x m
+  pack-stops s q l rest w x m h =
+      next-stops (next-stops (next-stops (next-stops (next-stops (next-stops (next-stops (next-stops (next-stops (next-stops (next-stops
+      (stops-seq s q l (section set 0 functions) (λ v. rest (counted v)) (λ _. empty) w x m (λ v. here-stops s q l (rest (counted v)) w x m (h (counted v))))))))))))))
+
+  -- the questions of 1 and 24
+
+  calling-alike : (s : List ℕ) (b : ℕ) → ((q l n : ℕ) → Counts s b q l n → n ≡ 0)
+      → settle b (calling basePack s) ≡ turned baseValue (settle b (wholeTrace set s))
+  unfolding wholeTrace settle guard thenS
+  calling-alike s b h = go (leb (length s) maxPackBytes) (leb→le (length s) maxPackBytes)
+    where
+      ends : (d : Bool) (v : Value) (q l : ℕ)
+          → settle l (guard d (wrong Refusals.trailingBytes (length s - q)) q (end (baseValue v) q)) ≡ turned baseValue (settle l (guard d (wrong Refusals.trailingBytes (length s - q)) q (end v q)))
+      ends true v q l = refl
+      ends false v q l = refl
+
+      then : (r : Settled Value)
+          → thenS (turned baseValue r) (λ v q l. settle l (last s v q)) ≡ turned baseValue (thenS r (λ v q l. settle l (last s v q)))
+      then (refused w q l) = refl
+      then (taken v q l) = ends (eqb q (length s)) v q l
+
+      go : (d : Bool) → (T d → length s ≤ maxPackBytes)
+          → settle b (guard d (tooLarge (length s)) 0 (bind (trace basePack s 0) (last s))) ≡ turned baseValue (settle b (guard d (tooLarge (length s)) 0 (bind (trace (pack set) s 0) (last s))))
+      go true small =
+          settle-bind b (trace basePack s 0) (last s)
+          ∙ ap (λ r. thenS r (λ v q l. settle l (last s v q))) (pack-alike s .same b 0 (λ v q l e i. h q l _ (record { small = small tt; value = v; comes = e; there = i; is = refl })))
+          ∙ then (settle b (trace (pack set) s 0))
+          ∙ ap (turned baseValue) (sym (settle-bind b (trace (pack set) s 0) (last s)))
+      go false small = refl
+
+  calling-stops : (s : List ℕ) (b : ℕ) (f : Format) (w : Wrong) (x m : ℕ) → length s ≤ maxPackBytes
+      → settle b (trace f s 0) ≡ refused w x m → settle b (calling f s) ≡ refused w x m
+  unfolding thenS
+  calling-stops s b f w x m small e = ap (settle b) (guard-true (leb (length s) maxPackBytes) _ 0 _ (le→leb (length s) maxPackBytes small)) ∙ settle-bind b (trace f s 0) (last s) ∙ ap (λ r. thenS r (λ v q l. settle l (last s v q))) e
+
+  -- a count that is not 0
+  calling-claims : (s : List ℕ) (b : ℕ) {q l n : ℕ} → Counts s b q l n → 1 ≤ n → {w : Wrong} {m : ℕ}
+      → Claims (sizeOf set of.ExternDef) n (q + 4) (length s) l w m
+      → settle b (wholeTrace set s) ≡ refused w (q + 4) m
+  unfolding wholeTrace pack sections afterFunctions
+  calling-claims s b {q} {l} {n} c i {w} {m} h =
+      let e : little (part s q 4) ≡ n = c .is in
+      let now : (k : ℕ) → settle l (trace (section set k externs) s q) ≡ refused w (q + 4) m = λ k. externs-claimed set k s q l (c .there) (rw e i) (rw e h) in
+      calling-stops s b (pack set) w (q + 4) m (c .small) (pack-stops s q l (λ k. section set k externs ▸ afterExterns k) w (q + 4) m (λ k. fore-stops s (section set k externs) (afterExterns k) w (q + 4) m l q (now k)) .stops b 0 (c .comes))
+
+  base-claims : (s : List ℕ) (b : ℕ) {q l n : ℕ} → Counts s b q l n → 1 ≤ n
+      → settle b (calling basePack s) ≡ refused (wrong Refusals.hostCalls n) (q + 4) l
+  base-claims s b {q} {l} {n} c i =
+      let e : little (part s q 4) ≡ n = c .is in
+      let now : settle l (trace baseExterns s q) ≡ refused (wrong Refusals.hostCalls n) (q + 4) l = base-claimed set 0 s q l (c .there) (rw e i) ∙ rw e in
+      calling-stops s b basePack (wrong Refusals.hostCalls n) (q + 4) l (c .small) (pack-stops s q l (λ k. baseExterns ▸ afterExterns k) (wrong Refusals.hostCalls n) (q + 4) l (λ k. fore-stops s baseExterns (afterExterns k) (wrong Refusals.hostCalls n) (q + 4) l l q now) .stops b 0 (c .comes))
+
+  module _ (s : List ℕ) (b : ℕ) where
+    -- "Old answers that change": where the reading comes to a count that is not 0. The base's answer was 25, with the
+    -- budget before the charge.
+    pub read-claims : {q l n : ℕ} → Counts s b q l n → 1 ≤ n → {w : Wrong} {m : ℕ}
+        → Claims (sizeOf set of.ExternDef) n (q + 4) (length s) l w m → (t : List ℕ)
+        → (readOutcome set s b t ≡ record { answer = Refused w (q + 4) m; tape = t }) × (baseRead s b t ≡ record { answer = Refused (wrong Refusals.hostCalls n) (q + 4) l; tape = t })
+    unfolding readOutcome
+    read-claims c i h t = (ap (closing (pack set) 0 b t) (calling-claims s b c i h), ap (closing basePack 0 b t) (base-claims s b c i))
+
+    -- "All other answers are as before": where the reading does not come to an extern count, or the count is 0.
+    pub read-as-before : ((q l n : ℕ) → Counts s b q l n → n ≡ 0) → (t : List ℕ)
+        → readOutcome set s b t ≡ baseRead s b t
+    unfolding readOutcome words wordsLeaf section pack sections afterFunctions
+    read-as-before h t = sym (ap (closing basePack 0 b t) (calling-alike s b h) ∙ go (settle b (wholeTrace set s)))
+      where
+        go : (r : Settled Value) → closing basePack 0 b t (turned baseValue r) ≡ closing (pack set) 0 b t r
+        go (refused w q l) = refl
+        go (taken v q l) = refl
+
+  -- The lookup, which rereads the pack under the Rust's budget.
+  pub find-claims : (s x : List ℕ) {q l n : ℕ} → Counts s startingBudget q l n → 1 ≤ n → {w : Wrong} {m : ℕ}
+      → Claims (sizeOf set of.ExternDef) n (q + 4) (length s) l w m
+      → (findOutcome set s x ≡ Not w (q + 4) m) × (baseFind s x ≡ Not (wrong Refusals.hostCalls n) (q + 4) l)
+  unfolding findOutcome
+  find-claims s x c i h = (ap (looking x) (calling-claims s startingBudget c i h), ap (looking x) (base-claims s startingBudget c i))
+
+  pub find-as-before : (s x : List ℕ) → ((q l n : ℕ) → Counts s startingBudget q l n → n ≡ 0)
+      → findOutcome set s x ≡ baseFind s x
+  unfolding findOutcome partOf
+  find-as-before s x h = sym (ap (looking x) (calling-alike s startingBudget h) ∙ go (settle startingBudget (wholeTrace set s)))
+    where
+      go : (r : Settled Value) → looking x (turned baseValue r) ≡ looking x r
+      go (refused w q l) = refl
+      go (taken v q l) = refl
+
+  -- ---- the call on the section
+
+  abbrev pub baseSection : List ℕ → ℕ → ℕ → List ℕ → Outcome
+  baseSection s p b t =
+      closing baseExterns p b t
+      (settle b (guard (leb (length s) maxPackBytes) (tooLarge (length s)) p (guard (leb p (length s)) (wrong Refusals.unexpectedEof 0) p (trace baseExterns s p))))
+
+  module _ (k : ℕ) (s : List ℕ) (p b : ℕ) (t : List ℕ) where
+    -- the questions of 1 and of a place past the end
+    abbrev asked : Trace Value → Trace Value
+    asked r = guard (leb (length s) maxPackBytes) (tooLarge (length s)) p (guard (leb p (length s)) (wrong Refusals.unexpectedEof 0) p r)
+
+    passed : (r : Trace Value) → length s ≤ maxPackBytes → p + 4 ≤ length s → asked r ≡ r
+    passed r small there =
+        guard-true (leb (length s) maxPackBytes) _ p _ (le→leb (length s) maxPackBytes small)
+        ∙ guard-true (leb p (length s)) _ p r (le→leb p (length s) (omega arith))
+
+    pub section-claims : length s ≤ maxPackBytes → p + 4 ≤ length s → {n : ℕ} → little (part s p 4) ≡ n → 1 ≤ n
+        → {w : Wrong} {m : ℕ} → Claims (sizeOf set of.ExternDef) n (p + 4) (length s) b w m
+        → (sectionOutcome set k externs s p b t ≡ record { answer = Refused w (p + 4) m; tape = t }) × (baseSection s p b t ≡ record { answer = Refused (wrong Refusals.hostCalls n) (p + 4) b; tape = t })
+    unfolding sectionOutcome sectionTrace
+    section-claims small there {n} e i {w} {m} h = (
+      ap (λ r. closing (section set k externs) p b t (settle b r)) (passed (trace (section set k externs) s p) small there) ∙ ap (closing (section set k externs) p b t) (externs-claimed set k s p b there (rw e i) (rw e h)),
+      ap (λ r. closing baseExterns p b t (settle b r)) (passed (trace baseExterns s p) small there) ∙ ap (closing baseExterns p b t) (base-claimed set k s p b there (rw e i) ∙ rw e),
+    )
+
+    pub section-as-before : (length s ≤ maxPackBytes → p + 4 ≤ length s → little (part s p 4) ≡ 0)
+        → sectionOutcome set k externs s p b t ≡ baseSection s p b t
+    unfolding sectionOutcome sectionTrace guard settle section words wordsLeaf
+    section-as-before h = sym (ap (closing baseExterns p b t) (go (leb (length s) maxPackBytes) (leb p (length s)) (leb→le (length s) maxPackBytes)) ∙ shown (settle b (asked (trace (section set k externs) s p))))
+      where
+        go : (d e : Bool) → (T d → length s ≤ maxPackBytes)
+            → settle b (guard d (tooLarge (length s)) p (guard e (wrong Refusals.unexpectedEof 0) p (trace baseExterns s p))) ≡ turned first (settle b (guard d (tooLarge (length s)) p (guard e (wrong Refusals.unexpectedEof 0) p (trace (section set k externs) s p))))
+        go true true small = externs-alike set k s p b (h (small tt))
+        go true false small = refl
+        go false e small = refl
+
+        shown : (r : Settled Value) → closing baseExterns p b t (turned first r) ≡ closing (section set k externs) p b t r
+        shown (refused w q l) = refl
+        shown (taken v q l) = refl
