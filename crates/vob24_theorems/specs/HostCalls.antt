@@ -424,10 +424,11 @@ module _ (set : Settings) where
         → {w : Wrong} {m : ℕ} → Claims (sizeOf set of.ExternDef) n (p + 4) (length s) b w m
         → (sectionOutcome set k externs s p b t ≡ record { answer = Refused w (p + 4) m; tape = t }) × (baseSection s p b t ≡ record { answer = Refused (wrong Refusals.hostCalls n) (p + 4) b; tape = t })
     unfolding sectionOutcome sectionTrace
-    section-claims small there {n} e i {w} {m} h = (
-      ap (λ r. closing (section set k externs) p b t (settle b r)) (passed (trace (section set k externs) s p) small there) ∙ ap (closing (section set k externs) p b t) (externs-claimed set k s p b there (rw e i) (rw e h)),
-      ap (λ r. closing baseExterns p b t (settle b r)) (passed (trace baseExterns s p) small there) ∙ ap (closing baseExterns p b t) (base-claimed set k s p b there (rw e i) ∙ rw e),
-    )
+    section-claims small there {n} e i {w} {m} h =
+        let base : settle b (trace baseExterns s p) ≡ refused (wrong Refusals.hostCalls n) (p + 4) b = base-claimed set k s p b there (rw e i) ∙ rw e in (
+          ap (λ r. closing (section set k externs) p b t (settle b r)) (passed (trace (section set k externs) s p) small there) ∙ ap (closing (section set k externs) p b t) (externs-claimed set k s p b there (rw e i) (rw e h)),
+          ap (λ r. closing baseExterns p b t (settle b r)) (passed (trace baseExterns s p) small there) ∙ ap (closing baseExterns p b t) base,
+        )
 
     pub section-as-before : (length s ≤ maxPackBytes → p + 4 ≤ length s → little (part s p 4) ≡ 0)
         → sectionOutcome set k externs s p b t ≡ baseSection s p b t
