@@ -6,7 +6,7 @@ use Rattle.vob24.specs.Settings as of
 use Rattle.vob24.specs.Settings.{Settings, sizeOf}
 use Rattle.vob24.specs.Utf8.{wellFormed}
 use Rattle.vob24.specs.Leaves.{free, atMost, atMostBare, limit}
-use Rattle.vob24.specs.Grammar.{metadataTag, methodSize, noHostCalls}
+use Rattle.vob24.specs.Grammar.{metadataTag, methodSize}
 
 -- the tag of a runtime type, a constant, a select case, an instruction's metadata
 abbrev pub runtimeTag : Format
@@ -34,9 +34,6 @@ artifactCount set = leaf (count (limit Refusals.moduleArtifactLimitExceeded Refu
 
 abbrev pub methodCount : Settings → Format
 methodCount set = leaf (count free 14 Refusals.namedMethodMap (methodSize set))
-
-abbrev pub externCount : Format
-externCount = leaf (count noHostCalls 1 Refusals.vector 0)
 
 -- an artifact's name and payload
 abbrev pub artifactName : Settings → Format

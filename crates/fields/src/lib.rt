@@ -7,7 +7,7 @@ ghost use Rattle.vob24.specs.Settings.{settingsOf};
 ghost use Rattle.vob24.specs.Leaves.{u8, u16, u32, u64, optionalId, bool, slotType, valueKind, direction, valueMeta, valueRttid, sourceU32, str, memberName, optional};
 ghost use Rattle.vob24.specs.Grammar.{assertKind, magic, version};
 ghost use Rattle.reader.specs.Contract.{Ready, ReadyAt, Reader, NumberOf, SpanOf};
-ghost use Rattle.fields.specs.Fields.{runtimeTag, constantTag, selectTag, metadataTagged, listCount, debugCount, artifactCount, methodCount, externCount, artifactName, artifactPayload};
+ghost use Rattle.fields.specs.Fields.{runtimeTag, constantTag, selectTag, metadataTagged, listCount, debugCount, artifactCount, methodCount, artifactName, artifactPayload};
 use reader::Cursor;
 use reader::Number;
 use reader::Payload;
@@ -157,20 +157,6 @@ pub fn field_source_u32(s: &[u8], r: Step, tape: &mut [u32]) -> Step
         return r;
     };
     let q = number_leaves::read_source_u32(s, c);
-    let Number::Got(n, d) = q else {
-        return reader::step_of(q);
-    };
-    Step::Taken(reader::keep(d, n, tape))
-}
-
-pub fn field_extern_count(s: &[u8], r: Step, tape: &mut [u32]) -> Step
-    requires { ⌜ Ready (now s) r ⌝ }
-    ensures { λ q. ⌜ Reader externCount (now (s .entry)) r (now (tape .entry)) q (now (tape .exit)) ⌝ }
-{
-    let Step::Taken(c) = r else {
-        return r;
-    };
-    let q = length_leaves::read_extern_count(s, c);
     let Number::Got(n, d) = q else {
         return reader::step_of(q);
     };

@@ -9,7 +9,7 @@ ghost use Rattle.vob24.specs.Refusals;
 ghost use Rattle.vob24.specs.Settings.{settingsOf, sizeOf, ModuleArtifact};
 ghost use Rattle.vob24.specs.Utf8.{wellFormed};
 ghost use Rattle.vob24.specs.Leaves.{free, limit};
-ghost use Rattle.vob24.specs.Grammar.{methodSize, noHostCalls};
+ghost use Rattle.vob24.specs.Grammar.{methodSize};
 ghost use Rattle.reader.specs.Contract.{cursorAt, refusal, stepOf, payloadStep, textStep, ReadyAt};
 ghost use Rattle.reader.specs.Leaves.{Answers, CountAt, Counted, Spans, Bought, Texts, Checked};
 ghost use Rattle.reader.specs.declared.Payload.{Payload as PayloadAnswer};
@@ -271,19 +271,4 @@ pub fn read_method_count(s: &[u8], set: &Settings, c: Cursor) -> Number
     let size = vob24_data::size(set, sizes::STRING_METHOD_INFO)
         + 3 * vob24_data::size(set, sizes::USIZE);
     counted(s, d, n, 14, numbers::NAMED_METHOD_MAP, size)
-}
-
-// The count of externs; anything but 0 is refused with 25.
-pub fn read_extern_count(s: &[u8], c: Cursor) -> Number
-    requires { ⌜ ReadyAt (now s) c ⌝ }
-    ensures { λ q. ⌜ Answers (Leaf.count noHostCalls 1 Refusals.vector 0) (now (s .entry)) c q ⌝ }
-{
-    let q = reader::read_u32(s, c);
-    let Number::Got(n, d) = q else {
-        return q;
-    };
-    if n != 0 {
-        return Number::Not(reader::refuse(d, numbers::HOST_CALLS, n));
-    }
-    counted(s, d, n, 1, numbers::VECTOR, 0)
 }

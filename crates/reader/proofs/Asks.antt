@@ -4,12 +4,14 @@ use mathlib.Core.Path.{_≡_, refl, _∙_}
 use mathlib.Core.List.{List, [], _∷_, _++_}
 use mathlib.Core.Bool.{Bool, true, false}
 use native.Mathlib.Omega.{arith}
-use lib.Dec.{leb}
+use borrow.Author.Tests.{eq-eqb, ne-eqb}
+use lib.Dec.{leb, eqb}
 use Rattle.format.specs.Trace.{Wrong, settle, refused, taken, spent, pick, Ends}
 use Rattle.format.specs.Format.{Value, none, Ask, pay, deny, Format, leaf, ask, seq}
 use Rattle.format.specs.Reading.{trace, traceAsk, traceLeaf}
 use Rattle.format.specs.Record.{words, wordsLeaf}
 use Rattle.format.specs.SettleTheorems.{thenS}
+use Rattle.vob24.specs.Questions.{refuseUnless}
 use Rattle.reader.specs.Contract.{refusal, Ready, ReadyAt, Reads, takes, refuses, skips, Reader, Paid, Asks, passes, denies, Behind, Follows}
 use Rattle.reader.specs.declared.Cursor.{Cursor}
 use Rattle.reader.specs.declared.Refusal.{Refusal}
@@ -116,3 +118,19 @@ followThen {f} {l} {s} {t} {t₁} {r} {r₁} {q} h k = go r r₁ (h .reads) (h .
     go (Taken c) (Taken d) (takes {v = v} a) y i j = let b = j c d v refl refl (takes-ends a) in record { reads = thenReads a (asks-reads b); ready = asks-ready y b }
     go (Taken c) (Refused x) (refuses a) y i j = rw (i x refl) (record { reads = refuses (seq-refuses a); ready = tt })
     go (Refused x) (Refused z) skips y i j = rw (i z refl) (record { reads = skips; ready = tt })
+
+-- ---- two counts that must agree
+
+module _ (a b : ℕ) (w : Wrong) {s : List ℕ} {d : Cursor} {t : List ℕ} (h : ReadyAt s d) where
+  asked : {q : Step} → Asks (refuseUnless (eqb a b) w) d q
+      → Reader (leaf (ask (refuseUnless (eqb a b) w))) s (Taken d) t q t
+  asked k = record { reads = asks-reads k; ready = asks-ready h k }
+
+  pub agree : a ≡ b → Reader (leaf (ask (refuseUnless (eqb a b) w))) s (Taken d) t (Taken d) t
+  unfolding pick
+  agree e = asked (rw (eq-eqb a b e) asks-none)
+
+  pub differ : {x : Refusal} → (a ≡ b → ⊥) → x ≡ refusal w (d .place) (d .left)
+      → Reader (leaf (ask (refuseUnless (eqb a b) w))) s (Taken d) t (Refused x) t
+  unfolding pick
+  differ i e = rw e (asked (rw (ne-eqb a b i) asks-deny))

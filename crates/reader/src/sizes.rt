@@ -1,4 +1,5 @@
-// The numbers of the 32 sizes, for vob24_data::size: the entries' types in order of first use along the reading.
+// The numbers of the 33 sizes, for vob24_data::size: the entries' types in order of first use along the reading, and
+// ExternDef.
 pub const STRUCT_META: usize = 1;
 
 pub const SLOT_TYPE: usize = 2;
@@ -62,3 +63,5 @@ pub const INLINE_SOURCE_FRAME: usize = 30;
 pub const INLINE_FUNCTION_SOURCES: usize = 31;
 
 pub const INLINE_SOURCE_ENTRY: usize = 32;
+
+pub const EXTERN_DEF: usize = 33;

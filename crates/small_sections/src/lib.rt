@@ -2,11 +2,11 @@
 // Ports what Module::deserialize of serialize.rs reads into the records of bytecode.rs.
 ghost use Rattle.vob24.specs.Settings.{settingsOf};
 ghost use Rattle.vob24.specs.Leaves.{u32};
-ghost use Rattle.fields.specs.Fields.{externCount};
 ghost use Rattle.reader.specs.Contract.{Ready, Reader};
-ghost use Rattle.small_sections.specs.Tables.{itabMethods, itabFormat, itabList, fieldOffsets, errorFormat, objectFormat, wellKnown, globalFormat, globalList, artifactFormat, artifactList};
+ghost use Rattle.small_sections.specs.Tables.{itabMethods, itabFormat, itabList, fieldOffsets, errorFormat, objectFormat, wellKnown, globalFormat, globalList, externList, artifactFormat, artifactList};
 use reader::Number;
 use reader::Step;
+use reader::numbers;
 use reader::sizes;
 use vob24_data::Settings;
 
@@ -148,12 +148,23 @@ pub fn globals(s: &[u8], set: &Settings, r: Step, tape: &mut [u32]) -> Step
     here
 }
 
-// There is no extern: a pack that calls its host is refused.
-pub fn externs(s: &[u8], r: Step, tape: &mut [u32]) -> Step
+// There is no extern: a pack that calls its host is refused, once its count is held against the bytes left and charged.
+pub fn externs(s: &[u8], set: &Settings, r: Step, tape: &mut [u32]) -> Step
     requires { ⌜ Ready (now s) r ⌝ }
-    ensures { λ q. ⌜ Reader externCount (now (s .entry)) r (now (tape .entry)) q (now (tape .exit)) ⌝ }
+    ensures { λ q. ⌜ Reader (externList (settingsOf (now (set .entry)))) (now (s .entry)) r (now (tape .entry)) q
+        (now (tape .exit)) ⌝ }
 {
-    fields::field_extern_count(s, r, tape)
+    let Step::Taken(c) = r else {
+        return r;
+    };
+    let q = fields::number_count(s, set, c, sizes::EXTERN_DEF, tape);
+    let Number::Got(n, d) = q else {
+        return reader::step_of(q);
+    };
+    if n != 0 {
+        return Step::Refused(reader::refuse(d, numbers::HOST_CALLS, n));
+    }
+    Step::Taken(d)
 }
 
 pub fn entry(s: &[u8], r: Step, tape: &mut [u32]) -> Step

@@ -81,14 +81,14 @@ pub fn section_at(i: usize) -> Section
     }
 }
 
-// What a reading is set to: the 32 sizes, and behind them the limits, at the indexes that `limits` names (`settingsOf`
+// What a reading is set to: the 33 sizes, and behind them the limits, at the indexes that `limits` names (`settingsOf`
 // in vob24's Settings.antt). Readers take it as `&Settings`. An entry is below 65,536 by its type, so that no count times
 // a size wraps.
-pub type Settings = [u16; 38];
+pub type Settings = [u16; 39];
 
 // What the Rust is set to: `size_of` on the pinned 64-bit compiler, in order of first use along the reading (StructMeta
-// to InlineSourceEntry); then its limits.
-pub const MEASURED: [u16; 38] = [
+// to InlineSourceEntry), and of ExternDef; then its limits.
+pub const MEASURED: [u16; 39] = [
     96,
     1,
     64,
@@ -121,6 +121,7 @@ pub const MEASURED: [u16; 38] = [
     28,
     32,
     8,
+    144,
     64,
     128,
     0,
@@ -142,7 +143,7 @@ pub fn size(set: &Settings, i: usize) -> u64
     if i < 1 {
         return 0;
     }
-    if 32 < i {
+    if 33 < i {
         return 0;
     }
     let k = i - 1;

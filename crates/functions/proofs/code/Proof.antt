@@ -6,7 +6,7 @@ use Rattle.vob24.specs.Grammar.{code}
 use Rattle.format.specs.Format.{counted, leaf, ask, seq}
 use Rattle.metadata.specs.Records.{metadataList}
 use Rattle.vob24.specs.Questions.{sameCode}
-use Rattle.functions.proofs.Laws.{agree, differ}
+use Rattle.reader.proofs.Asks.{agree, differ}
 use Rattle.reader.proofs.Reading.{reading}
 use Rattle.reader.proofs.Laws.{at-step, numberThen, numberNot, got-ready}
 use Rattle.reader.proofs.Parts.{partNot}

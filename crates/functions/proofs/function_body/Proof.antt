@@ -2,7 +2,7 @@ use Rattle.vob24.specs.Grammar.{functionBody}
 use mathlib.Core.Path.{refl}
 use Rattle.vob24.specs.Refusals.{slotCount}
 use Rattle.vob24.specs.Questions.{functionWrong}
-use Rattle.functions.proofs.Laws.{agree, differ}
+use Rattle.reader.proofs.Asks.{agree, differ}
 use Rattle.reader.proofs.Laws.{fieldThen, at-step, at-refused, ready-at}
 use borrow.Author.Needs.{needs}
 use Rattle.functions.proofs.function_body.Statement.{statement}
