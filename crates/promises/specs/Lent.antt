@@ -8,17 +8,19 @@ use mathlib.Core.Logic.{_↔_}
 use lib.ListN.{length, take, drop}
 use Rattle.format.specs.Trace.{Wrong, Trace, amounts, total, stopped, out, Ends}
 use Rattle.format.specs.Format.{Value}
+use Rattle.format.specs.Reading.{little, part}
 use Rattle.format.specs.Record.{words, decode, Held}
 use Rattle.format.specs.Layout.{Bytes, bytes}
 use Rattle.vob24.specs.Refusals
-use Rattle.vob24.specs.Settings.{settings}
+use Rattle.vob24.specs.Settings.{settings, ExternDef, sizeOf, maxPackBytes}
 use Rattle.vob24.specs.SizeTable.{settings-licensed}
-use Rattle.vob24.specs.Grammar.{Section, section}
+use Rattle.vob24.specs.Grammar.{Section, externs, section}
 use Rattle.vob24.specs.Cost.{sectionCost, sectionRecordCost}
 use Rattle.vob24.specs.Calls as vob
 use Rattle.vob24.specs.Calls.{Taken, Refused, noRoomFor}
 use Rattle.vob24.specs.CallTheorems.{leftOf, Account, IsBroke}
 use Rattle.vob24_theorems.specs.RefusalNumbers.{Answered}
+use Rattle.vob24_theorems.specs.HostCalls.{Claims, baseSection}
 use Rattle.calls.specs.Contract.{answerOf, SectionCall}
 use Rattle.calls.specs.declared.Answer.{Answer}
 use Rattle.position.specs.Moving.{positionOf}
@@ -161,6 +163,17 @@ pub read-again : {m : ℕ} {x : Section} {s : List ℕ} {a b : ℕ} {t : List �
 read-again call e call₂ room =
     let r = alone.read-again (by-section call) e (by-section call₂) room in
     (r .0, λ h. let k = r .1 h in (k .0, k .1, unmoved call₂ (k .0 .is)))
+
+-- Request 1, of the call on the externs: that of the section call, and the position is left.
+module _ {m : ℕ} {s : List ℕ} {at : Position} {t : List ℕ} {q : Answer} {at′ : Position} {t′ : List ℕ} (call : LentCall m externs s at t q at′ t′) where
+  pub host-calls : length s ≤ maxPackBytes → at .place + 4 ≤ length s → {n : ℕ} → little (part s (at .place) 4) ≡ n
+      → 1 ≤ n
+      → (y : Wrong) × (l : ℕ) × Claims (sizeOf settings ExternDef) n (at .place + 4) (length s) (at .budget) y l × (answerOf q ≡ Refused y (at .place + 4) l) × (t′ ≡ t) × (at′ ≡ at)
+  host-calls h i e j = let k = alone.host-calls (by-section call) h i e j in (k .0, k .1, k .2, k .3, k .4, unmoved call (k .3))
+
+  pub as-before : (length s ≤ maxPackBytes → at .place + 4 ≤ length s → little (part s (at .place) 4) ≡ 0)
+      → baseSection settings s (at .place) (at .budget) t ≡ record { answer = answerOf q; tape = t′ }
+  as-before = alone.as-before (by-section call)
 
 -- "Exactly the files whose charge list ends with the pack, not at a question, are taken under some starting budget with
 -- tape enough": with the section, from this place on, under one of 64 bits.

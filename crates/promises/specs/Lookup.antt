@@ -12,7 +12,7 @@ use Rattle.format.specs.Format.{Value, start, content, entries}
 use Rattle.format.specs.Layout.{Bytes}
 use Rattle.format.specs.SettleTheorems.{settle-taken}
 use Rattle.vob24.specs.Refusals
-use Rattle.vob24.specs.Settings.{Settings, startingBudget}
+use Rattle.vob24.specs.Settings.{Settings, ExternDef, sizeOf, startingBudget}
 use Rattle.vob24.specs.Grammar.{artifacts}
 use Rattle.vob24.specs.Cost.{partOf, packCost}
 use Rattle.vob24.specs.PackCost.{pack-costs}
@@ -21,6 +21,7 @@ use Rattle.vob24_theorems.specs.Theorems.{whole-reads, whole-layout}
 use Rattle.vob24_theorems.specs.LookupTheorems as spec
 use Rattle.vob24_theorems.specs.LookupTheorems.{NoneNamed, FirstNamed, payloadOf}
 use Rattle.vob24_theorems.specs.RefusalNumbers.{Looked, find-numbered, whole-listed}
+use Rattle.vob24_theorems.specs.HostCalls.{Claims, some-claim, Counts, baseFind, find-claims, find-as-before}
 use Rattle.lookup.specs.Look.{foundOf, Room, LocateCall, FindCall}
 use Rattle.lookup.specs.declared.Found.{Found}
 use Rattle.promises.specs.Common.{ends-cost}
@@ -96,6 +97,16 @@ module _ {set : Settings} {s name : List ℕ} {q : Found} (call : LocateCall set
               let left : j ≡ l = cc in
               (v, rw (← at, ← left) h, k)
           by (spec.first′ a f c) = let z = located-first h f in let no : _≡_ {A = ℕ} 0 1 = cc in absurd (omega arith)
+
+  -- Request 1: a pack with n externs shows its refusal; every other answer is the base's.
+  pub host-calls : {p l n : ℕ} → Counts set s startingBudget p l n → 1 ≤ n
+      → (x : Wrong) × (m : ℕ) × Claims (sizeOf set ExternDef) n (p + 4) (length s) l x m × (foundOf q ≡ Not x (p + 4) m)
+  host-calls {p} {l} {n} c i =
+      let k = some-claim (sizeOf set ExternDef) n (p + 4) (length s) l in
+      (k .0, k .1, k .2, call .is ∙ find-claims set s name c i (k .2) .0)
+
+  pub as-before : ((p l n : ℕ) → Counts set s startingBudget p l n → n ≡ 0) → foundOf q ≡ baseFind set s name
+  as-before h = call .is ∙ find-as-before set s name h
 
 -- "returns the payload .. as a part of the caller's slice; when refused, an empty part": its bytes.
 module _ {set : Settings} {s name part : List ℕ} (call : FindCall set s name part) where

@@ -2,7 +2,7 @@
 -- budget, tape)` leaves. s is the pack, b the starting budget, t the tape at entry; set the sizes and limits, which for
 -- `read` are `settings`.
 use Prim.Native.Nat.{ℕ, _+_, _-_, _^_, _≤_, _<_}
-use mathlib.Core.Path.{_≡_, refl, ap}
+use mathlib.Core.Path.{_≡_, refl, ap, sym, _∙_}
 use mathlib.Core.List.{List, [], _++_}
 use mathlib.Core.Logic.{_↔_}
 use native.Mathlib.Omega.{arith}
@@ -12,7 +12,7 @@ use Rattle.format.specs.Format.{Value}
 use Rattle.format.specs.Record.{words, decode, Held}
 use Rattle.format.specs.Layout.{Bytes, Valid, bytes}
 use Rattle.vob24.specs.Refusals
-use Rattle.vob24.specs.Settings.{Settings, Licensed, maxPackBytes}
+use Rattle.vob24.specs.Settings.{Settings, ExternDef, Licensed, sizeOf, maxPackBytes}
 use Rattle.vob24.specs.Grammar.{pack}
 use Rattle.vob24.specs.Cost.{packCost, recordCost}
 use Rattle.vob24.specs.PackCost.{pack-costs}
@@ -21,6 +21,7 @@ use Rattle.vob24.specs.Calls.{Taken, Refused, noRoomFor, wholeTrace}
 use Rattle.vob24.specs.CallTheorems.{leftOf, Account, IsBroke}
 use Rattle.vob24_theorems.specs.Theorems as spec
 use Rattle.vob24_theorems.specs.RefusalNumbers.{Answered, read-numbered, whole-listed}
+use Rattle.vob24_theorems.specs.HostCalls.{Claims, some-claim, Counts, baseRead, read-claims, read-as-before}
 use Rattle.calls.specs.Contract.{answerOf, ReadCall}
 use Rattle.calls.specs.declared.Answer.{Answer}
 use Rattle.promises.specs.Common as common
@@ -130,6 +131,23 @@ module _ {set : Settings} {s : List ℕ} {b : ℕ} {t : List ℕ} {q : Answer} {
   -- The budget does not cover the list: 5 at the first charge that can't be paid.
   pub broke-where : b < total (charges set s) → IsBroke (charges set s) b (answerOf q) × (t′ ≡ t)
   broke-where = common.broke-at (called call)
+
+  -- ---- request 1
+
+  -- "The bytes-left question now comes first, the budget second, HostCalls third": where the reading comes to n externs,
+  -- at the place p with l of the budget left, it is refused with 2, 5 or 25, by these. What the base answered is
+  -- `HostCalls.read-claims`.
+  pub host-calls : {p l n : ℕ} → Counts set s b p l n → 1 ≤ n
+      → (x : Wrong) × (m : ℕ) × Claims (sizeOf set ExternDef) n (p + 4) (length s) l x m × (answerOf q ≡ Refused x (p + 4) m) × (t′ ≡ t)
+  host-calls {p} {l} {n} c i =
+      let k = some-claim (sizeOf set ExternDef) n (p + 4) (length s) l in
+      let e = sym (call .is) ∙ read-claims set s b c i (k .2) t .0 in
+      (k .0, k .1, k .2, ap (λ o. o .answer) e, ap (λ o. o .tape) e)
+
+  -- "All other answers are as before": the base's.
+  pub as-before : ((p l n : ℕ) → Counts set s b p l n → n ≡ 0)
+      → baseRead set s b t ≡ record { answer = answerOf q; tape = t′ }
+  as-before h = sym (read-as-before set s b h t) ∙ call .is
 
 -- "Exactly the files whose charge list ends with the pack, not at a question, are taken under some starting budget with
 -- tape enough": one of 64 bits.

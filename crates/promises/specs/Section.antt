@@ -3,19 +3,20 @@
 -- sources, a the place, b the budget, t the tape at entry; set the sizes and limits, which for `read_section` are
 -- `settings`.
 use Prim.Native.Nat.{ℕ, _+_, _-_, _^_, _≤_, _<_}
-use mathlib.Core.Path.{_≡_, refl, ap}
+use mathlib.Core.Path.{_≡_, refl, ap, sym, _∙_}
 use mathlib.Core.List.{List, [], _++_}
 use mathlib.Core.Logic.{_↔_}
 use native.Mathlib.Omega.{arith}
 use lib.ListN.{length, take, drop}
 use Rattle.format.specs.Trace.{Wrong, Trace, amounts, total, stopped, out, Ends}
 use Rattle.format.specs.Format.{Value}
+use Rattle.format.specs.Reading.{little, part}
 use Rattle.format.specs.Record.{words, decode, Held}
 use Rattle.format.specs.Layout.{Bytes, Valid, bytes}
 use Rattle.format.specs.LayoutTheorems.{At}
 use Rattle.vob24.specs.Refusals
-use Rattle.vob24.specs.Settings.{Settings, Licensed, maxPackBytes}
-use Rattle.vob24.specs.Grammar.{Section, section}
+use Rattle.vob24.specs.Settings.{Settings, ExternDef, Licensed, sizeOf, maxPackBytes}
+use Rattle.vob24.specs.Grammar.{Section, externs, section}
 use Rattle.vob24.specs.Cost.{sectionCost, sectionRecordCost}
 use Rattle.vob24.specs.PackCost.{section-costs}
 use Rattle.vob24.specs.Calls as vob
@@ -23,6 +24,7 @@ use Rattle.vob24.specs.Calls.{Taken, Refused, noRoomFor, sectionTrace}
 use Rattle.vob24.specs.CallTheorems.{leftOf, Account, IsBroke}
 use Rattle.vob24_theorems.specs.Theorems as spec
 use Rattle.vob24_theorems.specs.RefusalNumbers.{Answered, section-numbered, section-listed}
+use Rattle.vob24_theorems.specs.HostCalls.{Claims, some-claim, baseSection, section-claims, section-as-before}
 use Rattle.calls.specs.Contract.{answerOf, SectionCall}
 use Rattle.calls.specs.declared.Answer.{Answer}
 use Rattle.promises.specs.Common as common
@@ -132,6 +134,22 @@ module _ {set : Settings} {m : ℕ} {x : Section} {s : List ℕ} {a b : ℕ} {t 
   -- The budget does not cover the list: 5 at the first charge that can't be paid.
   pub broke-where : b < total (charges set m x s a) → IsBroke (charges set m x s a) b (answerOf q) × (t′ ≡ t)
   broke-where = common.broke-at (called call)
+
+-- Request 1, of the call on the externs.
+module _ {set : Settings} {m : ℕ} {s : List ℕ} {a b : ℕ} {t : List ℕ} {q : Answer} {t′ : List ℕ} (call : SectionCall set m externs s a b t q t′) where
+  -- "The bytes-left question now comes first, the budget second, HostCalls third": n externs are refused with 2, 5 or
+  -- 25, by these. What the base answered is `HostCalls.section-claims`.
+  pub host-calls : length s ≤ maxPackBytes → a + 4 ≤ length s → {n : ℕ} → little (part s a 4) ≡ n → 1 ≤ n
+      → (y : Wrong) × (l : ℕ) × Claims (sizeOf set ExternDef) n (a + 4) (length s) b y l × (answerOf q ≡ Refused y (a + 4) l) × (t′ ≡ t)
+  host-calls h i {n} e j =
+      let k = some-claim (sizeOf set ExternDef) n (a + 4) (length s) b in
+      let o = sym (call .is) ∙ section-claims set m s a b t h i e j (k .2) .0 in
+      (k .0, k .1, k .2, ap (λ o. o .answer) o, ap (λ o. o .tape) o)
+
+  -- "All other answers are as before": the base's.
+  pub as-before : (length s ≤ maxPackBytes → a + 4 ≤ length s → little (part s a 4) ≡ 0)
+      → baseSection set s a b t ≡ record { answer = answerOf q; tape = t′ }
+  as-before h = sym (section-as-before set m s a b t h) ∙ call .is
 
 -- "Exactly the files whose charge list ends with the pack, not at a question, are taken under some starting budget with
 -- tape enough": with the section, from this place on, under one of 64 bits.

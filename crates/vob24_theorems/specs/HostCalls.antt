@@ -157,6 +157,16 @@ pub data Claims (size n p e l : ℕ) : Wrong → ℕ → Type 0 where
   -- "A pack still refused with 25 now shows the budget left after that charge."
   calls : p + n ≤ e → n * size ≤ l → Claims size n p e l (wrong Refusals.hostCalls n) (l - n * size)
 
+-- one of the three
+pub some-claim : (size n p e l : ℕ) → (w : Wrong) × (m : ℕ) × Claims size n p e l w m
+some-claim size n p e l = go (leb (p + n) e) (leb (n * size) l) (leb→le (p + n) e) (nleb→lt (p + n) e) (leb→le (n * size) l) (nleb→lt (n * size) l)
+  where
+    go : (d f : Bool) → (T d → p + n ≤ e) → (T (not d) → e < p + n) → (T f → n * size ≤ l) → (T (not f) → l < n * size)
+        → (w : Wrong) × (m : ℕ) × Claims size n p e l w m
+    go true true a b c d = (_, _, calls (a tt) (c tt))
+    go true false a b c d = (_, _, dear (a tt) (d tt))
+    go false f a b c d = (_, _, cut (b tt))
+
 module _ (set : Settings) (k : ℕ) (s : List ℕ) (p b : ℕ) where
   abbrev size : ℕ
   size = sizeOf set of.ExternDef
