@@ -91,7 +91,9 @@ pub fn long() -> Vec<Vec<u8>> {
         let head = [&[0; 40][..], &inner(left - 44), &[18], &inner(left - 49)].concat();
         counting(10, left, &[&head[..], &vec![0; left - 49]].concat())
     };
+    let externs = |count: usize| counting(11, count, &vec![0; count]);
     let unpaid = RUST_BUDGET as usize / 240 + 1;
+    let unpaid_externs = RUST_BUDGET as usize / 144 + 1;
     let unpaid_nested = (RUST_BUDGET as usize + 64 * 44 + 8 * 49) / 312 + 1;
 
     // All frames and entries that there may be, and one entry more.
@@ -115,6 +117,8 @@ pub fn long() -> Vec<Vec<u8>> {
         artifacts(&[payload + 1]),
         functions(unpaid),
         functions(unpaid - 1),
+        externs(unpaid_externs),
+        externs(unpaid_externs - 1),
         nested(unpaid_nested),
         nested(unpaid_nested - 1),
         inline(131_072, 0),
