@@ -6,8 +6,8 @@ OLD and NEW are folders of stored lists, or commits of this repository (their cr
 folder of now, answers. A case is a call: kind, the pack's bytes with the edit applied, section, tape, name, budget, place
 and functions. Its file and its index do not matter.
 
-Prints a table of the changes by old and new number (0: taken) with the fields that moved, how many answers are unchanged,
-how many cases are gone and how many are new. Ends with 1 where
+Prints a table of the changes by old and new number (0: taken), for equal numbers with the fields that moved, how many
+answers are unchanged, how many cases are gone and how many are new. Ends with 1 where
   - an old case is gone, or one call has two answers in one of the two;
   - with --allow, a change is not in LIST: "25>2,25>25:left" allows 25 to become 2, and of 25 the field left to move;
   - with --request 1, an answer is not what that request makes of the old one: an old 25 is worked out anew from itself and
@@ -74,11 +74,11 @@ def answers(found):
 
 
 def moved(kind, old, new):
-    """The fields that differ: by name where both are taken or both are refused."""
-    if old[0] != new[0]:
-        return "all"
+    """The fields that differ in answers of one number, by name."""
+    if number(old) != number(new):
+        return ""
     names = NAMES["refused" if old[0] else kind]
-    fields = [name for name, before, after in zip(names, old[1], new[1]) if before != after and name != "number"]
+    fields = [name for name, before, after in zip(names, old[1], new[1]) if before != after]
     return " ".join(fields + ["tape"] * (old[2:] != new[2:]))
 
 
@@ -147,13 +147,14 @@ def main():
             if wrong <= 10:
                 print(f"not request {args.request}: {key[0]}, {len(key[1])} bytes: {before} became {after}")
 
-    print("old > new: how many, fields that moved")
+    print("old > new: how many; fields that moved")
     rules = parse(args.allow) if args.allow else None
     refused = 0
     for change in sorted(changes):
         bad = rules is not None and not allowed(change, rules)
         refused += bad
-        print(f"  {change[0]} > {change[1]}: {changes[change]}, {change[2]}{'   NOT ALLOWED' if bad else ''}")
+        fields = f"; {change[2]}" if change[2] else ""
+        print(f"  {change[0]} > {change[1]}: {changes[change]}{fields}{'   NOT ALLOWED' if bad else ''}")
     numbers = Counter(number(after) for key, after in new.items() if key not in old)
     print(f"{sum(changes.values())} changed, {unchanged} unchanged, {gone} gone, {sum(numbers.values())} new"
           + (f"; {old_two} and {new_two} calls with two answers" if old_two or new_two else ""))
