@@ -135,7 +135,13 @@ static void whole_packs(void)
     EXPECT(vob_read(longer.bytes, longer.length, all, tape, TAPE), VOB_TRAILING_BYTES, 0, 2, 0, 112, all);
     struct pack host = bare;
     host.bytes[80] = 1;
-    EXPECT(vob_read(host.bytes, host.length, all, tape, TAPE), VOB_HOST_CALLS, 0, 1, 0, 84, all);
+    EXPECT(vob_read(host.bytes, host.length, all, tape, TAPE), VOB_HOST_CALLS, 0, 1, 0, 84, all - 144);
+    /* A count above the bytes left, and one whose charge can't be paid, are not yet host calls. */
+    EXPECT(vob_read(host.bytes, 84, all, tape, TAPE), VOB_UNEXPECTED_EOF, 0, 0, 0, 84, all);
+    EXPECT(vob_read(host.bytes, 85, 144, tape, TAPE), VOB_HOST_CALLS, 0, 1, 0, 84, 0);
+    EXPECT(vob_read(host.bytes, host.length, 143, tape, TAPE), VOB_ALLOCATION_BUDGET_EXCEEDED, VOB_VECTOR, 144, 143, 84, 143);
+    EXPECT(vob_externs(host.bytes, host.length, 80, 150, tape, TAPE), VOB_HOST_CALLS, 0, 1, 0, 84, 6);
+    EXPECT(vob_externs(host.bytes, 84, 80, 0, tape, TAPE), VOB_UNEXPECTED_EOF, 0, 0, 0, 84, 0);
     EXPECT_NUMBER(unwritten(0), TAPE);
 }
 
@@ -214,7 +220,8 @@ static void sizes(void)
     EXPECT_NUMBER(vob_charge_size(1), 96);
     EXPECT_NUMBER(vob_charge_size(21), 240);
     EXPECT_NUMBER(vob_charge_size(32), 8);
-    EXPECT_NUMBER(vob_charge_size(33), 0);
+    EXPECT_NUMBER(vob_charge_size(33), 144);
+    EXPECT_NUMBER(vob_charge_size(34), 0);
     EXPECT_NUMBER(vob_charge_size(UINT64_MAX), 0);
 }
 

@@ -72,7 +72,8 @@ enum {
     VOB_MODULE_ARTIFACT_LIMIT_EXCEEDED = 22, /* c what, d1 length, d2 maximum */
     VOB_DEBUG_METADATA_LIMIT_EXCEEDED = 23, /* c what, d1 length, d2 maximum */
     VOB_TRAILING_BYTES = 24,                /* d1 bytes left */
-    VOB_HOST_CALLS = 25,                    /* d1 externs */
+    VOB_HOST_CALLS = 25,                    /* d1 externs, of which left has paid the charge; a count above the bytes left is
+                                               2, one whose charge can't be paid 5 */
     VOB_NO_ROOM = 26,                       /* d1 words needed, d2 words lent */
     VOB_NO_SUCH_ARTIFACT = 27
 };
@@ -163,7 +164,7 @@ VOB_SECTION(vob_function_locations);
 vob_answer vob_inline_sources(const uint8_t *pack, size_t pack_length, uint64_t place, uint64_t budget, uint64_t functions,
                               uint32_t *tape, size_t tape_length);
 
-/* The size in bytes that an entry is charged, by its number in the table of sizes, 1 to 32; 0 for any other number. */
+/* The size in bytes that an entry is charged, by its number in the table of sizes, 1 to 33; 0 for any other number. */
 uint64_t vob_charge_size(uint64_t index);
 
 #ifdef __cplusplus

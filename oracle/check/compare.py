@@ -21,8 +21,8 @@ def impossible(question):
     # More than 134,217,728 bytes: printed.py asks it.
     if number == 1:
         return True
-    # Slot types are a byte each and their count is within the bytes left; an extern count that gets so far is 0.
-    return "(always" in kind or (number, where) == (5, "externs")
+    # Slot types are a byte each and their count is within the bytes left.
+    return "(always" in kind
 
 
 def answer(record, coverage):

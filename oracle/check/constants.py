@@ -103,7 +103,7 @@ count = len(named)
 table = [number(n) for n in re.findall(r"[\d_]+", part("crates/vob24_data/src/lib.rt", "MEASURED: [u16;", "];").split("= [")[1])]
 measured = re.search(r"^measured =\n?((?:[\s\d∷]|\[\])+)", text(settings), re.M).group(1)
 python = re.search(r"SIZES = \(([\d,\s]+)\)", text("oracle/check/reader.py")).group(1)
-readme = part("oracle/README.md", "(`oracle/sizes`), in order of first use along the reading:", "Beside the table")
+readme = part("oracle/README.md", "(`oracle/sizes`), in order of first use along the reading, the extern entry's last:", "Beside the table")
 agree("sizes", {
     "crates/vob24_data/src/lib.rt": table[:count],
     settings: [int(n) for n in re.findall(r"\d+", measured)],
@@ -111,8 +111,23 @@ agree("sizes", {
     "oracle/README.md": [int(n) for n in re.findall(r"(?:^|,)\s*(\d+) ", readme)],
 })
 
-# Limits, by the names that the specification has: those above 65,535 take two entries of the array, low first.
+# How many they are.
+agree("how many sizes", {settings: [count]} | {
+    path: [int(n) for n in re.findall(pattern, text(path))] for path, pattern in (
+        ("bindings/c/vob.h", r"number in the table of sizes, 1 to (\d+);"),
+        ("bindings/rust/src/lib.rs", r"table of sizes, 1 to (\d+)\."),
+        ("oracle/harness/src/sizes.rs", r"table\(\) -> \[\(&'static str, u64\); (\d+)\]"),
+        ("oracle/README.md", r"list of exactly the (\d+) sizes"),
+        ("docs/QUESTIONS.md", r"`oracle/README.md` has the (\d+) with"),
+    )})
+
+# Limits, by the names that the specification has: those above 65,535 take two entries of the array, low first. They fill the array
+# behind the sizes.
 entries = {name: at for name, at in rattle(text("crates/vob24_data/src/limits.rt"))}
+agree("places of the limits", {
+    "crates/vob24_data/src/lib.rt": list(range(count, len(table))),
+    "crates/vob24_data/src/limits.rt": sorted(entries.values()),
+})
 limits = {name: table[at] + 65536 * (table[entries[name + "_high"]] if name + "_high" in entries else 0)
           for name, at in entries.items() if not name.endswith("_high")}
 standing = re.search(r"^settings = record \{(.*)\}$", text(settings), re.M).group(1)

@@ -3,8 +3,8 @@
 Nothing of the pack is read but the texts that the record points to. It knows no charge list: it adds up list by list.
 """
 
-from reader import (ARTIFACT, CONSTANT, DEBUG_LOC, FIELD_META, FUNC_DEBUG, FUNCTION, GLOBAL, INDEX_ENTRY, INLINE_ENTRY,
-                    INLINE_FRAME, INLINE_FUNCTION, INSTRUCTION, INTERFACE_META, INTERFACE_METHOD, ITAB, METADATA,
+from reader import (ARTIFACT, CONSTANT, DEBUG_LOC, EXTERN, FIELD_META, FUNC_DEBUG, FUNCTION, GLOBAL, INDEX_ENTRY,
+                    INLINE_ENTRY, INLINE_FRAME, INLINE_FUNCTION, INSTRUCTION, INTERFACE_META, INTERFACE_METHOD, ITAB, METADATA,
                     METHOD_ENTRY, NAMED_TYPE, RTTID, RUNTIME_METHOD, RUNTIME_TYPE, SELECT_CASE, SLOT_TYPE, STR, STR_PAIR,
                     STRING, STRUCT_FIELD, STRUCT_META, TRANSFER, U16, U32, USIZE)
 
@@ -155,7 +155,9 @@ class Record:
         self.list(CONSTANT, self.constant)
         self.list(GLOBAL, lambda: (self.named(3), self.slots()))
         self.list(FUNCTION, self.function)
-        self.skip(3)
+        # No record has an extern: no entry's words follow the count.
+        self.plain(EXTERN, 0)
+        self.skip(2)
         self.list(ARTIFACT, self.artifact)
         self.list(STRING, self.text)
         self.list(FUNC_DEBUG, lambda: self.plain(DEBUG_LOC, 5))

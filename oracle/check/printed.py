@@ -47,6 +47,7 @@ def u32(*numbers):
 
 HEAD = b"VOB" + u32(24)
 BEFORE_FUNCTIONS = HEAD + bytes(24 + 37 + 8)
+BEFORE_EXTERNS = BEFORE_FUNCTIONS + bytes(4)
 BEFORE_ARTIFACTS = BEFORE_FUNCTIONS + bytes(16)
 BARE_FUNCTION = bytes(56)
 
@@ -91,6 +92,10 @@ def large_packs():
     nested = (reader.RUST_BUDGET + 64 * 44 + 8 * 49) // 312 + 1
     yield "nested counts past the budget", nested_counts(nested)
     yield "nested counts within the budget", nested_counts(nested - 1)
+    unpaid = reader.RUST_BUDGET // reader.EXTERN + 1
+    yield "externs past the budget", BEFORE_EXTERNS + u32(unpaid) + bytes(unpaid)
+    yield "externs within the budget", BEFORE_EXTERNS + u32(unpaid - 1) + bytes(unpaid - 1)
+    yield "externs past the bytes left", BEFORE_EXTERNS + u32(unpaid) + bytes(unpaid - 1)
     yield "inline frames and entries at their limits", inline(131_072, 2, 131_072)
     yield "no entry left for the second function", inline(0, 2, 131_072)[:-4] + u32(1) + bytes(8)
 

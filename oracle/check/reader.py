@@ -13,9 +13,9 @@ NO_END = 1 << 70
 (STRUCT_META, SLOT_TYPE, FIELD_META, INDEX_ENTRY, INTERFACE_META, STRING, INTERFACE_METHOD, STR, NAMED_TYPE,
  METHOD_ENTRY, USIZE, ITAB, U32, RUNTIME_TYPE, RTTID, STRUCT_FIELD, STR_PAIR, RUNTIME_METHOD, CONSTANT, GLOBAL,
  FUNCTION, U16, INSTRUCTION, METADATA, SELECT_CASE, TRANSFER, ARTIFACT, FUNC_DEBUG, DEBUG_LOC, INLINE_FRAME,
- INLINE_FUNCTION, INLINE_ENTRY) = SIZES = (
+ INLINE_FUNCTION, INLINE_ENTRY, EXTERN) = SIZES = (
     96, 1, 64, 32, 72, 24, 32, 16, 56, 40, 8, 32, 4, 56, 4, 80, 32, 32, 24, 56, 240, 2, 8, 64, 8, 12, 56, 24, 20, 28,
-    32, 8)
+    32, 8, 144)
 
 SECTIONS = ("name", "structs", "interfaces", "named_types", "itabs", "runtime_types", "well_known", "constants",
             "globals", "functions", "externs", "entry", "island_init", "artifacts", "files", "locations", "inline")
@@ -460,10 +460,10 @@ class Reader:
 
     def externs(self):
         count = self.number("externs", 4)
+        self.ask("externs", count <= self.bytes_left(), 2, kind="count")
+        self.charge("externs", 2, count * EXTERN)
         self.ask("externs", count == 0, 25, 0, count)
-        self.ask("externs", count <= self.bytes_left(), 2, kind="count (always within)")
-        self.charge("externs", 2, 0)
-        self.put(0)
+        self.put(count)
 
     def entry(self):
         self.u32("entry")

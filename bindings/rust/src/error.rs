@@ -140,7 +140,7 @@ pub enum Reason {
         /// How many.
         bytes: u64,
     },
-    /// 25: externs; packs call no host.
+    /// 25: externs, as many as the pack has bytes for and the budget pays; packs call no host.
     HostCalls {
         /// How many.
         externs: u64,
@@ -473,7 +473,10 @@ impl fmt::Display for Reason {
             }
             Reason::TrailingBytes { bytes } => write!(f, "the pack ends here, and {bytes} bytes follow"),
             Reason::HostCalls { externs } => {
-                write!(f, "the pack declares {externs} externs, and rule packs call no host")
+                write!(
+                    f,
+                    "the pack declares {externs} externs, and rule packs call no host: its author has to take them out"
+                )
             }
             Reason::NoRoom { needed, length } => write!(f, "the tape has {length} words, and {needed} are needed"),
             Reason::NoSuchArtifact => f.write_str("the pack has no artifact of this name"),

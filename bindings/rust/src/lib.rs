@@ -122,7 +122,7 @@ pub fn find_artifact<'a>(pack: &'a [u8], name: &[u8]) -> Result<&'a [u8], Error>
     ffi::find_artifact(pack, name).map(|payload| &pack[payload])
 }
 
-/// The size in bytes that an entry is charged, by its number in document 01's table of sizes, 1 to 32.
+/// The size in bytes that an entry is charged, by its number in document 01's table of sizes, 1 to 33.
 pub fn charge_size(index: u64) -> Option<u64> {
     match ffi::charge_size(index) {
         0 => None,

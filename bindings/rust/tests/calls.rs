@@ -106,6 +106,22 @@ fn artifact_limit() {
 }
 
 #[test]
+fn host_calls_after_the_bytes_left_and_the_charge() {
+    let mut pack = named(b"");
+    pack[80] = 28;
+    let (externs, asked) = (28, 28 * 144);
+    let host = Reason::HostCalls { externs };
+    assert_eq!(refusal(&pack, STARTING_BUDGET, 40), Error { reason: host, place: 84, left: STARTING_BUDGET - asked });
+    assert_eq!(refusal(&pack, asked, 40), Error { reason: host, place: 84, left: 0 });
+    let reason = Reason::AllocationBudgetExceeded { context: Context::Vector, asked, left: asked - 1 };
+    assert_eq!(refusal(&pack, asked - 1, 40), Error { reason, place: 84, left: asked - 1 });
+    let reason = Reason::UnexpectedEof;
+    assert_eq!(refusal(&pack[..111], 0, 40), Error { reason, place: 84, left: 0 });
+    let alone = vob::read_section(Section::Externs, &pack, 80, asked, &mut []);
+    assert_eq!(alone, Err(Error { reason: host, place: 84, left: 0 }));
+}
+
+#[test]
 fn sections_in_turn_give_the_whole_tape() {
     let pack = with_artifacts(&[(b"ties", b"first"), (b"accents", b"")]);
     let mut whole = vec![0; pack.len()];
@@ -161,7 +177,8 @@ fn charge_sizes() {
     assert_eq!(vob::charge_size(0), None);
     assert_eq!(vob::charge_size(1), Some(96));
     assert_eq!(vob::charge_size(32), Some(8));
-    assert_eq!(vob::charge_size(33), None);
+    assert_eq!(vob::charge_size(33), Some(144));
+    assert_eq!(vob::charge_size(34), None);
     assert_eq!(vob::charge_size(u64::MAX), None);
 }
 
@@ -170,8 +187,16 @@ fn texts_of_refusals() {
     let mut host = named(b"");
     host[80] = 2;
     assert_eq!(
-        refusal(&host, 0, 40).to_string(),
-        "refused at byte 84: the pack declares 2 externs, and rule packs call no host"
+        refusal(&host, 288, 40).to_string(),
+        "refused at byte 84: the pack declares 2 externs, and rule packs call no host: its author has to take them out"
+    );
+    assert_eq!(
+        refusal(&host[..85], 288, 40).to_string(),
+        "refused at byte 84: the pack ends before the field or list that starts here is complete"
+    );
+    assert_eq!(
+        refusal(&host, 287, 40).to_string(),
+        "refused at byte 84: a list costs 288 bytes of a budget that has 287 left"
     );
     assert_eq!(
         refusal(b"VOB\x17\0\0\0", 0, 40).to_string(),

@@ -91,7 +91,9 @@ pub fn long() -> Vec<Vec<u8>> {
         let head = [&[0; 40][..], &inner(left - 44), &[18], &inner(left - 49)].concat();
         counting(10, left, &[&head[..], &vec![0; left - 49]].concat())
     };
+    let externs = |count: usize| counting(11, count, &vec![0; count]);
     let unpaid = RUST_BUDGET as usize / 240 + 1;
+    let unpaid_externs = RUST_BUDGET as usize / 144 + 1;
     let unpaid_nested = (RUST_BUDGET as usize + 64 * 44 + 8 * 49) / 312 + 1;
 
     // All frames and entries that there may be, and one entry more.
@@ -115,6 +117,8 @@ pub fn long() -> Vec<Vec<u8>> {
         artifacts(&[payload + 1]),
         functions(unpaid),
         functions(unpaid - 1),
+        externs(unpaid_externs),
+        externs(unpaid_externs - 1),
         nested(unpaid_nested),
         nested(unpaid_nested - 1),
         inline(131_072, 0),
@@ -318,7 +322,7 @@ const SHORT: usize = 1 + 256 + 65_536;
 fn corpus() -> Vec<Vec<u8>> {
     let mut all: Vec<Vec<u8>> = packs::small().into_iter().map(|pack| pack.bytes).collect();
     all.extend([packs::full(), packs::with_extern()]);
-    for list in [cases::ends(), cases::marked(), cases::repeats(), cases::limits()] {
+    for list in [cases::ends(), cases::marked(), cases::repeats(), cases::limits(), cases::externs()] {
         all.extend(list);
     }
     all
@@ -406,6 +410,7 @@ pub fn families() -> Vec<Family> {
                 pack
             },
         ),
+        Family::new(Class::Leaf, "extern counts around the bytes left", 2_000, EXTERN_COUNTS, extern_count),
         Family::new(Class::Leaf, "names of one and two bytes", 50_000, SHORT, |i| {
             cases::with_section(1, 4, &cases::text(&short(i)))
         }),
@@ -433,6 +438,28 @@ pub fn families() -> Vec<Family> {
         ),
         Family::new(Class::Text, "texts whose length looks like lead bytes", 1_500, LEAD_TEXTS, text_like_leads),
     ]
+}
+
+const EXTERN_RESTS: u64 = 64;
+const EXTERN_COUNTS: usize = 16 * EXTERN_RESTS as usize * 3;
+
+/// An extern count and up to 63 bytes after it: counts to 7, those around the bytes left and large ones; in the bare pack,
+/// after a name of 7 bytes, after a function.
+fn extern_count(index: u64) -> Vec<u8> {
+    let (step, index) = (index as u32 % 16, index / 16);
+    let (rest, opening) = (index % EXTERN_RESTS, index / EXTERN_RESTS);
+    let count = match step {
+        0..8 => step,
+        8..12 => (rest as u32 + 10).wrapping_sub(step),
+        _ => [0x100, 0x1_0000, 0x7FFF_FFFF, 0xFFFF_FFFF][step as usize - 12],
+    };
+    let bare = opening_part(11, 0);
+    let opening = match opening {
+        0 => bare,
+        1 => [&bare[..7], &cases::text(b"vob24 A"), &bare[11..]].concat(),
+        _ => opening_part(11, 1),
+    };
+    [&opening[..], &count.to_le_bytes(), &vec![0; rest as usize]].concat()
 }
 
 const TEXT_LENGTHS: usize = (texts::LONGEST + 1) * KINDS.len() * 4;

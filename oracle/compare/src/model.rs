@@ -124,8 +124,15 @@ mistakes! {
     NanQuieted: "a signalling NaN is shown quiet",
     SignLost: "a negative error slot loses its upper half",
     ChannelAsPort: "a port is shown as a channel",
-    HostCallsLate: "25 comes after the bytes left",
+    HostCallsFirst: "25 comes before the bytes left",
+    HostCallsUncharged: "25 comes before the extern list's charge",
+    HostCallsLeft: "25 shows the budget before the extern list's charge",
     HostCallsPlace: "25 shows the place before the count word",
+    HostCallsDetail: "25 shows the bytes left in place of the count",
+    ExternsChargedFirst: "externs are charged before their count is held against the bytes left",
+    ExternsStrict: "an extern count of exactly the bytes left is refused with 2",
+    ExternsAsFunctions: "an extern is charged the size of a function",
+    ExternsContext: "5 for externs shows the context of artifacts",
     HostCallsTaken: "externs are skipped",
     NoExternWord: "the extern count is not on the tape",
     Artifacts63: "64 artifacts are refused",
@@ -217,12 +224,12 @@ fn seems_begun(before: &[u8], text: &[u8]) -> usize {
 
 pub struct Model {
     mistake: Mistake,
-    sizes: [u64; 32],
+    sizes: [u64; 33],
 }
 
 struct Cursor<'a> {
     mistake: Mistake,
-    sizes: &'a [u64; 32],
+    sizes: &'a [u64; 33],
     pack: &'a [u8],
     place: usize,
     left: u64,
@@ -1035,15 +1042,33 @@ impl<'a> Cursor<'a> {
     fn externs(&mut self) -> Step<()> {
         let before = self.place;
         let count = self.number(4)?;
-        if self.is(Mistake::HostCallsLate) {
-            ask(count <= self.bytes_left(), 2, 0, 0, 0)?;
+        let left = self.left;
+        let shown = if self.is(Mistake::HostCallsDetail) { self.bytes_left() } else { count };
+        let none = ask(count == 0 || self.is(Mistake::HostCallsTaken), 25, 0, shown, 0);
+        let size = self.sizes[if self.is(Mistake::ExternsAsFunctions) { 21 } else { 33 } - 1];
+        let context = if self.is(Mistake::ExternsContext) { 8 } else { 2 };
+
+        if self.is(Mistake::HostCallsFirst) {
+            none?;
         }
-        if count != 0 && !self.is(Mistake::HostCallsTaken) {
-            if self.is(Mistake::HostCallsPlace) {
-                self.place = before;
-            }
-            return refuse(25, 0, count, 0);
+        let charge_first = self.is(Mistake::ExternsChargedFirst);
+        if charge_first {
+            self.charge(context, count * size)?;
         }
+        let strict = self.is(Mistake::ExternsStrict) && count == self.bytes_left() && count > 0;
+        ask(count <= self.bytes_left() && !strict, 2, 0, 0, 0)?;
+        if self.is(Mistake::HostCallsUncharged) {
+            none?;
+        }
+        if !charge_first {
+            self.charge(context, count * size)?;
+        }
+        match self.mistake {
+            Mistake::HostCallsPlace if none.is_err() => self.place = before,
+            Mistake::HostCallsLeft if none.is_err() => self.left = left,
+            _ => {}
+        }
+        none?;
         if !self.is(Mistake::NoExternWord) {
             self.put(0);
         }

@@ -26,7 +26,8 @@ pub unsafe extern "C" fn LLVMFuzzerTestOneInput(data: *const u8, size: usize) ->
     // Of no bytes there may be no place.
     let pack = if size == 0 { &[] } else { std::slice::from_raw_parts(data, size) };
     let reading = answer::read(pack, NO_END as u64, u64::MAX);
-    // For its counters: the oracle's answers come from the patched build. How it reads externs is no matter here.
+    // For its counters: the oracle's answers come from the patched build. Where the answer is 25 the Rust goes on to read
+    // externs, and how it does that is no matter here.
     if reading.answer.number() != 25 {
         drop(Module::deserialize(pack));
     }

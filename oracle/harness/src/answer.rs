@@ -79,6 +79,11 @@ impl Reading {
         }
     }
 
+    /// Whether the reading of this pack ended at an extern count other than 0: with 2, 5 or 25.
+    pub fn claims_externs(&self, pack: &[u8]) -> bool {
+        claimed_externs(pack, &self.sections).is_some()
+    }
+
     /// What a reading that lacked neither budget nor tape would have answered with these: its charge list decides.
     pub fn under(&self, budget: u64, tape: u64) -> Answer {
         let mut left = budget;
@@ -120,12 +125,17 @@ pub fn read(pack: &[u8], budget: u64, tape: u64) -> Reading {
     let end = report.end.unwrap_or(start);
     let Report { mut charges, spans, mut sections, .. } = report;
 
-    if let Some(count) = sections.get(EXTERNS - 1).and_then(|at| extern_count(pack, at.place)) {
-        let at = sections[EXTERNS - 1];
-        sections.truncate(EXTERNS);
-        charges.retain(|charge| charge.place <= at.place);
-        let answer = refused(25, 0, count as u64, 0, Mark { place: at.place + 4, left: at.left });
-        return Reading { charges, sections, ..Reading::stopped(answer) };
+    // An extern list holds its count against the bytes left and charges it before its first entry: for 2 and 5 the Rust
+    // speaks. Where it has passed both, the charge is the first after the count word, and 25 comes before any entry.
+    if let Some((count, at)) = claimed_externs(pack, &sections) {
+        charges.retain(|charge| charge.place <= at.place + 4);
+        let paid = charges.last().filter(|charge| charge.place == at.place + 4 && charge.amount <= at.left);
+        if let Some(charge) = paid {
+            sections.truncate(EXTERNS);
+            let after = Mark { place: charge.place, left: at.left - charge.amount };
+            return Reading { charges, sections, ..Reading::stopped(refused(25, 0, count as u64, 0, after)) };
+        }
+        assert!(result.is_err() && end.place == at.place + 4, "the Rust has stopped at the extern count");
     }
 
     match result {
@@ -279,11 +289,12 @@ fn refused(number: u64, c: u64, d1: u64, d2: u64, at: Mark) -> Answer {
     Answer::Refused { number, c, d1, d2, place: at.place as u64, left: at.left as u64 }
 }
 
-/// The extern count, where it is there and is not 0.
-fn extern_count(pack: &[u8], at: usize) -> Option<u32> {
-    let bytes = pack.get(at..at + 4)?;
+/// The extern count, where it is there and is not 0, and where its section starts.
+fn claimed_externs(pack: &[u8], sections: &[Mark]) -> Option<(u32, Mark)> {
+    let at = *sections.get(EXTERNS - 1)?;
+    let bytes = pack.get(at.place..at.place + 4)?;
     let count = u32::from_le_bytes(bytes.try_into().expect("four bytes"));
-    (count != 0).then_some(count)
+    (count != 0).then_some((count, at))
 }
 
 fn context(name: &str) -> u64 {

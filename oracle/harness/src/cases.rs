@@ -307,6 +307,64 @@ pub fn ends() -> Vec<Vec<u8>> {
     out
 }
 
+/// Packs that claim externs: counts around the bytes left, with nothing and with charges before them.
+pub fn externs() -> Vec<Vec<u8>> {
+    let claim = |opening: &[u8], count: u32, rest: usize| [opening, &count.to_le_bytes(), &vec![0; rest]].concat();
+    let bare = opening_part(11, 0);
+    let mut out: Vec<Vec<u8>> = [0, 1, 31].into_iter().map(|rest| claim(&bare, 1, rest)).collect();
+    for rest in [0, 1, 2, 28, 31, 300] {
+        let left = rest as u32;
+        out.extend([left.saturating_sub(1), left, left + 1].map(|count| claim(&bare, count, rest)));
+    }
+    for count in [0x100, 0x1_0000, 0x100_0000, 0x7FFF_FFFF, 0x8000_0000, u32::MAX] {
+        out.extend([0, 28].map(|rest| claim(&bare, count, rest)));
+    }
+    // A name of one byte, a function, and all sections before them.
+    let full = packs::full();
+    let start = answer::read(&full, RUST_BUDGET, LONG_TAPE).sections[10].place;
+    let named = [&bare[..7], &text(b"A"), &bare[11..]].concat();
+    for opening in [&named[..], &opening_part(11, 1), &full[..start]] {
+        for (count, rest) in [(1, 0), (1, 1), (27, 28), (28, 28), (29, 28), (u32::MAX, 28)] {
+            out.push(claim(opening, count, rest));
+        }
+    }
+    out
+}
+
+/// Where the extern section of such a pack starts, what is charged before it, and what its own charge is or would be.
+fn extern_claim(pack: &[u8]) -> (u64, u64, u64) {
+    let reading = answer::read(pack, NO_END as u64, LONG_TAPE);
+    let at = reading.sections[10];
+    let count = u32::from_le_bytes(pack[at.place..at.place + 4].try_into().expect("four bytes"));
+    let entry = std::mem::size_of::<measured::bytecode::ExternDef>() as u64;
+    (at.place as u64, NO_END as u64 - at.left as u64, count as u64 * entry)
+}
+
+/// Packs that lost bytes in their middle and claim externs since: for each pack and each kind of answer the first and the
+/// last.
+fn lost_bytes() -> Vec<Vec<u8>> {
+    let mut out = Vec::new();
+    for pack in [packs::full()].into_iter().chain(random_packs(24, 4)) {
+        let mut kinds: BTreeMap<u64, Vec<Vec<u8>>> = BTreeMap::new();
+        let externs = answer::read(&pack, RUST_BUDGET, LONG_TAPE).sections[10].place;
+        for at in 7..externs {
+            for lost in 1..=8 {
+                let rest = [&pack[..at], &pack[at + lost..]].concat();
+                let reading = answer::read(&rest, RUST_BUDGET, LONG_TAPE);
+                if reading.claims_externs(&rest) {
+                    kinds.entry(reading.answer.number()).or_default().push(rest);
+                }
+            }
+        }
+        for mut found in kinds.into_values() {
+            found.dedup();
+            let last = found.len() - 1;
+            out.extend(found.into_iter().enumerate().filter(|(i, _)| *i == 0 || *i == last).map(|(_, pack)| pack));
+        }
+    }
+    out
+}
+
 /// Values worth trying at one byte: ends of every range that a question has, neighbours and single bits.
 pub fn values(old: u8) -> Vec<u8> {
     let mut out = vec![0, 1, 2, 3, 4, 5, 6, 8, 9, 12, 13, 18, 19, 24, 25, 0x2F, 0x5F, 0x7F, 0x80, 0xBF, 0xC0, 0xFF];
@@ -317,23 +375,34 @@ pub fn values(old: u8) -> Vec<u8> {
     out
 }
 
+#[derive(Clone, Copy)]
+struct Change {
+    edit: Edit,
+    answer: Answer,
+    /// The answer's number; 25 for each refusal of an extern count other than 0, whichever question it is.
+    kind: u64,
+}
+
 /// For each byte of a range, each kind of refusal that a change there can give: its first and last change.
-fn byte_changes(pack: &[u8], range: std::ops::Range<usize>) -> Vec<(Edit, Answer)> {
+fn byte_changes(pack: &[u8], range: std::ops::Range<usize>) -> Vec<Change> {
     let mut out = Vec::new();
     for at in range {
-        let mut kinds: BTreeMap<(u64, u64), Vec<(Edit, Answer)>> = BTreeMap::new();
+        let mut kinds: BTreeMap<(u64, u64), Vec<Change>> = BTreeMap::new();
         // A packed word with an id or a kind that is none, or both, where a word fits.
         let words =
             [0xFFFFFF19, 0xFFFFFF18].map(|word| Edit::word(at, word)).into_iter().filter(|_| at + 4 <= pack.len());
         for edit in values(pack[at]).into_iter().map(|value| Edit::byte(at, value)).chain(words) {
-            let answer = answer::read(&edit.apply(pack), RUST_BUDGET, PACKCHECK_TAPE).answer;
-            let key = match answer {
+            let changed = edit.apply(pack);
+            let reading = answer::read(&changed, RUST_BUDGET, PACKCHECK_TAPE);
+            let answer = reading.answer;
+            let (kind, c) = match answer {
+                Answer::Refused { .. } if reading.claims_externs(&changed) => (25, 0),
                 Answer::Taken { .. } => (0, 0),
                 // A start as c tells no kinds apart.
                 Answer::Refused { number: 19, .. } => (19, 0),
                 Answer::Refused { number, c, .. } => (number, c),
             };
-            kinds.entry(key).or_default().push((edit, answer));
+            kinds.entry((kind, c)).or_default().push(Change { edit, answer, kind });
         }
         for ((number, _), found) in &kinds {
             out.push(found[0]);
@@ -347,20 +416,20 @@ fn byte_changes(pack: &[u8], range: std::ops::Range<usize>) -> Vec<(Edit, Answer
 }
 
 /// Of these changes one for each kind of refusal at each place.
-fn refused_changes(pack: &[u8], range: std::ops::Range<usize>) -> Vec<(Edit, Answer)> {
+fn refused_changes(pack: &[u8], range: std::ops::Range<usize>) -> Vec<Change> {
     let mut kinds = HashSet::new();
     let mut changes = byte_changes(pack, range);
-    changes.retain(|(edit, answer)| {
-        let Answer::Refused { number, c, d2, place, .. } = *answer else { return false };
+    changes.retain(|Change { edit, answer, kind: number }| {
+        let Answer::Refused { c, d2, place, .. } = *answer else { return false };
         let kind = match number {
-            // A start as c tells no kinds apart.
-            19 => 0,
+            // A start as c tells no kinds apart, and of externs no c.
+            19 | 25 => 0,
             // The kind or the id of a transfer word; too long a packed number or not the shortest.
             20 => c * 2 + (d2 >> 8 == 0xFFFFFF) as u64,
             21 => (edit.apply(pack)[place as usize - 1] == 0) as u64,
             _ => c,
         };
-        kinds.insert((number, kind, place))
+        kinds.insert((*number, kind, place))
     });
     changes
 }
@@ -436,8 +505,8 @@ fn packcheck() -> Book {
         add(&mut book, &pack.bytes);
         // One change for each kind of refusal at each place in the pack, and one cut for each place.
         let range = filled(&pack);
-        for (edit, _) in refused_changes(&pack.bytes, range.clone()) {
-            add(&mut book, &edit.apply(&pack.bytes));
+        for change in refused_changes(&pack.bytes, range.clone()) {
+            add(&mut book, &change.edit.apply(&pack.bytes));
         }
         let mut places = HashSet::new();
         for length in range {
@@ -458,6 +527,9 @@ fn packcheck() -> Book {
         add(&mut book, &packs::with_slots(count));
     }
     add(&mut book, &with_section(1, 4, &text(&vec![b'x'; 65_536 - 112])));
+    for pack in externs() {
+        add(&mut book, &pack);
+    }
     book
 }
 
@@ -536,6 +608,18 @@ fn budgets() -> Book {
         book.whole(&late, late.len(), NO_EDIT, budget, 0, false);
         book.whole(&late, late.len() - 1, NO_EDIT, budget, 0, false);
     }
+    // The extern list's charge: what comes before it paid and one short, the charge one short, exact and one more.
+    for pack in externs() {
+        let (_, before, charge) = extern_claim(&pack);
+        let mut budgets = vec![before, before.saturating_sub(1), before + charge, before + charge + 1];
+        budgets.extend((before + charge).checked_sub(1));
+        budgets.sort_unstable();
+        budgets.dedup();
+        for budget in budgets {
+            book.whole(&pack, pack.len(), NO_EDIT, budget, LONG_TAPE, false);
+        }
+        book.whole(&pack, pack.len(), NO_EDIT, u64::MAX, 0, false);
+    }
     book
 }
 
@@ -547,8 +631,8 @@ fn damage() -> Book {
     for length in 0..=full.len() {
         whole(&mut book, length, NO_EDIT);
     }
-    for (edit, _) in byte_changes(&full, 0..full.len()) {
-        whole(&mut book, full.len(), edit);
+    for change in byte_changes(&full, 0..full.len()) {
+        whole(&mut book, full.len(), change.edit);
     }
     for (edit, _) in count_changes(&full, 0..full.len()) {
         whole(&mut book, full.len(), edit);
@@ -564,6 +648,9 @@ fn damage() -> Book {
             let pack = damaged(&pack, &mut chance);
             book.whole(&pack, pack.len(), NO_EDIT, RUST_BUDGET, LONG_TAPE, false);
         }
+    }
+    for pack in lost_bytes() {
+        book.whole(&pack, pack.len(), NO_EDIT, RUST_BUDGET, LONG_TAPE, false);
     }
     book
 }
@@ -637,9 +724,9 @@ fn sections() -> Book {
             functions,
             tape: LONG_TAPE,
         };
-        for (edit, answer) in refused_changes(&pack.bytes, range) {
-            if !matches!(answer.number(), 2 | 24 | 25) {
-                book.section(&pack.bytes, edit, call, false);
+        for change in refused_changes(&pack.bytes, range) {
+            if !matches!(change.kind, 2 | 24 | 25) {
+                book.section(&pack.bytes, change.edit, call, false);
             }
         }
     }
@@ -668,6 +755,28 @@ fn sections() -> Book {
             SectionCall { number, place, budget, functions: chance.below(4), tape: chance.below(64) },
             false,
         );
+    }
+    // Extern counts around the bytes left, with budgets around their charge, with and without a tape.
+    for pack in externs() {
+        let (place, _, charge) = extern_claim(&pack);
+        let mut budgets = vec![0, charge, charge + 1, RUST_BUDGET, u64::MAX];
+        budgets.extend(charge.checked_sub(1));
+        budgets.sort_unstable();
+        budgets.dedup();
+        for budget in budgets {
+            let call = SectionCall { number: 11, place, budget, functions: 0, tape: LONG_TAPE };
+            book.section(&pack, NO_EDIT, call, false);
+        }
+        let call = SectionCall { number: 11, place, budget: charge, functions: 0, tape: 0 };
+        book.section(&pack, NO_EDIT, call, false);
+    }
+    // An extern section that is all of the pack.
+    for (count, rest) in [(0, 0), (1, 0), (1, 1), (2, 1), (2, 2), (2, 3), (u32::MAX, 3)] {
+        let pack = [&u32::to_le_bytes(count)[..], &vec![0; rest]].concat();
+        for budget in [143, 144, 145, 287, 288, 289] {
+            let call = SectionCall { number: 11, place: 0, budget, functions: 0, tape: LONG_TAPE };
+            book.section(&pack, NO_EDIT, call, false);
+        }
     }
     book
 }
@@ -712,6 +821,15 @@ fn lookups() -> Book {
         for name in ["", "a", "_", "b", "\u{e9}"] {
             book.lookup(&pack, name.as_bytes());
         }
+    }
+    // The artifact stands in a pack that claims externs before it; and packs that end there.
+    let at = answer::read(artifacts, RUST_BUDGET, LONG_TAPE).sections[10].place;
+    let left = (artifacts.len() - at - 4) as u32;
+    for count in [1, left - 1, left, left + 1, u32::MAX] {
+        book.lookup(&Edit::word(at, count).apply(artifacts), b"fold");
+    }
+    for pack in externs() {
+        book.lookup(&pack, b"fold");
     }
     book
 }

@@ -48,10 +48,14 @@ pub fn calls(pack: &[u8], reading: &Reading) -> Vec<Call> {
     out
 }
 
-/// Budget and tape: packcheck's; one short of the last charge, which is 5; one short of the words, which is 26.
+/// Budget and tape: packcheck's; one short of the last charge, which is 5; one short of the words, which is 26. Where the
+/// last charge is the extern list's, one short of those before it too.
 fn around(reading: &Reading) -> Vec<(u64, u64)> {
     let cost: u64 = reading.charges.iter().map(|charge| charge.amount as u64).sum();
     let mut out = vec![(RUST_BUDGET, PACKCHECK_TAPE)];
+    if let (25, Some(externs)) = (reading.answer.number(), reading.charges.last()) {
+        out.extend((cost - externs.amount as u64).checked_sub(1).map(|budget| (budget, PACKCHECK_TAPE)));
+    }
     if cost > 0 {
         out.push((cost - 1, PACKCHECK_TAPE));
     }

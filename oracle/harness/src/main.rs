@@ -43,7 +43,7 @@ fn main() {
                 let verdict = sizes::check(&text);
                 println!(
                     "{file}: {}",
-                    verdict.as_ref().map_or_else(|error| error.as_str(), |()| "the 32 measured sizes")
+                    verdict.as_ref().map_or_else(|error| error.as_str(), |()| "the 33 measured sizes")
                 );
                 good &= verdict.is_ok();
             }
