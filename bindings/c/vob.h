@@ -72,8 +72,8 @@ enum {
     VOB_MODULE_ARTIFACT_LIMIT_EXCEEDED = 22, /* c what, d1 length, d2 maximum */
     VOB_DEBUG_METADATA_LIMIT_EXCEEDED = 23, /* c what, d1 length, d2 maximum */
     VOB_TRAILING_BYTES = 24,                /* d1 bytes left */
-    VOB_HOST_CALLS = 25,                    /* d1 externs, of which left has paid the charge; a count above the bytes left is
-                                               2, one whose charge can't be paid 5 */
+    VOB_HOST_CALLS = 25,                    /* d1 externs; left is after their charge. A count above the bytes left is 2, one
+                                               whose charge can't be paid 5 */
     VOB_NO_ROOM = 26,                       /* d1 words needed, d2 words lent */
     VOB_NO_SUCH_ARTIFACT = 27
 };

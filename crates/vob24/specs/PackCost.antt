@@ -118,6 +118,9 @@ unfolding pick chargesAsk
 agree-free true w = refl
 agree-free false w = refl
 
+pub host-calls-free : (n : ℕ) → chargesAsk (Questions.noHostCalls n) ≡ 0
+host-calls-free n = agree-free (eqb n 0) _
+
 pub keys-cost : (seen : List (List ℕ)) (vs : List Value)
     → chargesAsk (Questions.fieldKeys seen vs) ≡ sum (map textCost vs)
 unfolding Questions.fieldKeys chargesAsk sum
@@ -380,7 +383,7 @@ module _ (set : Settings) where
 
   externs-costs : (n : ℕ) → Costs (g.section set n externs) (sectionCost set externs)
   unfolding charges chargesLeaf g.section sectionCost
-  externs-costs n = record { is = λ v. omega (arith, agree-free (eqb (counted v) 0) (wrong Refusals.hostCalls (counted v)), sum-nothing (entries v)) }
+  externs-costs n = record { is = λ v. omega (arith, host-calls-free (counted v), sum-nothing (entries v)) }
 
   wellKnown-costs : Costs (g.errorTypes ▸ g.objectInterfaces) nothing
   unfolding g.errorTypes g.objectInterfaces

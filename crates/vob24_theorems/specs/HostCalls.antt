@@ -8,7 +8,7 @@ use native.Mathlib.Omega.{arith}
 use lib.ListN.{length}
 use lib.Dec.{T, leb, eqb, leb→le, nleb→lt, le→leb, eqb→eq}
 use Rattle.format.specs.Trace.{Wrong, wrong, unexpectedEof, Trace, end, charge, needs, bind, guard, pick, Settled, refused, taken, spent, settle}
-use Rattle.format.specs.Format.{Value, none, num, pair, number, first, second, Rule, Leaf, count, Format, empty, leaf, seq, _▸_, chain, counted}
+use Rattle.format.specs.Format.{Value, none, num, pair, number, first, second, Rule, Leaf, count, Format, empty, leaf, seq, _▸_, counted}
 use Rattle.format.specs.Reading.{little, part, room, field, traceAsk, traceLeaf, trace}
 use Rattle.format.specs.Record.{wordsLeaf, words}
 use Rattle.format.specs.SettleTheorems.{thenS, settle-bind}
@@ -18,9 +18,9 @@ use Rattle.vob24.specs.Settings as of
 use Rattle.vob24.specs.Settings.{Settings, sizeOf, maxPackBytes, startingBudget}
 use Rattle.vob24.specs.Leaves.{free}
 use Rattle.vob24.specs.Questions.{refuseUnless, noHostCalls}
-use Rattle.vob24.specs.Grammar.{Section, name, structs, interfaces, namedTypes, itabs, runtimeTypes, wellKnown, constants, globals, functions, externs, entry, islandInit, artifacts, files, functionLocations, inlineSources, section, afterFunctions, sections, magic, version, pack}
+use Rattle.vob24.specs.Grammar.{name, structs, interfaces, namedTypes, itabs, runtimeTypes, wellKnown, constants, globals, functions, externs, entry, islandInit, artifacts, files, functionLocations, inlineSources, section, afterFunctions, sections, magic, version, pack}
 use Rattle.vob24.specs.Cost.{partOf}
-use Rattle.vob24.specs.Calls.{Answer, Taken, Refused, Outcome, tooLarge, closing, wholeTrace, sectionTrace, readOutcome, sectionOutcome, Found, Not, looking, findOutcome}
+use Rattle.vob24.specs.Calls.{Refused, Outcome, tooLarge, closing, wholeTrace, sectionTrace, readOutcome, sectionOutcome, Found, Not, looking, findOutcome}
 
 -- ---- settled readings that are alike but for their values
 

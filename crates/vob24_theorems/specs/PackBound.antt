@@ -6,8 +6,8 @@ use mathlib.Core.Bool.{Bool, true, false}
 use native.Mathlib.Omega.{arith}
 use native.Mathlib.Nat.{mul-le-mul-left}
 use lib.ListN.{length, getD, length-append}
-use lib.Dec.{T, leb, eqb, leb→le}
-use Rattle.format.specs.Trace.{Wrong, wrong, pick, sum, total}
+use lib.Dec.{T, leb, leb→le}
+use Rattle.format.specs.Trace.{Wrong, pick, sum, total}
 use Rattle.format.specs.Format.{Value, number, content, first, second, Rule, Width, Ask, fixed, mark, packed, string, payload, count, ask, Format, empty, leaf, seq, _▸_, chain, times, entries, counted}
 use Rattle.format.specs.Reading.{trace}
 use Rattle.format.specs.Layout.{digits, Bytes, bytesLeaf, bytes, Valid}
@@ -25,7 +25,7 @@ use Rattle.vob24.specs.Grammar as g
 use Rattle.vob24.specs.Grammar.{Section, name, structs, interfaces, namedTypes, itabs, runtimeTypes, wellKnown, constants, globals, functions, externs, entry, islandInit, artifacts, files, functionLocations, inlineSources}
 use Rattle.vob24.specs.Cost.{textCost}
 use Rattle.vob24_theorems.specs.PackLayout.{no-externs}
-use Rattle.vob24.specs.PackCost.{keys-cost, names-free, identities-free, transfers-free, agree-free, if-free, length-map, length-items}
+use Rattle.vob24.specs.PackCost.{keys-cost, names-free, identities-free, transfers-free, agree-free, if-free, host-calls-free, length-map, length-items}
 
 -- At most 65,536 a byte for each of d levels of lists.
 pub record Level (d : ℕ) (f : Format) : Type 0 where
@@ -331,7 +331,7 @@ module _ (set : Settings) (licensed : Licensed set) where
   level-externs {d} n = record { rated = rated-up (omega arith) (omega (arith, small of.ExternDef)) (rated-none {z = sizeOf set of.ExternDef} (omega arith) (λ v. quiet v) (λ v w p h. no-externs (number v) (h .1))) }
     where
       quiet : (v : Value) → Rated 0 0 (leaf (ask (Questions.noHostCalls (number v))))
-      quiet v = rated-up (omega (arith, agree-free (eqb (number v) 0) (wrong Refusals.hostCalls (number v)))) (omega arith) (rated-ask {k = 0} (Questions.noHostCalls (number v)))
+      quiet v = rated-up (omega (arith, host-calls-free (number v))) (omega arith) (rated-ask {k = 0} (Questions.noHostCalls (number v)))
 
   level-section : (n : ℕ) (x : Section) → Level 5 (g.section set n x)
   unfolding g.section g.struct g.interface g.namedType g.itab g.constant g.global

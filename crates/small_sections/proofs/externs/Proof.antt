@@ -1,10 +1,5 @@
-use Rattle.format.specs.Trace.{wrong}
-use Rattle.format.specs.Format.{leaf, ask}
-use Rattle.vob24.specs.Refusals.{hostCalls}
-use Rattle.vob24.specs.Questions.{noHostCalls}
-use Rattle.reader.proofs.Laws.{at-step, numberThen, got-ready}
-use Rattle.reader.proofs.Asks.{agree, differ}
 use Rattle.reader.proofs.Reading.{reading}
+use Rattle.small_sections.proofs.Laws.{externs-none, externs-some}
 use borrow.Author.Needs.{needs}
 use Rattle.small_sections.proofs.externs.Statement.{statement}
 use Rattle.small_sections.proofs.externs.Tie as tie
@@ -43,13 +38,13 @@ same-length-2 : tie.Need-same-length-2
 same-length-2 c = search needs
 
 returns-3 : tie.Need-returns-3
-returns-3 c = at-step ((c .before .before .before .before .before .before .before .before .before .before .r) .given .1) (numberThen (λ n. leaf (ask (noHostCalls n))) ((c .before .before .before .q) .given .1) ((c .before .before .before .before .before .before .before .number-count) .ensures) (differ ((c .before .before .before .q) .given .0 .0) 0 (wrong hostCalls ((c .before .before .before .q) .given .0 .0)) (got-ready ((c .before .before .before .q) .given .1) ((c .before .before .before .before .before .before .before .number-count) .ensures)) ((c .before .if1) .taken) ((c .refuse) .ensures)))
+returns-3 c = search (needs, externs-some)
 
 same-length-3 : tie.Need-same-length-3
 same-length-3 c = search needs
 
 returns-4 : tie.Need-returns-4
-returns-4 c = at-step ((c .before .before .before .before .before .before .before .before .before .r) .given .1) (numberThen (λ n. leaf (ask (noHostCalls n))) ((c .before .before .q) .given .1) ((c .before .before .before .before .before .before .number-count) .ensures) (agree ((c .before .before .q) .given .0 .0) 0 (wrong hostCalls ((c .before .before .q) .given .0 .0)) (got-ready ((c .before .before .q) .given .1) ((c .before .before .before .before .before .before .number-count) .ensures)) ((c .if1) .left)))
+returns-4 c = search (needs, externs-none)
 
 pub externs-spec : {M : Type 1} → statement M
 externs-spec =
