@@ -1,15 +1,15 @@
 -- Request 1: what is answered to a pack that claims host calls, beside the base's answer; and that every other answer is
 -- the base's, under all settings.
 use Prim.Native.Nat.{ℕ, zero, suc, _+_, _-_, _*_, _≤_, _<_}
-use mathlib.Core.Path.{_≡_, refl, ap, ap₂, sym, _∙_}
+use mathlib.Core.Path.{_≡_, refl, ap, sym, _∙_}
 use mathlib.Core.List.{List}
 use mathlib.Core.Bool.{Bool, true, false, not}
 use native.Mathlib.Omega.{arith}
 use lib.ListN.{length}
 use lib.Dec.{T, leb, eqb, leb→le, nleb→lt, le→leb, eqb→eq}
-use Rattle.format.specs.Trace.{Wrong, wrong, unexpectedEof, Trace, end, charge, needs, bind, guard, pick, Settled, refused, taken, spent, settle}
+use Rattle.format.specs.Trace.{Wrong, wrong, unexpectedEof, Trace, end, bind, guard, pick, Settled, refused, taken, spent, settle}
 use Rattle.format.specs.Format.{Value, none, num, pair, number, first, second, Rule, Leaf, count, Format, empty, leaf, seq, _▸_, counted}
-use Rattle.format.specs.Reading.{little, part, room, field, traceAsk, traceLeaf, trace}
+use Rattle.format.specs.Reading.{little, part, traceAsk, traceLeaf, trace}
 use Rattle.format.specs.Record.{wordsLeaf, words}
 use Rattle.format.specs.SettleTheorems.{thenS, settle-bind}
 use Rattle.format.specs.TraceTheorems.{guard-true, settle-seq}
@@ -21,124 +21,7 @@ use Rattle.vob24.specs.Questions.{refuseUnless, noHostCalls}
 use Rattle.vob24.specs.Grammar.{name, structs, interfaces, namedTypes, itabs, runtimeTypes, wellKnown, constants, globals, functions, externs, entry, islandInit, artifacts, files, functionLocations, inlineSources, section, afterFunctions, sections, magic, version, pack}
 use Rattle.vob24.specs.Cost.{partOf}
 use Rattle.vob24.specs.Calls.{Refused, Outcome, tooLarge, closing, wholeTrace, sectionTrace, readOutcome, sectionOutcome, Found, Not, looking, findOutcome}
-
--- ---- settled readings that are alike but for their values
-
-abbrev turned : (Value → Value) → Settled Value → Settled Value
-turned h (refused w p l) = refused w p l
-turned h (taken v p l) = taken (h v) p l
-
--- Wherever k is taken, it ends at a place with P: then f′ settles as f does.
-record Alike (s : List ℕ) (P : ℕ → Type 0) (f f′ k : Format) (h : Value → Value) : Type 0 where
-  same : (b p : ℕ) → ((v : Value) (q l : ℕ) → settle b (trace k s p) ≡ taken v q l → P q)
-      → settle b (trace f′ s p) ≡ turned h (settle b (trace f s p))
-
-alike-seq : (s : List ℕ) (P : ℕ → Type 0) (f : Format) (g g′ k : Value → Format) (h : Value → Value)
-    → ((v : Value) → Alike s P (g v) (g′ v) (k v) h)
-    → Alike s P (seq f g) (seq f g′) (seq f k) (λ v. pair (first v) (h (second v)))
-unfolding thenS
-alike-seq s P f g g′ k h a = record { same = λ b p c. settle-seq b f g′ s p ∙ outer b p c (settle b (trace f s p)) refl ∙ ap (turned (λ v. pair (first v) (h (second v)))) (sym (settle-seq b f g s p)) }
-  where
-    inner : (v : Value) (r : Settled Value)
-        → thenS (turned h r) (λ w x m. taken (pair v w) x m) ≡ turned (λ v. pair (first v) (h (second v))) (thenS r (λ w x m. taken (pair v w) x m))
-    inner v (refused w x m) = refl
-    inner v (taken w x m) = refl
-
-    outer : (b p : ℕ) → ((v : Value) (q l : ℕ) → settle b (trace (seq f k) s p) ≡ taken v q l → P q) → (r : Settled Value)
-        → settle b (trace f s p) ≡ r
-        → thenS r (λ v q l. thenS (settle l (trace (g′ v) s q)) (λ w x m. taken (pair v w) x m)) ≡ turned (λ v. pair (first v) (h (second v))) (thenS r (λ v q l. thenS (settle l (trace (g v) s q)) (λ w x m. taken (pair v w) x m)))
-    outer b p c (refused w q l) e = refl
-    outer b p c (taken v q l) e =
-        let on : (w : Value) (x m : ℕ) → settle l (trace (k v) s q) ≡ taken w x m → P x = λ w x m i. c (pair v w) x m (settle-seq b f k s p ∙ ap (λ r. thenS r (λ v q l. thenS (settle l (trace (k v) s q)) (λ w x m. taken (pair v w) x m))) e ∙ ap (λ r. thenS r (λ w x m. taken (pair v w) x m)) i) in
-        ap (λ r. thenS r (λ w x m. taken (pair v w) x m)) (a v .same l q on) ∙ inner v (settle l (trace (g v) s q))
-
--- the first part read alike
-fore-alike : (s : List ℕ) (f f′ g : Format) (h : Value → Value) (b p : ℕ)
-    → settle b (trace f′ s p) ≡ turned h (settle b (trace f s p))
-    → settle b (trace (f′ ▸ g) s p) ≡ turned (λ v. pair (h (first v)) (second v)) (settle b (trace (f ▸ g) s p))
-unfolding thenS
-fore-alike s f f′ g h b p e =
-    settle-seq b f′ (λ _. g) s p
-    ∙ ap (λ r. thenS r (λ v q l. thenS (settle l (trace g s q)) (λ w x m. taken (pair v w) x m))) e
-    ∙ outer (settle b (trace f s p))
-    ∙ ap (turned (λ v. pair (h (first v)) (second v))) (sym (settle-seq b f (λ _. g) s p))
-  where
-    inner : (v : Value) (r : Settled Value)
-        → thenS r (λ w x m. taken (pair (h v) w) x m) ≡ turned (λ v. pair (h (first v)) (second v)) (thenS r (λ w x m. taken (pair v w) x m))
-    inner v (refused w x m) = refl
-    inner v (taken w x m) = refl
-
-    outer : (r : Settled Value)
-        → thenS (turned h r) (λ v q l. thenS (settle l (trace g s q)) (λ w x m. taken (pair v w) x m)) ≡ turned (λ v. pair (h (first v)) (second v)) (thenS r (λ v q l. thenS (settle l (trace g s q)) (λ w x m. taken (pair v w) x m)))
-    outer (refused w q l) = refl
-    outer (taken v q l) = inner v (settle l (trace g s q))
-
--- ---- readings that come so far, and no further
-
--- Where k is taken up to q, with l left, f is refused.
-record Stops (s : List ℕ) (q l : ℕ) (f k : Format) (w : Wrong) (x m : ℕ) : Type 0 where
-  stops : (b p : ℕ) {v : Value} → settle b (trace k s p) ≡ taken v q l → settle b (trace f s p) ≡ refused w x m
-
-stops-seq : (s : List ℕ) (q l : ℕ) (f : Format) (g k : Value → Format) (w : Wrong) (x m : ℕ)
-    → ((v : Value) → Stops s q l (g v) (k v) w x m) → Stops s q l (seq f g) (seq f k) w x m
-unfolding thenS
-stops-seq s q l f g k w x m a = record { stops = λ b p {v} e. settle-seq b f g s p ∙ outer v (settle b (trace f s p)) (sym (settle-seq b f k s p) ∙ e) }
-  where
-    inner : (u v : Value) (o c : ℕ) (r : Settled Value) → settle c (trace (k u) s o) ≡ r
-        → thenS r (λ w x m. taken (pair u w) x m) ≡ taken v q l
-        → thenS (settle c (trace (g u) s o)) (λ w x m. taken (pair u w) x m) ≡ refused w x m
-    inner u v o c (refused w′ x′ m′) i e = let no : _≡_ {A = ℕ} 0 1 = cc in absurd (omega arith)
-    inner u v o c (taken v′ q′ l′) i e =
-        let y : q′ ≡ q = cc in
-        let z : l′ ≡ l = cc in
-        ap (λ r. thenS r (λ w x m. taken (pair u w) x m)) (a u .stops c o (i ∙ ap₂ (taken v′) y z))
-
-    outer : (v : Value) (r : Settled Value)
-        → thenS r (λ u o c. thenS (settle c (trace (k u) s o)) (λ w x m. taken (pair u w) x m)) ≡ taken v q l
-        → thenS r (λ u o c. thenS (settle c (trace (g u) s o)) (λ w x m. taken (pair u w) x m)) ≡ refused w x m
-    outer v (refused w′ x′ m′) e = let no : _≡_ {A = ℕ} 0 1 = cc in absurd (omega arith)
-    outer v (taken u o c) e = inner u v o c (settle c (trace (k u) s o)) refl e
-
-fore-stops : (s : List ℕ) (f g : Format) (w : Wrong) (x m b p : ℕ) → settle b (trace f s p) ≡ refused w x m
-    → settle b (trace (f ▸ g) s p) ≡ refused w x m
-unfolding thenS
-fore-stops s f g w x m b p e = settle-seq b f (λ _. g) s p ∙ ap (λ r. thenS r (λ v q l. thenS (settle l (trace g s q)) (λ w x m. taken (pair v w) x m))) e
-
--- ---- the extern count
-
-pick-yes : {A : Type 0} (d : Bool) (x y : A) → T d → pick d x y ≡ x
-unfolding pick
-pick-yes true x y t = refl
-
-pick-no : {A : Type 0} (d : Bool) (x y : A) → (T d → _≡_ {A = ℕ} 0 1) → pick d x y ≡ y
-unfolding pick
-pick-no true x y h = let no = h tt in absurd (omega arith)
-pick-no false x y h = refl
-
-count-cut : (r : Rule) (m c z : ℕ) (s : List ℕ) (p b : ℕ) → length s < p + 4
-    → settle b (trace (leaf (count r m c z)) s p) ≡ refused (wrong unexpectedEof 0) p b
-unfolding trace traceLeaf field room guard settle
-count-cut r m c z s p b h = go (leb (p + 4) (length s)) _ (leb→le (p + 4) (length s))
-  where
-    go : (d : Bool) (t : Trace Value) → (T d → p + 4 ≤ length s)
-        → settle b (guard d (wrong unexpectedEof 0) p (needs (p + 4) p t)) ≡ refused (wrong unexpectedEof 0) p b
-    go true t i = let j = i tt in absurd (omega arith)
-    go false t i = refl
-
--- The rule, then the bytes left, then the charge.
-count-settled : (r : Rule) (m c z : ℕ) (s : List ℕ) (p b : ℕ) → p + 4 ≤ length s
-    → (let n = little (part s p 4) in settle b (trace (leaf (count r m c z)) s p) ≡ pick (r .test n) (pick (leb (p + 4 + n * m) (length s)) (pick (leb (n * z) b) (taken (num n) (p + 4) (b - n * z)) (refused (spent c (n * z) b) (p + 4) b)) (refused (wrong unexpectedEof 0) (p + 4) b)) (refused (r .why n) (p + 4) b))
-unfolding trace traceLeaf field room guard settle pick
-count-settled r m c z s p b h = ap (settle b) (guard-true (leb (p + 4) (length s)) _ p _ (le→leb (p + 4) (length s) h)) ∙ go (r .test n) (leb (p + 4 + n * m) (length s))
-  where
-    n : ℕ
-    n = little (part s p 4)
-
-    go : (d e : Bool)
-        → settle b (needs (p + 4) p (guard d (r .why n) (p + 4) (guard e (wrong unexpectedEof 0) (p + 4) (needs (p + 4 + n * m) (p + 4) (charge c (n * z) (p + 4) (end (num n) (p + 4))))))) ≡ pick d (pick e (pick (leb (n * z) b) (taken (num n) (p + 4) (b - n * z)) (refused (spent c (n * z) b) (p + 4) b)) (refused (wrong unexpectedEof 0) (p + 4) b)) (refused (r .why n) (p + 4) b)
-    go true true = refl
-    go true false = refl
-    go false e = refl
+use Rattle.vob24_theorems.specs.PartTheorems.{onward, joined, turned, Alike, alike-seq, fore-alike, Stops, stops-seq, fore-stops, pick-yes, pick-no, count-cut, count-settled}
 
 -- "extern count 0? 25 HostCalls (d1), before that list's other questions": the base, which stands here only.
 abbrev baseRule : Rule
@@ -153,7 +36,7 @@ pub data Claims (size n p e l : ℕ) : Wrong → ℕ → Type 0 where
   -- "a count above the bytes left was 25 and is 2"
   cut : e < p + n → Claims size n p e l (wrong Refusals.unexpectedEof 0) l
   -- "a count within them whose charge can't be paid was 25 and is 5"
-  dear : p + n ≤ e → l < n * size → Claims size n p e l (spent Refusals.vector (n * size) l) l
+  unpaid : p + n ≤ e → l < n * size → Claims size n p e l (spent Refusals.vector (n * size) l) l
   -- "A pack still refused with 25 now shows the budget left after that charge."
   calls : p + n ≤ e → n * size ≤ l → Claims size n p e l (wrong Refusals.hostCalls n) (l - n * size)
 
@@ -164,7 +47,7 @@ some-claim size n p e l = go (leb (p + n) e) (leb (n * size) l) (leb→le (p + n
     go : (d f : Bool) → (T d → p + n ≤ e) → (T (not d) → e < p + n) → (T f → n * size ≤ l) → (T (not f) → l < n * size)
         → (w : Wrong) × (m : ℕ) × Claims size n p e l w m
     go true true a b c d = (_, _, calls (a tt) (c tt))
-    go true false a b c d = (_, _, dear (a tt) (d tt))
+    go true false a b c d = (_, _, unpaid (a tt) (d tt))
     go false f a b c d = (_, _, cut (b tt))
 
 module _ (set : Settings) (k : ℕ) (s : List ℕ) (p b : ℕ) where
@@ -174,22 +57,25 @@ module _ (set : Settings) (k : ℕ) (s : List ℕ) (p b : ℕ) where
   abbrev n : ℕ
   n = little (part s p 4)
 
+  abbrev asks : Value → Format
+  asks v = leaf (Leaf.ask (noHostCalls (number v)))
+
   -- the section: taken with no externs, else refused so
   externs-settled : p + 4 ≤ length s
       → settle b (trace (section set k externs) s p) ≡ pick (leb (p + 4 + n * 1) (length s)) (pick (leb (n * size) b) (pick (eqb n 0) (taken (pair (num n) none) (p + 4) (b - n * size)) (refused (wrong Refusals.hostCalls n) (p + 4) (b - n * size))) (refused (spent Refusals.vector (n * size) b) (p + 4) b)) (refused (wrong unexpectedEof 0) (p + 4) b)
   unfolding section trace traceLeaf traceAsk settle thenS pick
   externs-settled h =
-      settle-seq b (leaf (count free 1 Refusals.vector size)) (λ v. leaf (Leaf.ask (noHostCalls (number v)))) s p
-      ∙ ap (λ r. thenS r (λ v q l. thenS (settle l (trace (leaf (Leaf.ask (noHostCalls (number v)))) s q)) (λ w x m. taken (pair v w) x m))) (count-settled free 1 Refusals.vector size s p b h)
+      settle-seq b (leaf (count free 1 Refusals.vector size)) asks s p
+      ∙ ap (λ r. thenS r (onward s asks)) (count-settled free 1 Refusals.vector size s p b h)
       ∙ go (leb (p + 4 + n * 1) (length s)) (leb (n * size) b)
     where
       asked : (d : Bool) (l : ℕ)
-          → thenS (settle l (trace (leaf (Leaf.ask (refuseUnless d (wrong Refusals.hostCalls n)))) s (p + 4))) (λ w x m. taken (pair (num n) w) x m) ≡ pick d (taken (pair (num n) none) (p + 4) l) (refused (wrong Refusals.hostCalls n) (p + 4) l)
+          → thenS (settle l (trace (leaf (Leaf.ask (refuseUnless d (wrong Refusals.hostCalls n)))) s (p + 4))) (joined (num n)) ≡ pick d (taken (pair (num n) none) (p + 4) l) (refused (wrong Refusals.hostCalls n) (p + 4) l)
       asked true l = refl
       asked false l = refl
 
       go : (d e : Bool)
-          → thenS (pick d (pick e (taken (num n) (p + 4) (b - n * size)) (refused (spent Refusals.vector (n * size) b) (p + 4) b)) (refused (wrong unexpectedEof 0) (p + 4) b)) (λ v q l. thenS (settle l (trace (leaf (Leaf.ask (noHostCalls (number v)))) s q)) (λ w x m. taken (pair v w) x m)) ≡ pick d (pick e (pick (eqb n 0) (taken (pair (num n) none) (p + 4) (b - n * size)) (refused (wrong Refusals.hostCalls n) (p + 4) (b - n * size))) (refused (spent Refusals.vector (n * size) b) (p + 4) b)) (refused (wrong unexpectedEof 0) (p + 4) b)
+          → thenS (pick d (pick e (taken (num n) (p + 4) (b - n * size)) (refused (spent Refusals.vector (n * size) b) (p + 4) b)) (refused (wrong unexpectedEof 0) (p + 4) b)) (onward s asks) ≡ pick d (pick e (pick (eqb n 0) (taken (pair (num n) none) (p + 4) (b - n * size)) (refused (wrong Refusals.hostCalls n) (p + 4) (b - n * size))) (refused (spent Refusals.vector (n * size) b) (p + 4) b)) (refused (wrong unexpectedEof 0) (p + 4) b)
       go true true = asked (eqb n 0) (b - n * size)
       go true false = refl
       go false e = refl
@@ -198,7 +84,7 @@ module _ (set : Settings) (k : ℕ) (s : List ℕ) (p b : ℕ) where
   externs-claimed : p + 4 ≤ length s → 1 ≤ n → {w : Wrong} {m : ℕ} → Claims size n (p + 4) (length s) b w m
       → settle b (trace (section set k externs) s p) ≡ refused w (p + 4) m
   externs-claimed h i (cut j) = externs-settled h ∙ pick-no (leb (p + 4 + n * 1) (length s)) _ _ (λ t. let y = leb→le (p + 4 + n * 1) (length s) t in omega arith)
-  externs-claimed h i (dear j l) =
+  externs-claimed h i (unpaid j l) =
       externs-settled h
       ∙ pick-yes (leb (p + 4 + n * 1) (length s)) _ _ (le→leb (p + 4 + n * 1) (length s) (omega arith))
       ∙ pick-no (leb (n * size) b) _ _ (λ t. let y = leb→le (n * size) b t in omega arith)
@@ -218,10 +104,10 @@ module _ (set : Settings) (k : ℕ) (s : List ℕ) (p b : ℕ) where
   unfolding section thenS pick
   externs-alike h = go (leb (p + 4) (length s)) (leb→le (p + 4) (length s)) (nleb→lt (p + 4) (length s))
     where
-      cut : length s < p + 4 → settle b (trace (section set k externs) s p) ≡ refused (wrong unexpectedEof 0) p b
-      cut i =
-          settle-seq b (leaf (count free 1 Refusals.vector size)) (λ v. leaf (Leaf.ask (noHostCalls (number v)))) s p
-          ∙ ap (λ r. thenS r (λ v q l. thenS (settle l (trace (leaf (Leaf.ask (noHostCalls (number v)))) s q)) (λ w x m. taken (pair v w) x m))) (count-cut free 1 Refusals.vector size s p b i)
+      short : length s < p + 4 → settle b (trace (section set k externs) s p) ≡ refused (wrong unexpectedEof 0) p b
+      short i =
+          settle-seq b (leaf (count free 1 Refusals.vector size)) asks s p
+          ∙ ap (λ r. thenS r (onward s asks)) (count-cut free 1 Refusals.vector size s p b i)
 
       zeros : (n x y : ℕ) → n ≡ 0 → x ≡ 0 → y ≡ 0 → (d : Bool)
           → pick (eqb n 0) (pick d (pick (leb y b) (taken (num n) (p + 4) (b - y)) (refused (spent Refusals.vector y b) (p + 4) b)) (refused (wrong unexpectedEof 0) (p + 4) b)) (refused (wrong Refusals.hostCalls n) (p + 4) b) ≡ turned first (pick d (pick (leb x b) (pick (eqb n 0) (taken (pair (num n) none) (p + 4) (b - x)) (refused (wrong Refusals.hostCalls n) (p + 4) (b - x))) (refused (spent Refusals.vector x b) (p + 4) b)) (refused (wrong unexpectedEof 0) (p + 4) b))
@@ -238,7 +124,7 @@ module _ (set : Settings) (k : ℕ) (s : List ℕ) (p b : ℕ) where
       go true i j =
           let e = h (i tt) in
           count-settled baseRule 1 Refusals.vector 0 s p b (i tt) ∙ zeros n (n * size) (n * 0) e (rw e (omega arith)) (omega arith) (leb (p + 4 + n * 1) (length s)) ∙ ap (turned first) (sym (externs-settled (i tt)))
-      go false i j = count-cut baseRule 1 Refusals.vector 0 s p b (j tt) ∙ ap (turned first) (sym (cut (j tt)))
+      go false i j = count-cut baseRule 1 Refusals.vector 0 s p b (j tt) ∙ ap (turned first) (sym (short (j tt)))
 
 -- ---- the pack
 

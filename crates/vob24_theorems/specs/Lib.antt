@@ -5,4 +5,5 @@ pub mod Theorems
 pub mod LookupTheorems
 pub mod InTurn
 pub mod RefusalNumbers
+pub mod PartTheorems
 pub mod HostCalls
