@@ -112,7 +112,8 @@ agree("sizes", {
 })
 
 # How many they are.
-agree("how many sizes", {settings: [count]} | {
+many = [int(n) for n in re.findall(r"^manySizes = (\d+)", text(settings), re.M)]
+agree("how many sizes", {settings: [count], settings + ", manySizes": many} | {
     path: [int(n) for n in re.findall(pattern, text(path))] for path, pattern in (
         ("bindings/c/vob.h", r"number in the table of sizes, 1 to (\d+);"),
         ("bindings/rust/src/lib.rs", r"table of sizes, 1 to (\d+)\."),

@@ -112,10 +112,6 @@ InlineSourceEntry = 32
 abbrev pub ExternDef : ℕ
 ExternDef = 33
 
--- How many they are.
-abbrev pub manySizes : ℕ
-manySizes = 33
-
 -- `size_of` of each on the pinned 64-bit compiler, as `oracle/` measures them.
 abbrev pub measured : List ℕ
 measured =
@@ -133,6 +129,10 @@ pub record Settings : Type 0 where
 -- The settings of the Rust.
 abbrev pub settings : Settings
 settings = record { sizes = measured; artifacts = 64; artifactNameBytes = 128; artifactPayloadBytes = 16777216; inlineRecords = 131072 }
+
+-- How many sizes there are.
+abbrev pub manySizes : ℕ
+manySizes = 33
 
 -- The settings that an array of numbers stands for: the sizes; then the limits, where one above 65,535 takes two, low
 -- first.
