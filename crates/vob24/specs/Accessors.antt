@@ -13,9 +13,9 @@ use Rattle.vob24.specs.Settings.{Settings, sizeOf}
 use Rattle.vob24.specs.Utf8.{wellFormed}
 use Rattle.vob24.specs.Leaves.{free, limit, u8, u16, u32, u64, optionalId, bool, valueKind, direction, valueMeta, valueRttid, sourceU32, str, memberName, listOf, choose, optional}
 use Rattle.vob24.specs.Fields.{variantOf, structFieldOf, structOf, interfaceMethodOf, interfaceOf, methodOf, newMethodOf, namedTypeOf, itabOf, runtimeFieldOf, runtimeMethodOf, namedOf, arrayOf, mapOf, chanOf, funcOf, runtimeStructOf, runtimeInterfaceOf, wellKnownOf, globalOf, instructionOf, sendOf, recvOf, elemLayoutOf, mapGetOf, mapLayoutsOf, slotLayoutOf, callLayoutOf, ifaceAssertLayoutOf, callIfaceLayoutOf, transferOf, functionOf, artifactOf, locationOf, spanOf, frameOf, inlineEntryOf, inlineFunctionOf, inlineSourcesOf}
-use Rattle.vob24.specs.Questions.{refuseIf, among, repeat, transferWords, sameSlots, sameCode}
+use Rattle.vob24.specs.Questions.{refuseIf, among, repeat, transferWords, sameSlots, sameCode, noHostCalls}
 use Rattle.vob24.specs.Grammar as g
-use Rattle.vob24.specs.Grammar.{functions, wellKnown, inlineSources, section, pack}
+use Rattle.vob24.specs.Grammar.{functions, externs, wellKnown, inlineSources, section, pack}
 use Rattle.vob24.specs.Cost.{partOf, allSections}
 
 -- A part of a record: a field, by its format and its value, or questions on what was read.
@@ -338,6 +338,12 @@ module _ (set : Settings) where
   inlineSources-fields n = record { are = λ v. then one }
 
   -- The sections of a pack, behind magic and version; the last goes by the number of functions.
+  -- the count of a list, and the question on it
+  pub externs-fields : (n : ℕ) → Fields (section set n externs) (λ v.
+      field (leaf (count free 1 Refusals.vector (sizeOf set of.ExternDef))) (first v) ∷ asked (noHostCalls (counted v)) ∷ [])
+  unfolding section
+  externs-fields n = record { are = λ v. then question }
+
   pub pack-fields : Fields (pack set) (λ v.
       field g.magic (first v) ∷ field g.version (first (second v))
       ∷ map (λ x. field (section set (counted (partOf functions v)) x) (partOf x v)) allSections)

@@ -7,10 +7,11 @@ use mathlib.Core.Bool.{Bool, true, false, not}
 use native.Mathlib.Omega.{arith}
 use lib.ListN.{length}
 use lib.Dec.{T, leb, eqb, leb→le, nleb→lt, le→leb, eqb→eq}
-use Rattle.format.specs.Trace.{Wrong, wrong, unexpectedEof, Trace, end, bind, guard, pick, Settled, refused, taken, spent, settle}
-use Rattle.format.specs.Format.{Value, none, num, pair, number, first, second, Rule, Leaf, count, Format, empty, leaf, seq, _▸_, counted}
+use Rattle.format.specs.Trace.{Wrong, wrong, unexpectedEof, Trace, end, bind, guard, sum, pick, Settled, refused, taken, spent, settle}
+use Rattle.format.specs.Format.{Value, none, num, pair, number, first, second, Rule, Leaf, count, Format, empty, leaf, seq, _▸_, items, counted}
 use Rattle.format.specs.Reading.{little, part, traceAsk, traceLeaf, trace}
 use Rattle.format.specs.Record.{wordsLeaf, words}
+use Rattle.format.specs.Layout.{Valid}
 use Rattle.format.specs.SettleTheorems.{thenS, settle-bind}
 use Rattle.format.specs.TraceTheorems.{guard-true, settle-seq}
 use Rattle.vob24.specs.Refusals
@@ -19,8 +20,9 @@ use Rattle.vob24.specs.Settings.{Settings, sizeOf, maxPackBytes, startingBudget
 use Rattle.vob24.specs.Leaves.{free}
 use Rattle.vob24.specs.Questions.{refuseUnless, noHostCalls}
 use Rattle.vob24.specs.Grammar.{name, structs, interfaces, namedTypes, itabs, runtimeTypes, wellKnown, constants, globals, functions, externs, entry, islandInit, artifacts, files, functionLocations, inlineSources, section, afterFunctions, sections, magic, version, pack}
-use Rattle.vob24.specs.Cost.{partOf}
+use Rattle.vob24.specs.Cost.{sectionCost, partOf}
 use Rattle.vob24.specs.Calls.{Refused, Outcome, tooLarge, closing, wholeTrace, sectionTrace, readOutcome, sectionOutcome, Found, Not, looking, findOutcome}
+use Rattle.vob24_theorems.specs.PackLayout.{no-externs}
 use Rattle.vob24_theorems.specs.PartTheorems.{onward, joined, turned, Alike, alike-seq, fore-alike, Stops, stops-seq, fore-stops, pick-yes, pick-no, count-cut, count-settled}
 
 -- "extern count 0? 25 HostCalls (d1), before that list's other questions": the base, which stands here only.
@@ -125,6 +127,12 @@ module _ (set : Settings) (k : ℕ) (s : List ℕ) (p b : ℕ) where
           let e = h (i tt) in
           count-settled baseRule 1 Refusals.vector 0 s p b (i tt) ∙ zeros n (n * size) (n * 0) e (rw e (omega arith)) (omega arith) (leb (p + 4 + n * 1) (length s)) ∙ ap (turned first) (sym (externs-settled (i tt)))
       go false i j = count-cut baseRule 1 Refusals.vector 0 s p b (j tt) ∙ ap (turned first) (sym (short (j tt)))
+
+-- In a pack that is taken the externs cost nothing.
+pub externs-cost : (set : Settings) (k : ℕ) (v : Value) (p : ℕ) → Valid (section set k externs) v p
+    → sectionCost set externs v ≡ 0
+unfolding section sectionCost Valid items sum
+externs-cost set k v p h = let none : counted v ≡ 0 = no-externs (counted v) (h .2 .1) in rw none (omega arith)
 
 -- ---- the pack
 
