@@ -23,7 +23,7 @@ abbrev pub turned : (Value → Value) → Settled Value → Settled Value
 turned h (refused w p l) = refused w p l
 turned h (taken v p l) = taken (h v) p l
 
--- Wherever k is taken, it ends at a place with P: then f′ settles as f does.
+-- Where k, if it is taken, ends at a place with P, f′ settles as f does, but for the value, which h turns.
 pub record Alike (s : List ℕ) (P : ℕ → Type 0) (f f′ k : Format) (h : Value → Value) : Type 0 where
   pub same : (b p : ℕ) → ((v : Value) (q l : ℕ) → settle b (trace k s p) ≡ taken v q l → P q)
       → settle b (trace f′ s p) ≡ turned h (settle b (trace f s p))
