@@ -1,19 +1,21 @@
 -- The laws of keys, and of the loop that compares an item with those of a list.
 use Prim.Native.Nat.{ℕ, _-_, _≤_, _<_}
 use mathlib.Core.Path.{_≡_, refl, ap, sym, _∙_}
-use mathlib.Core.List.{List, _∷_, map}
+use mathlib.Core.List.{List, [], _∷_, map}
 use mathlib.Core.Bool.{Bool, true, false}
 use Rattle.format.specs.Trace.{pick}
 use Rattle.format.specs.Format.{content, Format}
 use Rattle.format.specs.Reading.{same}
 use Rattle.vob24.specs.Questions.{Identity, amongIdentities}
+use Rattle.folding.specs.Bytes.{foldBytes}
 use Rattle.in_place.specs.declared.Item.{Item}
+use Rattle.in_place.specs.declared.Item.the-variants.{StructField, RuntimeField}
 use Rattle.in_place.specs.declared.Table.{Table}
-use Rattle.in_place.specs.declared.Table.the-variants.{Fields, Methods, Identities}
+use Rattle.in_place.specs.declared.Table.the-variants.{Fields, Methods, Identities, Alike}
 use Rattle.in_place.specs.Walk.{Stands, valueAt, nextAt, itemsAt, items-none}
 use Rattle.in_place.specs.Items.{formatOf, nameOf, textAt}
-use Rattle.in_place.specs.Tables.{itemOf, formatIn, packageOf, keyOf, packageText}
-use Rattle.in_place.specs.Contract.{TextAt, SameText, Placed, Past, PackageIs, Items, After, TwoPlaced, SamePackage, SameKey, Seen}
+use Rattle.in_place.specs.Tables.{itemOf, formatIn, packageOf, keyName, keyOf, keyText, packageText}
+use Rattle.in_place.specs.Contract.{TextAt, SameText, SameFolded, SameName, Placed, Past, PackageIs, Items, After, TwoPlaced, SamePackage, SameKey, Seen}
 use Rattle.in_place.proofs.Places.{name-stands, item-name, runtime-stands, runtime-package}
 use Rattle.in_place.proofs.Walking.{items-here, items-next, items-cons}
 
@@ -41,34 +43,58 @@ pub same-packages : {s : List ℕ} {a b x y : ℕ} {q : Bool} → PackageIs s a 
     → SamePackage Identities s a b q
 same-packages f g v = record { is = v .is ∙ rw (f .is, g .is) }
 
-module _ {t : Table} {s : List ℕ} {a b : ℕ} {n : Bool} (w : SameText s a b n) where
+-- the answers of `same_name`
+module _ {t : Table} {s : List ℕ} {a b : ℕ} {q : Bool} where
+  pub field-names : t ≡ Fields → SameText s a b q → SameName t s a b q
+  field-names e w = rw e (record { is = w .is })
+
+  pub method-names : {i : Item} → t ≡ Methods i → SameText s a b q → SameName t s a b q
+  method-names e w = rw e (record { is = w .is })
+
+  pub identity-names : t ≡ Identities → SameText s a b q → SameName t s a b q
+  identity-names e w = rw e (record { is = w .is })
+
+  pub alike-names : {i : Item} → t ≡ Alike i → SameFolded s a b q → SameName t s a b q
+  alike-names e w = rw e (record { is = w .is })
+
+module _ {t : Table} {s : List ℕ} {a b : ℕ} {n : Bool} (w : SameName t s a b n) where
   pub other-names : n ≡ false → SameKey t s a b false
   unfolding pick
   other-names e = record { is = rw (← w .is, e) }
 
   module _ (e : n ≡ true) where
-    pub same-field : t ≡ Fields → SameKey t s a b true
+    -- no package
+    same-only : packageText t s a ≡ [] → packageText t s b ≡ [] → SameKey t s a b true
     unfolding pick same
-    same-field i = rw i (record { is = rw (← w .is, e) })
+    same-only i j = record { is = rw (← w .is, e, i, j) }
+
+    pub same-field : t ≡ Fields → SameKey t s a b true
+    same-field i = same-only (rw i) (rw i)
 
     pub same-method : {i : Item} → t ≡ Methods i → SameKey t s a b true
-    unfolding pick same
-    same-method i = rw i (record { is = rw (← w .is, e) })
+    same-method i = same-only (rw i) (rw i)
+
+    pub same-alike : {i : Item} → t ≡ Alike i → SameKey t s a b true
+    same-alike i = same-only (rw i) (rw i)
 
     pub same-identity : {q : Bool} → t ≡ Identities → SamePackage Identities s a b q → SameKey t s a b q
     unfolding pick
-    same-identity i v = rw i (record { is = rw (← w .is, e) (v .is) })
+    same-identity i v = record { is = rw (← w .is, e) (v .is ∙ rw i) }
 
 -- the bytes of an item's key
-module _ (t : Table) {s : List ℕ} {p : ℕ} (h : Stands (formatIn t) s p) where
-  pub key-name : content (nameOf (itemOf t) (valueAt (formatIn t) s p)) ≡ textAt s p
-  key-name = name-content (itemOf t) h
+pub key-name : (t : Table) {s : List ℕ} {p : ℕ} → Stands (formatIn t) s p
+    → content (keyName t (valueAt (formatIn t) s p)) ≡ keyText t s p
+key-name Fields h = name-content StructField h
+key-name (Methods i) h = name-content i h
+key-name Identities h = name-content RuntimeField h
+key-name (Alike i) h = ap foldBytes (name-content i h)
 
 pub key-package : (t : Table) {s : List ℕ} {p : ℕ} → Stands (formatIn t) s p
     → content (packageOf t (valueAt (formatIn t) s p)) ≡ packageText t s p
 key-package Fields h = refl
 key-package (Methods i) h = refl
 key-package Identities h = ap content (runtime-stands h .value)
+key-package (Alike i) h = refl
 
 past-next : {f : Format} {s : List ℕ} {p : ℕ} → Past f s p (nextAt f s p)
 past-next = record { is = refl }
@@ -121,4 +147,4 @@ module _ {t : Table} {s : List ℕ} {from n p : ℕ} where
   unfolding amongIdentities
   looking-done {at} {k} h l = record { is = sym (l .leads ∙ rw (items-none (formatIn t) k s at h)) }
 
-pub ruleset keys = (same-packages, other-names, same-field, same-method, same-identity, looking-start, looking-here, looking-both, looking-more, looking-found, looking-done, runtime-package)
+pub ruleset keys = (same-packages, field-names, method-names, identity-names, alike-names, other-names, same-field, same-method, same-identity, same-alike, looking-start, looking-here, looking-both, looking-more, looking-found, looking-done, runtime-package)

@@ -15,7 +15,8 @@ use Rattle.format.specs.Reading.{little, part, same}
 use Rattle.format.specs.TraceTheorems.{part-length}
 use Rattle.reader.proofs.Gather.{read, read-take}
 use Rattle.in_place.specs.Items.{textAt}
-use Rattle.in_place.specs.Contract.{TextAt, WordIs, SameBytes, SameText, BlankIs}
+use Rattle.folding.specs.Contract as folding
+use Rattle.in_place.specs.Contract.{TextAt, WordIs, SameBytes, SameText, SameFolded, BlankIs}
 
 pub word-is : {s : List ℕ} {p n : ℕ} → p + 4 ≤ length s
     → n ≡ little (getD s p 0 ∷ getD s (p + 1) 0 ∷ getD s (p + 2) 0 ∷ getD s (p + 3) 0 ∷ []) → n < 4294967296
@@ -93,6 +94,11 @@ module _ {s : List ℕ} {a b m n : ℕ} (h : TextAt s a) (k : TextAt s b) (e : W
       let x : textAt s a ≡ part s (a + 4) n = text-part h e ∙ ap (part s (a + 4)) f in
       record { is = w .is ∙ sym (rw (x, text-part k i)) }
 
+-- the answer of `same_folded`
+pub same-folded : {s : List ℕ} {a b m n : ℕ} {q : Bool} → TextAt s a → TextAt s b → WordIs s a m → WordIs s b n
+    → folding.SameFolded s (a + 4) m (b + 4) n q → SameFolded s a b q
+same-folded h k e i w = record { is = w .is ∙ rw (text-part h e, text-part k i) }
+
 -- "_"
 module _ {s : List ℕ} {p n : ℕ} (h : TextAt s p) (e : WordIs s p n) where
   pub blank-long : (n ≡ 1 → ⊥) → BlankIs s p false
@@ -108,4 +114,4 @@ module _ {s : List ℕ} {p n : ℕ} (h : TextAt s p) (e : WordIs s p n) where
       go true = refl
       go false = refl
 
-pub ruleset texts = (word-is, comparing-start, comparing-more, comparing-not, comparing-done, same-sizes, same-size, blank-long, blank-one)
+pub ruleset texts = (word-is, comparing-start, comparing-more, comparing-not, comparing-done, same-sizes, same-size, same-folded, blank-long, blank-one)

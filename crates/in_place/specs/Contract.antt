@@ -9,6 +9,7 @@ use Rattle.format.specs.Format.{Value, Ask, Format}
 use Rattle.format.specs.Reading.{little, part, same}
 use Rattle.vob24.specs.Settings.{maxPackBytes}
 use Rattle.vob24.specs.Questions.{amongIdentities}
+use Rattle.folding.specs.Bytes.{foldBytes}
 use Rattle.reader.specs.Contract.{Ready, Asks}
 use Rattle.reader.specs.declared.Cursor.{Cursor}
 use Rattle.reader.specs.declared.Refusal.{Refusal}
@@ -17,7 +18,7 @@ use Rattle.reader.specs.declared.Step.the-variants.{Taken, Refused}
 use Rattle.in_place.specs.declared.Table.{Table}
 use Rattle.in_place.specs.Walk.{Stands, AllStand, valueAt, nextAt, itemsAt}
 use Rattle.in_place.specs.Items.{textAt, endOf, packageAt}
-use Rattle.in_place.specs.Tables.{formatIn, keyOf, packageText}
+use Rattle.in_place.specs.Tables.{formatIn, keyOf, keyText, packageText}
 
 -- A text stands at p, in a pack that is not too long.
 pub record TextAt (s : List ℕ) (p : ℕ) : Type 0 where
@@ -36,6 +37,12 @@ pub record SameBytes (s : List ℕ) (a b n : ℕ) (q : Bool) : Type 0 where
 
 pub record SameText (s : List ℕ) (a b : ℕ) (q : Bool) : Type 0 where
   pub is : q ≡ same (textAt s a) (textAt s b)
+
+pub record SameFolded (s : List ℕ) (a b : ℕ) (q : Bool) : Type 0 where
+  pub is : q ≡ same (foldBytes (textAt s a)) (foldBytes (textAt s b))
+
+pub record SameName (t : Table) (s : List ℕ) (a b : ℕ) (q : Bool) : Type 0 where
+  pub is : q ≡ same (keyText t s a) (keyText t s b)
 
 pub record BlankIs (s : List ℕ) (p : ℕ) (q : Bool) : Type 0 where
   pub is : q ≡ same (textAt s p) (95 ∷ [])
@@ -71,7 +78,7 @@ pub record SamePackage (t : Table) (s : List ℕ) (a b : ℕ) (q : Bool) : Type 
   pub is : q ≡ same (packageText t s a) (packageText t s b)
 
 pub record SameKey (t : Table) (s : List ℕ) (a b : ℕ) (q : Bool) : Type 0 where
-  pub is : q ≡ pick (same (textAt s a) (textAt s b)) (same (packageText t s a) (packageText t s b)) false
+  pub is : q ≡ pick (same (keyText t s a) (keyText t s b)) (same (packageText t s a) (packageText t s b)) false
 
 pub record Seen (t : Table) (s : List ℕ) (from n p : ℕ) (q : Bool) : Type 0 where
   pub is : q ≡ amongIdentities (keyOf t (valueAt (formatIn t) s p)) (map (keyOf t) (itemsAt (formatIn t) n s from))

@@ -8,7 +8,7 @@ ghost use Rattle.vob24.specs.Leaves.{str, optional};
 ghost use Rattle.vob24.specs.Grammar.{runtimeField};
 ghost use Rattle.in_place.specs.Items.{formatOf};
 ghost use Rattle.in_place.specs.Tables.{formatIn};
-ghost use Rattle.in_place.specs.Contract.{TextAt, WordIs, EndIs, SameBytes, SameText, BlankIs, Placed, Past, PackageIs, After, TwoPlaced, SamePackage, SameKey, Seen};
+ghost use Rattle.in_place.specs.Contract.{TextAt, WordIs, EndIs, SameBytes, SameText, SameFolded, SameName, BlankIs, Placed, Past, PackageIs, After, TwoPlaced, SamePackage, SameKey, Seen};
 
 // The items that have a name; it is the first field of each.
 pub enum Item {
@@ -20,12 +20,13 @@ pub enum Item {
     RuntimeField,
 }
 
-// The items of a table have different keys: names; packages and names in `Identities`. "_" is exempt in `Fields` and
-// `Identities`.
+// The items of a table have keys: names; packages and names in `Identities`; names with their letters decomposed in
+// `Alike`. "_" is exempt in `Fields`, `Identities` and among the struct fields of `Alike`.
 pub enum Table {
     Fields,
     Methods(Item),
     Identities,
+    Alike(Item),
 }
 
 // ---- texts
@@ -141,6 +142,7 @@ pub fn past_item(s: &[u8], table: Table, p: usize) -> usize
         Table::Fields => past(s, Item::StructField, p),
         Table::Methods(item) => past(s, item, p),
         Table::Identities => past(s, Item::RuntimeField, p),
+        Table::Alike(item) => past(s, item, p),
     }
 }
 
@@ -156,16 +158,40 @@ fn same_package(s: &[u8], a: usize, b: usize) -> bool
     same_text(s, package, other)
 }
 
+// Are the texts at a and at b the same with their letters decomposed?
+fn same_folded(s: &[u8], a: usize, b: usize) -> bool
+    requires { ⌜ (TextAt (now s) a) × (TextAt (now s) b) ⌝ }
+    ensures { λ q. ⌜ SameFolded (now (s .entry)) a b q ⌝ }
+{
+    let m = word_at(s, a);
+    let n = word_at(s, b);
+    folding::same_folded(s, a + 4, m, b + 4, n)
+}
+
+// Have the items at a and at b the same name, as the table tells names apart?
+fn same_name(s: &[u8], table: Table, a: usize, b: usize) -> bool
+    requires { ⌜ (TextAt (now s) a) × (TextAt (now s) b) ⌝ }
+    ensures { λ q. ⌜ SameName table (now (s .entry)) a b q ⌝ }
+{
+    match table {
+        Table::Fields => same_text(s, a, b),
+        Table::Methods(_) => same_text(s, a, b),
+        Table::Identities => same_text(s, a, b),
+        Table::Alike(_) => same_folded(s, a, b),
+    }
+}
+
 // Have the items at a and at b the same key?
-fn same_key(s: &[u8], table: Table, a: usize, b: usize) -> bool
+pub fn same_key(s: &[u8], table: Table, a: usize, b: usize) -> bool
     requires { ⌜ TwoPlaced (formatIn table) (now s) a b ⌝ }
     ensures { λ q. ⌜ SameKey table (now (s .entry)) a b q ⌝ }
 {
-    if same_text(s, a, b) {
+    if same_name(s, table, a, b) {
         return match table {
             Table::Fields => true,
             Table::Methods(_) => true,
             Table::Identities => same_package(s, a, b),
+            Table::Alike(_) => true,
         };
     }
     false

@@ -4,6 +4,7 @@ use mathlib.Core.Path.{_≡_, refl, ap, sym, _∙_}
 use mathlib.Core.List.{List, [], _∷_}
 use native.Mathlib.Omega.{arith}
 use native.Mathlib.Nat.{mul-le-mul}
+use lib.Dec.{eqb}
 use lib.ListN.{length, getD, take, drop}
 use lib.Seq.{take-nil, take-take, drop-drop, getD-take, getD-drop}
 use lib.Bits.{bitXor, xor-zero-l}
@@ -13,13 +14,20 @@ use Rattle.format.specs.Reading.{little, part}
 use Rattle.format.specs.TraceTheorems.{part-length}
 use Rattle.in_place.specs.declared.Item.{Item}
 use Rattle.in_place.specs.declared.Table.{Table}
-use Rattle.in_place.specs.declared.Table.the-variants.{Fields, Methods, Identities}
-use Rattle.in_place.specs.Tables.{formatIn}
+use Rattle.in_place.specs.declared.Table.the-variants.{Fields, Methods, Identities, Alike}
+use Rattle.in_place.specs.Items.{textAt}
+use Rattle.in_place.specs.Tables.{formatIn, keyText, packageText}
 use Rattle.in_place.specs.Contract.{TextAt, WordIs, PackageIs, Placed}
 use Rattle.in_place.proofs.Texts.{text-room, text-part}
 use Rattle.in_place.proofs.Keys.{key-name, key-package}
-use Rattle.repeat_search.specs.Hashes.{mixed, folded, secondSeed, wordIn, shortHash, lanesHash, bytesHash, textHash, keyHash, PartAt, JoinIs, HashIs}
-use Rattle.repeat_search.specs.Tables.{TextHash, PackageHash, KeyHash}
+use Rattle.repeat_search.specs.Hashes.{mixed, folded, secondSeed, wordIn, shortHash, lanesHash, bytesHash, textHash, streamHash, ended, plainHash, streamedHash, PartAt, JoinIs, HashIs, Pushed, PushedLetter, TakenIn, Streams}
+use Rattle.repeat_search.specs.declared.Stream.{Stream}
+use Rattle.repeat_search.specs.declared.Taken.{Taken}
+use Rattle.folding.specs.Bytes.{foldBytes}
+use Rattle.folding.specs.FoldLaws.{fold-nil}
+use Rattle.folding.specs.Contract.{span, FoldAt}
+use Rattle.folding.proofs.Folded.{folded-stays, letter-room, folded-letter}
+use Rattle.repeat_search.specs.Tables.{keyHash, TextHash, EndedHash, FoldedHash, PackageHash, KeyHash}
 
 -- ---- a turn stays below 2 ^ 64
 
@@ -184,19 +192,114 @@ empty-hash : (seed : ℕ) → textHash seed 0 [] ≡ 0
 unfolding textHash bytesHash shortHash pick
 empty-hash seed = rw (xor-zero-l 0) (omega arith)
 
-module _ {t : Table} {seed : ℕ} {s : List ℕ} {p : ℕ} where
-  pub hash-field : t ≡ Fields → PackageHash seed t s p 0
-  hash-field e = rw e (record { is = sym (empty-hash seed) })
+pub ended-hash : {seed h g x q : ℕ} {s : List ℕ} {p : ℕ} → TextHash seed h s p g → x ≡ mixed seed g 0 → q ≡ mixed seed x 0
+    → EndedHash seed h s p q
+ended-hash j k l = record { is = l ∙ rw (k, j .is) }
 
-  pub hash-method : {m : Item} → t ≡ Methods m → PackageHash seed t s p 0
-  hash-method e = rw e (record { is = sym (empty-hash seed) })
+pub package-hash : {seed x q : ℕ} {s : List ℕ} {p : ℕ} → PackageIs s p x → TextHash seed 0 s x q → PackageHash seed s p q
+package-hash w i = record { is = i .is ∙ rw (w .is) }
 
-  pub hash-identity : {x q : ℕ} → t ≡ Identities → PackageIs s p x → TextHash seed 0 s x q → PackageHash seed t s p q
-  hash-identity e w i = rw e (record { is = i .is ∙ rw (w .is) })
+no-package : {seed q : ℕ} {s : List ℕ} {p : ℕ} → EndedHash seed 0 s p q → q ≡ plainHash seed (textAt s p) []
+unfolding plainHash
+no-package {seed} h = h .is ∙ sym (rw (empty-hash seed))
 
-  pub hash-key : {h g x q : ℕ} → Placed (formatIn t) s p → PackageHash seed t s p h → TextHash seed h s p g
-      → x ≡ mixed seed g 0 → q ≡ mixed seed x 0 → KeyHash seed t s p q
-  unfolding keyHash
-  hash-key w i j k l = record { is = l ∙ rw (k, j .is, i .is, key-name t (w .stands), key-package t (w .stands)) }
+-- the answers of `hash_key`
+module _ {t : Table} {seed : ℕ} {s : List ℕ} {p q : ℕ} (w : Placed (formatIn t) s p) where
+  -- by the bytes of the key
+  hash-by-bytes : q ≡ keyHash t seed (keyText t s p) (packageText t s p) → KeyHash seed t s p q
+  hash-by-bytes h = record { is = h ∙ sym (rw (key-name t (w .stands), key-package t (w .stands))) }
 
-pub ruleset hashing = (short-none, short-three, short-words, lanes-joined, blocks-start, blocks-second, blocks-room, blocks-more, blocks-end, text-hash, hash-field, hash-method, hash-identity, hash-key)
+  pub hash-field : t ≡ Fields → EndedHash seed 0 s p q → KeyHash seed t s p q
+  hash-field e h = hash-by-bytes (rw e (no-package h))
+
+  pub hash-method : {m : Item} → t ≡ Methods m → EndedHash seed 0 s p q → KeyHash seed t s p q
+  hash-method e h = hash-by-bytes (rw e (no-package h))
+
+  pub hash-identity : {g : ℕ} → t ≡ Identities → PackageHash seed s p g → EndedHash seed g s p q → KeyHash seed t s p q
+  unfolding plainHash
+  hash-identity e k h = hash-by-bytes (rw e (h .is ∙ rw (k .is)))
+
+  pub hash-alike : {m : Item} → t ≡ Alike m → FoldedHash seed s p q → KeyHash seed t s p q
+  unfolding streamedHash
+  hash-alike e h = hash-by-bytes (rw e (h .is))
+
+-- ---- bytes that come one by one
+
+stream-cons : (seed h w k b v : ℕ) → v ≡ w % 72057594037927936 * 256 + b → (bs : List ℕ)
+    → streamHash seed h w k (b ∷ bs) ≡ pick (eqb k 7) (streamHash seed (folded seed h (v / 4294967296) (v % 4294967296)) 0 0 bs) (streamHash seed h v (k + 1) bs)
+unfolding streamHash
+stream-cons seed h w k b v e bs = rw e
+
+module _ {seed h w k b v : ℕ} (e : v ≡ w % 72057594037927936 * 256 + b) where
+  pub pushed-full : {g : ℕ} → k ≡ 7 → g ≡ folded seed h (v / 4294967296) (v % 4294967296)
+      → Pushed seed h w k b (record { hash = g; word = 0; count = 0 })
+  unfolding pick
+  pushed-full z i = record { is = λ bs. stream-cons seed h w k b v e bs ∙ rw (eq-eqb k 7 z, i); few = omega arith }
+
+  pub pushed-more : (k ≡ 7 → ⊥) → k ≤ 7 → Pushed seed h w k b (record { hash = h; word = v; count = k + 1 })
+  unfolding pick
+  pushed-more z l = record { is = λ bs. stream-cons seed h w k b v e bs ∙ rw (ne-eqb k 7 z); few = omega arith }
+
+pub pushed-letter : {seed h w k f : ℕ} {x y z : Stream} → Pushed seed h w k (f / 256) x
+    → Pushed seed (x .hash) (x .word) (x .count) 0xcc y → Pushed seed (y .hash) (y .word) (y .count) (f % 256) z
+    → PushedLetter seed h w k f z
+pushed-letter a b c = record { is = λ bs. a .is _ ∙ b .is _ ∙ c .is bs; few = c .few }
+
+module _ {seed : ℕ} {s : List ℕ} {at end h w k f : ℕ} (l : Streams seed s at end k) (e : FoldAt s at end f) where
+  pub taken-stays : {b : ℕ} {q : Stream} → b ≡ getD s at 0 → f ≡ 0 → Pushed seed h w k b q
+      → TakenIn seed s at end h w k (record { stream = q; at = at + 1 })
+  taken-stays i z p =
+      record {
+        is = ap (streamHash seed h w k) (folded-stays s at end (l .some) (l .room) e z ∙ rw (← i)) ∙ p .is _;
+        few = p .few;
+        on = omega arith;
+        within = omega (arith, l .some);
+      }
+
+  pub taken-letter : {q : Stream} → (f ≡ 0 → ⊥) → PushedLetter seed h w k f q
+      → TakenIn seed s at end h w k (record { stream = q; at = at + 2 })
+  taken-letter z p =
+      record {
+        is = ap (streamHash seed h w k) (folded-letter s at end (l .some) (l .room) e z) ∙ p .is _;
+        few = p .few;
+        on = omega arith;
+        within = omega (arith, letter-room s at end (l .some) (l .room) e z);
+      }
+
+pub taken-room : {seed : ℕ} {s : List ℕ} {at end k f : ℕ} → Streams seed s at end k → FoldAt s at end f → (f ≡ 0 → ⊥)
+    → at + 2 ≤ length s
+taken-room {s = s} {at} {end} l e z = omega (arith, letter-room s at end (l .some) (l .room) e z, l .room)
+
+-- the loop of `hash_folded`
+pub record Streaming (seed : ℕ) (s : List ℕ) (p end at h w k : ℕ) : Type 0 where
+  pub small : seed < 4294967296
+  pub room : end ≤ length s
+  pub within : at ≤ end
+  pub few : k ≤ 7
+  pub leads : streamHash seed seed 0 0 (foldBytes (textAt s p)) ≡ streamHash seed h w k (foldBytes (span s at end))
+
+module _ {seed : ℕ} {s : List ℕ} {p end : ℕ} where
+  pub streaming-start : {n : ℕ} → TextAt s p → WordIs s p n → seed < 4294967296 → end ≡ p + 4 + n
+      → Streaming seed s p end (p + 4) seed 0 0
+  streaming-start {n} t e z i =
+      let j : end - (p + 4) ≡ n = omega arith in
+      record { small = z; room = omega (arith, text-room t e); within = omega arith; few = omega arith; leads = rw (text-part t e, j) }
+
+  module _ {at h w k : ℕ} (l : Streaming seed s p end at h w k) where
+    pub streaming-some : at < end → Streams seed s at end k
+    streaming-some z = record { some = z; room = l .room; small = l .small; few = l .few }
+
+    pub streaming-more : {q : Taken} → TakenIn seed s at end h w k q
+        → Streaming seed s p end (q .at) (q .stream .hash) (q .stream .word) (q .stream .count)
+    streaming-more x = record { small = l .small; room = l .room; within = x .within; few = x .few; leads = l .leads ∙ x .is }
+
+    pub streaming-done : {a b c q : ℕ} → end ≤ at → a ≡ mixed seed h k → b ≡ folded seed a (w / 4294967296 % 4294967296) (w % 4294967296)
+        → c ≡ mixed seed b 0 → q ≡ mixed seed c 0 → FoldedHash seed s p q
+    unfolding streamedHash streamHash
+    streaming-done z i j x y =
+        let e : end - at ≡ 0 = omega arith in
+        record { is = y ∙ rw (x, j, i) (sym (ap (ended seed) (l .leads ∙ ap (streamHash seed h w k) (ap foldBytes (ap (λ n. part s at n) e) ∙ fold-nil)))) }
+
+pub ruleset hashing = (short-none, short-three, short-words, lanes-joined, blocks-start, blocks-second, blocks-room, blocks-more, blocks-end, text-hash, ended-hash, package-hash, hash-field, hash-method, hash-identity, hash-alike)
+
+pub ruleset streams = (pushed-full, pushed-more, pushed-letter, taken-stays, taken-letter, taken-room, streaming-start, streaming-some, streaming-more, streaming-done)

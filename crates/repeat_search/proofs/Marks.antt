@@ -8,14 +8,16 @@ use lib.ListN.{length, getD}
 use lib.Bits.{bitAnd, bitOr}
 use borrow.Author.Count.{below-more}
 use Rattle.format.specs.Reading.{little, part}
+use Rattle.in_place.specs.declared.Item.{Item}
 use Rattle.in_place.specs.declared.Table.{Table}
+use Rattle.in_place.specs.declared.Table.the-variants.{Fields, Methods, Identities, Alike}
 use Rattle.in_place.specs.Tables.{formatIn}
 use Rattle.in_place.specs.Contract.{TextAt, WordIs, Past, Items}
 use Rattle.in_place.proofs.Texts.{piece, text-part, text-length}
 use Rattle.in_place.proofs.Walking.{Walking, walking-start, walking-next}
 use Rattle.repeat_search.specs.Keys.{Key, repeatAt, FirstRepeat}
-use Rattle.repeat_search.specs.Tables.{keysAt, MarkIs, Standing}
-use Rattle.repeat_search.specs.Marks.{markOf, Marked, AllNew}
+use Rattle.repeat_search.specs.Tables.{keysAt, markIn, TextMark, MarkIs, FoldedHash, Standing}
+use Rattle.repeat_search.specs.Marks.{bit, markOf, streamedMark, Marked, AllNew}
 use Rattle.repeat_search.proofs.Bits.{bits-stay, bits-set}
 use Rattle.repeat_search.proofs.Keys.{repeat-none}
 use Rattle.repeat_search.proofs.Tables.{walking-stands, standing-text, standing-name}
@@ -39,26 +41,43 @@ last-byte (suc n) {s} {p} h e =
     let i : p + 3 + suc n ≡ p + 4 + (suc n - 1) = omega arith in
     rw i (sym (byte-in s (p + 4) (suc n) (suc n - 1) (omega arith)))
 
-pub mark-is : {s : List ℕ} {p n b q : ℕ} → TextAt s p → WordIs s p n → b ≡ getD s (p + 3 + n) 0
-    → q ≡ 1 * 2 ^ ((n + b) % 64) % 2 ^ 64 → MarkIs s p q
+pub text-mark : {s : List ℕ} {p n b q : ℕ} → TextAt s p → WordIs s p n → b ≡ getD s (p + 3 + n) 0 → q ≡ bit (n + b)
+    → TextMark s p q
 unfolding markOf
-mark-is {s} {p} {n} h e i j = record { is = j ∙ rw (i, text-length h e, text-part h e, last-byte n h e) }
+text-mark {s} {p} {n} h e i j = record { is = j ∙ rw (i, text-length h e, text-part h e, last-byte n h e) }
+
+-- the answers of `mark`
+module _ {t : Table} {s : List ℕ} {p q : ℕ} where
+  pub mark-field : t ≡ Fields → TextMark s p q → MarkIs t s p q
+  mark-field e w = rw e (record { is = w .is })
+
+  pub mark-method : {i : Item} → t ≡ Methods i → TextMark s p q → MarkIs t s p q
+  mark-method e w = rw e (record { is = w .is })
+
+  pub mark-identity : t ≡ Identities → TextMark s p q → MarkIs t s p q
+  mark-identity e w = rw e (record { is = w .is })
+
+  pub mark-alike : {i : Item} {h : ℕ} → t ≡ Alike i → FoldedHash 2654435761 s p h → q ≡ bit h → MarkIs t s p q
+  unfolding streamedMark
+  mark-alike e w i = rw e (record { is = i ∙ rw (w .is) })
+
+pub ruleset marking = (text-mark, mark-field, mark-method, mark-identity, mark-alike)
 
 -- ---- the marks of the keys before
-module _ {t : Table} {s : List ℕ} {from i p m q : ℕ} (w : Standing t s from i p) (l : Marked (keysAt t s from) i m) (e : MarkIs s p q) where
-  mark-at : q ≡ markOf (keysAt t s from i .name)
-  mark-at = e .is ∙ ap markOf (sym (standing-name w))
+module _ {t : Table} {s : List ℕ} {from i p m q : ℕ} (w : Standing t s from i p) (l : Marked (markIn t) (keysAt t s from) i m) (e : MarkIs t s p q) where
+  mark-at : q ≡ markIn t (keysAt t s from i .name)
+  mark-at = e .is ∙ ap (markIn t) (sym (standing-name w))
 
   pub mark-new : (bitAnd m q ≡ q → ⊥) → false ≡ repeatAt (keysAt t s from) i
-  mark-new h = sym (repeat-none (keysAt t s from) i (λ k d x y. h (let z : q ≡ markOf (keysAt t s from k .name) = mark-at ∙ ap markOf x in rw z (l .has k d))))
+  mark-new h = sym (repeat-none (keysAt t s from) i (λ k d x y. h (let z : q ≡ markIn t (keysAt t s from k .name) = mark-at ∙ ap (markIn t) x in rw z (l .has k d))))
 
-  pub marked-more : Marked (keysAt t s from) (i + 1) (bitOr m q)
-  marked-more = record { has = below-more _ i (λ k d. bits-stay m q (markOf (keysAt t s from k .name)) (l .has k d)) (let z = mark-at in rw (← z) (bits-set m q)) }
+  pub marked-more : Marked (markIn t) (keysAt t s from) (i + 1) (bitOr m q)
+  marked-more = record { has = below-more _ i (λ k d. bits-stay m q (markIn t (keysAt t s from k .name)) (l .has k d)) (let z = mark-at in rw (← z) (bits-set m q)) }
 
 -- ---- the loop of `scan`
 pub record Scanning (t : Table) (s : List ℕ) (from n p i m : ℕ) : Type 0 where
   pub walk : Walking (formatIn t) s from n p i
-  pub marked : Marked (keysAt t s from) i m
+  pub marked : Marked (markIn t) (keysAt t s from) i m
   pub new : (k : ℕ) → k < i → repeatAt (keysAt t s from) k ≡ false
 
 module _ {t : Table} {s : List ℕ} {from n : ℕ} where
@@ -73,20 +92,20 @@ module _ {t : Table} {s : List ℕ} {from n : ℕ} where
       pub scanning-text : TextAt s p
       scanning-text = standing-text {t = t} (walking-stands h (l .walk))
 
-      pub scanning-asks : {q : ℕ} → MarkIs s p q → Standing t s from i p × Marked (keysAt t s from) i m × MarkIs s p q
+      pub scanning-asks : {q : ℕ} → MarkIs t s p q → Standing t s from i p × Marked (markIn t) (keysAt t s from) i m × MarkIs t s p q
       scanning-asks e = (walking-stands h (l .walk), l .marked, e)
 
       module _ {b : Bool} (e : b ≡ repeatAt (keysAt t s from) i) where
         pub scanning-found : b ≡ true → FirstRepeat (keysAt t s from) n i
         scanning-found r = record { within = omega arith; new = l .new; found = λ d. sym e ∙ r }
 
-        pub scanning-more : {q z : ℕ} → b ≡ false → MarkIs s p q → Past (formatIn t) s p z
+        pub scanning-more : {q z : ℕ} → b ≡ false → MarkIs t s p q → Past (formatIn t) s p z
             → Scanning t s from n z (i + 1) (bitOr m q)
         scanning-more r g w =
             record { walk = walking-next h (l .walk) w; marked = marked-more (walking-stands h (l .walk)) (l .marked) g; new = below-more _ i (l .new) (sym e ∙ r) }
 
       -- an item whose mark is new
-      pub scanning-new : {q z : ℕ} → MarkIs s p q → (bitAnd m q ≡ q → ⊥) → Past (formatIn t) s p z
+      pub scanning-new : {q z : ℕ} → MarkIs t s p q → (bitAnd m q ≡ q → ⊥) → Past (formatIn t) s p z
           → Scanning t s from n z (i + 1) (bitOr m q)
       scanning-new e d w = scanning-more (mark-new (walking-stands h (l .walk)) (l .marked) e d) refl e w
 

@@ -11,14 +11,15 @@ use Rattle.format.specs.Reading.{same}
 use Rattle.format.specs.TraceTheorems.{trace-within}
 use Rattle.vob24.specs.Questions.{amongIdentities}
 use Rattle.in_place.specs.declared.Item.{Item}
+use Rattle.in_place.specs.declared.Item.the-variants.{Name, StructField, InterfaceMethod, RuntimeMethod, NamedMethod, RuntimeField}
 use Rattle.in_place.specs.declared.Table.{Table}
-use Rattle.in_place.specs.declared.Table.the-variants.{Fields, Methods, Identities}
+use Rattle.in_place.specs.declared.Table.the-variants.{Fields, Methods, Identities, Alike}
 use Rattle.in_place.specs.Walk.{AllStand, valueAt, nextAt, itemsAt, lastAt}
 use Rattle.in_place.specs.Items.{nameOf, textAt}
-use Rattle.in_place.specs.Tables.{itemOf, formatIn, packageOf, keyOf}
+use Rattle.in_place.specs.Tables.{itemOf, formatIn, packageOf, keyName, keyOf, keyText}
 use Rattle.in_place.specs.Contract.{TextAt, BlankIs, Placed, Past, Items, Seen}
 use Rattle.in_place.proofs.Places.{item-name}
-use Rattle.in_place.proofs.Keys.{key-name}
+use Rattle.in_place.proofs.Keys.{name-content, key-name}
 use Rattle.in_place.proofs.Walking.{Walking, walking-at, items-here, items-next}
 use Rattle.repeat_search.specs.Keys.{among, repeatAt}
 use Rattle.repeat_search.specs.Tables.{exempt, repeats, keyIn, keyAt, keysAt, ExemptIs, Standing, Within}
@@ -30,7 +31,7 @@ keys-among : (t : Table) (s : List ℕ) (v : Value) (n from : ℕ)
 unfolding among amongIdentities itemsAt lastAt keysAt pick
 keys-among t s v zero from = refl
 keys-among t s v (suc n) from =
-    go (same (content (nameOf (itemOf t) v)) (content (nameOf (itemOf t) (valueAt (formatIn t) s from)))) (same (content (packageOf t v)) (content (packageOf t (valueAt (formatIn t) s from)))) (keys-among t s v n (nextAt (formatIn t) s from))
+    go (same (content (keyName t v)) (content (keyName t (valueAt (formatIn t) s from)))) (same (content (packageOf t v)) (content (packageOf t (valueAt (formatIn t) s from)))) (keys-among t s v n (nextAt (formatIn t) s from))
   where
     go : (b c : Bool) {r z : Bool} → r ≡ z → pick (pick b c false) true r ≡ pick b (pick c true z) z
     go true true e = refl
@@ -59,6 +60,29 @@ module _ {t : Table} {s : List ℕ} {p : ℕ} where
   pub exempt-identity : {q : Bool} → t ≡ Identities → BlankIs s p q → ExemptIs t s p q
   exempt-identity e h = rw e (record { is = h .is })
 
+  pub exempt-alike : {i : Item} {q : Bool} → t ≡ Alike i → ExemptIs (Alike i) s p q → ExemptIs t s p q
+  exempt-alike e h = rw e h
+
+-- the answers of `exempt_item`
+module _ {i : Item} {s : List ℕ} {p : ℕ} where
+  pub exempt-blank : {q : Bool} → i ≡ StructField → BlankIs s p q → ExemptIs (Alike i) s p q
+  exempt-blank e h = rw e (record { is = h .is })
+
+  pub exempt-name : i ≡ Name → ExemptIs (Alike i) s p false
+  exempt-name e = rw e (record { is = refl })
+
+  pub exempt-interface : i ≡ InterfaceMethod → ExemptIs (Alike i) s p false
+  exempt-interface e = rw e (record { is = refl })
+
+  pub exempt-runtime : i ≡ RuntimeMethod → ExemptIs (Alike i) s p false
+  exempt-runtime e = rw e (record { is = refl })
+
+  pub exempt-named : i ≡ NamedMethod → ExemptIs (Alike i) s p false
+  exempt-named e = rw e (record { is = refl })
+
+  pub exempt-runtime-field : i ≡ RuntimeField → ExemptIs (Alike i) s p false
+  exempt-runtime-field e = rw e (record { is = refl })
+
 module _ {t : Table} {s : List ℕ} {from i p : ℕ} (h : Standing t s from i p) where
   pub standing-text : TextAt s p
   standing-text = item-name (itemOf t) (h .after .here)
@@ -67,7 +91,7 @@ module _ {t : Table} {s : List ℕ} {from i p : ℕ} (h : Standing t s from i p)
   unfolding keysAt
   standing-key = rw (h .place)
 
-  pub standing-name : keysAt t s from i .name ≡ textAt s p
+  pub standing-name : keysAt t s from i .name ≡ keyText t s p
   standing-name = rw standing-key (key-name t (h .after .here .stands))
 
   pub repeat-is : repeatAt (keysAt t s from) i ≡ repeats t (itemsAt (formatIn t) i s from) (valueAt (formatIn t) s p)
@@ -75,7 +99,7 @@ module _ {t : Table} {s : List ℕ} {from i p : ℕ} (h : Standing t s from i p)
 
   module _ {b : Bool} (w : ExemptIs t s p b) where
     exempt-is : keysAt t s from i .exempt ≡ b
-    exempt-is = rw standing-key (ap (exempt t) (key-name t (h .after .here .stands)) ∙ sym (w .is))
+    exempt-is = rw standing-key (ap (exempt t) (name-content (itemOf t) (h .after .here .stands)) ∙ sym (w .is))
 
     pub standing-exempt : b ≡ true → repeatAt (keysAt t s from) i ≡ false
     standing-exempt e = repeat-exempt (keysAt t s from) i (exempt-is ∙ e)
@@ -83,7 +107,7 @@ module _ {t : Table} {s : List ℕ} {from i p : ℕ} (h : Standing t s from i p)
     pub standing-seen : {q : Bool} → b ≡ false → Seen t s from i p q → repeatAt (keysAt t s from) i ≡ q
     standing-seen e v = repeat-asked (keysAt t s from) i (exempt-is ∙ e) ∙ rw standing-key (keys-among t s (valueAt (formatIn t) s p) i from ∙ sym (v .is))
 
-pub ruleset standing = (walking-stands, exempt-field, exempt-method, exempt-identity)
+pub ruleset standing = (walking-stands, exempt-field, exempt-method, exempt-identity, exempt-alike, exempt-blank, exempt-name, exempt-interface, exempt-runtime, exempt-named, exempt-runtime-field)
 
 -- ---- fewer items
 stand-less : (f : Format) (s : List ℕ) (m n p : ℕ) → m ≤ n → AllStand f n s p → AllStand f m s p

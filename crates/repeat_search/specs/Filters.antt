@@ -9,8 +9,7 @@ use Rattle.repeat_search.specs.declared.Probe.{Probe}
 use Rattle.repeat_search.specs.declared.Probe.the-variants.{Repeat, TooMany, Next}
 use Rattle.repeat_search.specs.declared.Outcome.{Outcome}
 use Rattle.repeat_search.specs.declared.Outcome.the-variants.{First, GaveUp}
-use Rattle.repeat_search.specs.Keys.{Key, repeatAt, FirstRepeat}
-use Rattle.repeat_search.specs.Hashes.{keyHash}
+use Rattle.repeat_search.specs.Keys.{Key, hashOf, repeatAt, FirstRepeat}
 
 -- ---- a hash in a filter
 
@@ -66,31 +65,31 @@ pub record Noted (lo hi h : ℕ) (filter filter′ suspects suspects′ : List �
 -- ---- the hashes of keys in a filter, those of a kind
 
 -- each of the first i that is of the kind is in the filter
-pub record Filter (Kind : ℕ → Type 0) (seed : ℕ) (keys : ℕ → Key) (i : ℕ) (filter : List ℕ) : Type 0 where
+pub record Filter (Kind : ℕ → Type 0) (hash : List ℕ → List ℕ → ℕ) (keys : ℕ → Key) (i : ℕ) (filter : List ℕ) : Type 0 where
   pub size : 0 < length filter
-  pub has : (k : ℕ) → k < i → Kind (keyHash seed (keys k)) → Has filter (keyHash seed (keys k))
+  pub has : (k : ℕ) → k < i → Kind (hashOf hash (keys k)) → Has filter (hashOf hash (keys k))
 
 -- what is told of key i
-pub data Probed (Kind : ℕ → Type 0) (seed : ℕ) (keys : ℕ → Key) (i : ℕ) (filter : List ℕ) : Probe → Type 0 where
-  isRepeat : repeatAt keys i ≡ true → Probed Kind seed keys i filter Repeat
-  isTooMany : Probed Kind seed keys i filter TooMany
-  isNext : {left : ℕ} → Filter Kind seed keys (i + 1) filter → (Kind (keyHash seed (keys i)) → repeatAt keys i ≡ false)
-      → Probed Kind seed keys i filter (Next left)
+pub data Probed (Kind : ℕ → Type 0) (hash : List ℕ → List ℕ → ℕ) (keys : ℕ → Key) (i : ℕ) (filter : List ℕ) : Probe → Type 0 where
+  isRepeat : repeatAt keys i ≡ true → Probed Kind hash keys i filter Repeat
+  isTooMany : Probed Kind hash keys i filter TooMany
+  isNext : {left : ℕ} → Filter Kind hash keys (i + 1) filter → (Kind (hashOf hash (keys i)) → repeatAt keys i ≡ false)
+      → Probed Kind hash keys i filter (Next left)
 
 -- the first repeat among n keys, of those of the kind
-pub record Passed (Kind : ℕ → Type 0) (seed : ℕ) (keys : ℕ → Key) (n q : ℕ) : Type 0 where
+pub record Passed (Kind : ℕ → Type 0) (hash : List ℕ → List ℕ → ℕ) (keys : ℕ → Key) (n q : ℕ) : Type 0 where
   pub within : q ≤ n
-  pub new : (k : ℕ) → k < q → Kind (keyHash seed (keys k)) → repeatAt keys k ≡ false
+  pub new : (k : ℕ) → k < q → Kind (hashOf hash (keys k)) → repeatAt keys k ≡ false
   pub found : q < n → repeatAt keys q ≡ true
 
-pub data PassedOr (Kind : ℕ → Type 0) (seed : ℕ) (keys : ℕ → Key) (n : ℕ) : Outcome → Type 0 where
-  passed : {q : ℕ} → Passed Kind seed keys n q → PassedOr Kind seed keys n (First q)
-  gaveUp : PassedOr Kind seed keys n GaveUp
+pub data PassedOr (Kind : ℕ → Type 0) (hash : List ℕ → List ℕ → ℕ) (keys : ℕ → Key) (n : ℕ) : Outcome → Type 0 where
+  passed : {q : ℕ} → Passed Kind hash keys n q → PassedOr Kind hash keys n (First q)
+  gaveUp : PassedOr Kind hash keys n GaveUp
 
 -- each of n keys of such a class that repeats one before it is a suspect
-pub record Suspects (lo hi seed : ℕ) (keys : ℕ → Key) (n : ℕ) (suspects : List ℕ) : Type 0 where
-  pub has : (k : ℕ) → k < n → Classed lo hi (keyHash seed (keys k)) → repeatAt keys k ≡ true
-      → Has suspects (keyHash seed (keys k))
+pub record Suspects (lo hi : ℕ) (hash : List ℕ → List ℕ → ℕ) (keys : ℕ → Key) (n : ℕ) (suspects : List ℕ) : Type 0 where
+  pub has : (k : ℕ) → k < n → Classed lo hi (hashOf hash (keys k)) → repeatAt keys k ≡ true
+      → Has suspects (hashOf hash (keys k))
 
 pub data FirstOr (keys : ℕ → Key) (n : ℕ) : Outcome → Type 0 where
   first : {q : ℕ} → FirstRepeat keys n q → FirstOr keys n (First q)

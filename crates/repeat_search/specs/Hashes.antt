@@ -1,13 +1,16 @@
--- The hash of a key, under a seed: keys that are the same have the same hash.
+-- The hash of a key's bytes, under a seed.
 use Prim.Native.Nat.{ℕ, suc, zero, _+_, _-_, _*_, _/_, _%_, _≤_, _<_}
 use mathlib.Core.Path.{_≡_}
-use mathlib.Core.List.{List}
+use mathlib.Core.List.{List, [], _∷_}
 use lib.ListN.{length, getD}
 use lib.Bits.{bitXor}
 use lib.Dec.{eqb, ltb}
 use Rattle.format.specs.Trace.{pick}
 use Rattle.format.specs.Reading.{little, part}
-use Rattle.repeat_search.specs.Keys.{Key}
+use Rattle.folding.specs.Bytes.{foldBytes}
+use Rattle.folding.specs.Contract.{span}
+use Rattle.repeat_search.specs.declared.Stream.{Stream}
+use Rattle.repeat_search.specs.declared.Taken.{Taken}
 
 abbrev pub mixed : ℕ → ℕ → ℕ → ℕ
 mixed seed h w = bitXor h w % 4294967296 * seed + bitXor h w / 4294967296
@@ -44,8 +47,23 @@ bytesHash seed h x = pick (ltb (length x) 8) (shortHash seed h x) (lanesHash see
 unfoldable pub textHash : ℕ → ℕ → List ℕ → ℕ
 textHash seed h x = bytesHash seed (mixed seed h (length x)) x
 
-unfoldable pub keyHash : ℕ → Key → ℕ
-keyHash seed x = mixed seed (mixed seed (textHash seed (textHash seed 0 (x .packageName)) (x .name)) 0) 0
+-- bytes that come one by one: w has the last k of them, fewer than eight
+unfoldable pub streamHash : ℕ → ℕ → ℕ → ℕ → List ℕ → ℕ
+streamHash seed h w k [] = folded seed (mixed seed h k) (w / 4294967296 % 4294967296) (w % 4294967296)
+streamHash seed h w k (b ∷ bs) =
+    let v = w % 72057594037927936 * 256 + b in
+    pick (eqb k 7) (streamHash seed (folded seed h (v / 4294967296) (v % 4294967296)) 0 0 bs) (streamHash seed h v (k + 1) bs)
+
+abbrev pub ended : ℕ → ℕ → ℕ
+ended seed h = mixed seed (mixed seed h 0) 0
+
+-- of a name and its package
+unfoldable pub plainHash : ℕ → List ℕ → List ℕ → ℕ
+plainHash seed x y = ended seed (textHash seed (textHash seed 0 y) x)
+
+-- of a name whose bytes come one by one, with no package
+unfoldable pub streamedHash : ℕ → List ℕ → List ℕ → ℕ
+streamedHash seed x y = ended seed (streamHash seed seed 0 0 x)
 
 -- ---- of bytes in a row: what the code asks and tells
 
@@ -59,3 +77,27 @@ pub record JoinIs (seed lane1 lane2 : ℕ) (s : List ℕ) (p end q : ℕ) : Type
 
 pub record HashIs (seed h : ℕ) (x : List ℕ) (q : ℕ) : Type 0 where
   pub is : q ≡ bytesHash seed h x
+
+-- one byte more
+pub record Pushed (seed h w k b : ℕ) (q : Stream) : Type 0 where
+  pub is : (bs : List ℕ) → streamHash seed h w k (b ∷ bs) ≡ streamHash seed (q .hash) (q .word) (q .count) bs
+  pub few : q .count ≤ 7
+
+-- a letter's: base letter, CC, last byte of the mark
+pub record PushedLetter (seed h w k f : ℕ) (q : Stream) : Type 0 where
+  pub is : (bs : List ℕ) → streamHash seed h w k (f / 256 ∷ 0xcc ∷ f % 256 ∷ bs) ≡ streamHash seed (q .hash) (q .word) (q .count) bs
+  pub few : q .count ≤ 7
+
+-- the folded bytes from a place to an end, of which some were taken in
+pub record TakenIn (seed : ℕ) (s : List ℕ) (at end h w k : ℕ) (q : Taken) : Type 0 where
+  pub is : streamHash seed h w k (foldBytes (span s at end)) ≡ streamHash seed (q .stream .hash) (q .stream .word) (q .stream .count) (foldBytes (span s (q .at) end))
+  pub few : q .stream .count ≤ 7
+  pub on : at < q .at
+  pub within : q .at ≤ end
+
+-- bytes from a place to an end that are to be hashed
+pub record Streams (seed : ℕ) (s : List ℕ) (at end k : ℕ) : Type 0 where
+  pub some : at < end
+  pub room : end ≤ length s
+  pub small : seed < 4294967296
+  pub few : k ≤ 7

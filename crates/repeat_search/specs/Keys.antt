@@ -24,6 +24,10 @@ among x (suc n) keys = pick (sameKey x (keys 0)) true (among x n (λ k. keys (su
 unfoldable pub repeatAt : (ℕ → Key) → ℕ → Bool
 repeatAt keys i = pick (keys i .exempt) false (among (keys i) i keys)
 
+-- the hash of a key, by its name and its package
+abbrev pub hashOf : (List ℕ → List ℕ → ℕ) → Key → ℕ
+hashOf hash x = hash (x .name) (x .packageName)
+
 -- q is the first of n keys that repeats one before it, or n.
 pub record FirstRepeat (keys : ℕ → Key) (n q : ℕ) : Type 0 where
   pub within : q ≤ n

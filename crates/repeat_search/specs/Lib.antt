@@ -1,5 +1,5 @@
 pub mod Keys
-pub mod Marks
 pub mod Hashes
+pub mod Marks
 pub mod Filters
 pub mod Tables

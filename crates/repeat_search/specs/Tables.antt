@@ -8,28 +8,41 @@ use Rattle.format.specs.Trace.{pick}
 use Rattle.format.specs.Format.{Value, content}
 use Rattle.format.specs.Reading.{same}
 use Rattle.vob24.specs.Questions.{amongIdentities}
+use Rattle.folding.specs.Bytes.{foldBytes}
+use Rattle.in_place.specs.declared.Item.{Item}
+use Rattle.in_place.specs.declared.Item.the-variants.{Name, StructField, InterfaceMethod, RuntimeMethod, NamedMethod, RuntimeField}
 use Rattle.in_place.specs.declared.Table.{Table}
-use Rattle.in_place.specs.declared.Table.the-variants.{Fields, Methods, Identities}
+use Rattle.in_place.specs.declared.Table.the-variants.{Fields, Methods, Identities, Alike}
 use Rattle.in_place.specs.Walk.{valueAt, lastAt}
 use Rattle.in_place.specs.Items.{nameOf, textAt}
-use Rattle.in_place.specs.Tables.{itemOf, formatIn, packageOf, keyOf, packageText}
+use Rattle.in_place.specs.Tables.{itemOf, formatIn, packageOf, keyName, keyOf, keyText, packageText}
 use Rattle.in_place.specs.Contract.{After}
-use Rattle.repeat_search.specs.Keys.{Key}
-use Rattle.repeat_search.specs.Marks.{markOf}
-use Rattle.repeat_search.specs.Hashes.{textHash, keyHash}
+use Rattle.repeat_search.specs.Keys.{Key, hashOf}
+use Rattle.repeat_search.specs.Marks.{markOf, streamedMark}
+use Rattle.repeat_search.specs.Hashes.{textHash, ended, plainHash, streamedHash}
+
+-- among the struct fields of names alike
+abbrev exemptItem : Item → List ℕ → Bool
+exemptItem Name x = false
+exemptItem StructField x = same x (95 ∷ [])
+exemptItem InterfaceMethod x = false
+exemptItem RuntimeMethod x = false
+exemptItem NamedMethod x = false
+exemptItem RuntimeField x = false
 
 -- "_" is exempt in 16 and 19
 abbrev pub exempt : Table → List ℕ → Bool
 exempt Fields x = same x (95 ∷ [])
 exempt (Methods i) x = false
 exempt Identities x = same x (95 ∷ [])
+exempt (Alike i) x = exemptItem i x
 
 -- whether an item repeats one of those before it, by their values
 unfoldable pub repeats : Table → List Value → Value → Bool
 repeats t before v = pick (exempt t (content (nameOf (itemOf t) v))) false (amongIdentities (keyOf t v) (map (keyOf t) before))
 
 abbrev pub keyIn : Table → Value → Key
-keyIn t v = record { name = content (nameOf (itemOf t) v); packageName = content (packageOf t v); exempt = exempt t (content (nameOf (itemOf t) v)) }
+keyIn t v = record { name = content (keyName t v); packageName = content (packageOf t v); exempt = exempt t (content (nameOf (itemOf t) v)) }
 
 -- the key of the item at p, and of item k of those from a place on
 abbrev pub keyAt : Table → List ℕ → ℕ → Key
@@ -38,25 +51,48 @@ keyAt t s p = keyIn t (valueAt (formatIn t) s p)
 unfoldable pub keysAt : Table → List ℕ → ℕ → ℕ → Key
 keysAt t s from k = keyAt t s (lastAt (formatIn t) k s from)
 
+-- the hash of a key, by its name and its package
+abbrev pub keyHash : Table → ℕ → List ℕ → List ℕ → ℕ
+keyHash Fields seed = plainHash seed
+keyHash (Methods i) seed = plainHash seed
+keyHash Identities seed = plainHash seed
+keyHash (Alike i) seed = streamedHash seed
+
+-- the mark of its name
+abbrev pub markIn : Table → List ℕ → ℕ
+markIn Fields = markOf
+markIn (Methods i) = markOf
+markIn Identities = markOf
+markIn (Alike i) = streamedMark
+
 -- ---- what the code tells of the item at p
 
 pub record ExemptIs (t : Table) (s : List ℕ) (p : ℕ) (q : Bool) : Type 0 where
   pub is : q ≡ exempt t (textAt s p)
 
--- its name's mark
-pub record MarkIs (s : List ℕ) (p q : ℕ) : Type 0 where
+-- the mark of the text at p, and of the item's name
+pub record TextMark (s : List ℕ) (p q : ℕ) : Type 0 where
   pub is : q ≡ markOf (textAt s p)
 
--- the hash of the text at p
+pub record MarkIs (t : Table) (s : List ℕ) (p q : ℕ) : Type 0 where
+  pub is : q ≡ markIn t (keyText t s p)
+
+-- the hash of the text at p, as a key's after that of a package, and folded
 pub record TextHash (seed h : ℕ) (s : List ℕ) (p q : ℕ) : Type 0 where
   pub is : q ≡ textHash seed h (textAt s p)
 
--- of its package, and of its key
-pub record PackageHash (seed : ℕ) (t : Table) (s : List ℕ) (p q : ℕ) : Type 0 where
-  pub is : q ≡ textHash seed 0 (packageText t s p)
+pub record EndedHash (seed h : ℕ) (s : List ℕ) (p q : ℕ) : Type 0 where
+  pub is : q ≡ ended seed (textHash seed h (textAt s p))
+
+pub record FoldedHash (seed : ℕ) (s : List ℕ) (p q : ℕ) : Type 0 where
+  pub is : q ≡ streamedHash seed (foldBytes (textAt s p)) []
+
+-- of the package of a runtime struct's field, and of a key
+pub record PackageHash (seed : ℕ) (s : List ℕ) (p q : ℕ) : Type 0 where
+  pub is : q ≡ textHash seed 0 (packageText Identities s p)
 
 pub record KeyHash (seed : ℕ) (t : Table) (s : List ℕ) (p q : ℕ) : Type 0 where
-  pub is : q ≡ keyHash seed (keyAt t s p)
+  pub is : q ≡ hashOf (keyHash t seed) (keyAt t s p)
 
 -- ---- its place among the items
 

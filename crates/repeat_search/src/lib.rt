@@ -5,13 +5,15 @@ ghost use mathlib.Core.Path.{_≡_};
 ghost use Prim.Native.Nat.{_+_, _≤_, _<_};
 ghost use lib.ListN.{length};
 ghost use Rattle.format.specs.Reading.{part};
+ghost use Rattle.vob24.specs.Grammar.{runtimeField};
 ghost use Rattle.in_place.specs.Tables.{formatIn};
 ghost use Rattle.repeat_search.specs.Keys.{repeatAt, FirstRepeat};
 ghost use Rattle.repeat_search.specs.Marks.{Marked, AllNew};
-ghost use Rattle.repeat_search.specs.Hashes.{mixed, folded, secondSeed, PartAt, JoinIs, HashIs};
+ghost use Rattle.repeat_search.specs.Hashes.{mixed, folded, secondSeed, PartAt, JoinIs, HashIs, Pushed, PushedLetter, Streams, TakenIn};
 ghost use Rattle.repeat_search.specs.Filters.{maskOf, Lacks, Entered, Outside, Classed, Chosen, Noted, Filter, Probed, PassedOr, Suspects, FirstOr};
-ghost use Rattle.repeat_search.specs.Tables.{keysAt, ExemptIs, MarkIs, TextHash, PackageHash, KeyHash, Standing, Within};
+ghost use Rattle.repeat_search.specs.Tables.{keysAt, keyHash, markIn, ExemptIs, TextMark, MarkIs, TextHash, EndedHash, FoldedHash, PackageHash, KeyHash, Standing, Within};
 ghost use Rattle.in_place.specs.Contract.{TextAt, Placed, Items};
+use in_place::Item;
 use in_place::Table;
 
 // Below this many items: one word of marks.
@@ -41,6 +43,21 @@ enum Outcome {
 
 // ---- whether an item repeats one before it
 
+// Among names that print alike, may the name at p be repeated?
+fn exempt_item(s: &[u8], item: Item, p: usize) -> bool
+    requires { ⌜ TextAt (now s) p ⌝ }
+    ensures { λ q. ⌜ ExemptIs (Table.Alike item) (now (s .entry)) p q ⌝ }
+{
+    match item {
+        Item::Name => false,
+        Item::StructField => in_place::blank(s, p),
+        Item::InterfaceMethod => false,
+        Item::RuntimeMethod => false,
+        Item::NamedMethod => false,
+        Item::RuntimeField => false,
+    }
+}
+
 // May the name at p be repeated?
 fn exempt(s: &[u8], table: Table, p: usize) -> bool
     requires { ⌜ TextAt (now s) p ⌝ }
@@ -50,6 +67,7 @@ fn exempt(s: &[u8], table: Table, p: usize) -> bool
         Table::Fields => in_place::blank(s, p),
         Table::Methods(_) => false,
         Table::Identities => in_place::blank(s, p),
+        Table::Alike(item) => exempt_item(s, item, p),
     }
 }
 
@@ -60,18 +78,31 @@ fn wide(b: u8) -> u64
 }
 
 // A bit for the text at p, by its length and its last byte. For an empty text the last byte is that of its length word.
-fn mark(s: &[u8], p: usize) -> u64
+fn mark_text(s: &[u8], p: usize) -> u64
     requires { ⌜ TextAt (now s) p ⌝ }
-    ensures { λ q. ⌜ MarkIs (now (s .entry)) p q ⌝ }
+    ensures { λ q. ⌜ TextMark (now (s .entry)) p q ⌝ }
 {
     let n = in_place::word_at(s, p);
     1 << ((n as u64 + wide(s[p + 3 + n])) % 64)
 }
 
+// A bit for the name at p: where names are folded, by its hash.
+fn mark(s: &[u8], table: Table, p: usize) -> u64
+    requires { ⌜ TextAt (now s) p ⌝ }
+    ensures { λ q. ⌜ MarkIs table (now (s .entry)) p q ⌝ }
+{
+    match table {
+        Table::Fields => mark_text(s, p),
+        Table::Methods(_) => mark_text(s, p),
+        Table::Identities => mark_text(s, p),
+        Table::Alike(_) => 1 << (hash_folded(s, p, 2654435761) % 64),
+    }
+}
+
 // Does the item at p, which has the mark m, repeat one of the i before it? It repeats none if its mark is new.
 fn repeats_one(s: &[u8], table: Table, from: usize, i: usize, p: usize, marks: u64, m: u64) -> bool
-    requires { ⌜ (Standing table (now s) from i p) × (Marked (keysAt table (now s) from) i marks)
-        × (MarkIs (now s) p m) ⌝ }
+    requires { ⌜ (Standing table (now s) from i p) × (Marked (markIn table) (keysAt table (now s) from) i marks)
+        × (MarkIs table (now s) p m) ⌝ }
     ensures { λ q. ⌜ q ≡ repeatAt (keysAt table (now (s .entry)) from) i ⌝ }
 {
     let x = marks & m;
@@ -93,7 +124,7 @@ fn all_new(s: &[u8], table: Table, from: usize, n: usize) -> bool
     let mut i = 0;
     let mut marks: u64 = 0;
     while i < n {
-        let m = mark(s, p);
+        let m = mark(s, table, p);
         let x = marks & m;
         if x == m {
             return false;
@@ -115,7 +146,7 @@ fn scan(s: &[u8], table: Table, from: usize, n: usize) -> usize
     let mut i = 0;
     let mut marks: u64 = 0;
     while i < n {
-        let m = mark(s, p);
+        let m = mark(s, table, p);
         if repeats_one(s, table, from, i, p, marks, m) {
             return i;
         }
@@ -234,27 +265,124 @@ fn hash_text(s: &[u8], p: usize, seed: u64, h: u64) -> u64
     hash_bytes(s, p + 4, n, seed, mix(seed, h, n as u64))
 }
 
-// No package has the hash of an empty one.
-fn hash_package(s: &[u8], table: Table, p: usize, seed: u64) -> u64
-    requires { ⌜ (Placed (formatIn table) (now s) p) × (seed < 4294967296) ⌝ }
-    ensures { λ q. ⌜ PackageHash seed table (now (s .entry)) p q ⌝ }
+// Extends the hash h, of the package, by the name at p.
+fn hash_name(s: &[u8], p: usize, seed: u64, h: u64) -> u64
+    requires { ⌜ (TextAt (now s) p) × (seed < 4294967296) ⌝ }
+    ensures { λ q. ⌜ EndedHash seed h (now (s .entry)) p q ⌝ }
 {
-    match table {
-        Table::Fields => 0,
-        Table::Methods(_) => 0,
-        Table::Identities => {
-            let package = in_place::package_at(s, p);
-            hash_text(s, package, seed, 0)
-        }
+    let x = hash_text(s, p, seed, h);
+    mix(seed, mix(seed, x, 0), 0)
+}
+
+// Of the runtime struct's field at p.
+fn hash_package(s: &[u8], p: usize, seed: u64) -> u64
+    requires { ⌜ (Placed runtimeField (now s) p) × (seed < 4294967296) ⌝ }
+    ensures { λ q. ⌜ PackageHash seed (now (s .entry)) p q ⌝ }
+{
+    let package = in_place::package_at(s, p);
+    hash_text(s, package, seed, 0)
+}
+
+// A hash of bytes that come one by one: the last of them, fewer than eight, are in `word`.
+struct Stream {
+    hash: u64,
+    word: u64,
+    count: u64,
+}
+
+fn push(seed: u64, hash: u64, word: u64, count: u64, b: u64) -> Stream
+    requires { ⌜ (seed < 4294967296) × (count ≤ 7) × (b < 256) ⌝ }
+    ensures { λ q. ⌜ Pushed seed hash word count b q ⌝ }
+{
+    let w = word % 72057594037927936 * 256 + b;
+    if count == 7 {
+        let h = fold(seed, hash, w / 4294967296, w % 4294967296);
+        return Stream {
+            hash: h,
+            word: 0,
+            count: 0,
+        };
     }
+    Stream {
+        hash,
+        word: w,
+        count: count + 1,
+    }
+}
+
+// Base letter and mark, three bytes.
+fn push_letter(seed: u64, hash: u64, word: u64, count: u64, fold: u64) -> Stream
+    requires { ⌜ (seed < 4294967296) × (count ≤ 7) × (fold < 65536) ⌝ }
+    ensures { λ q. ⌜ PushedLetter seed hash word count fold q ⌝ }
+{
+    let x = push(seed, hash, word, count, fold / 256);
+    let y = push(seed, x.hash, x.word, x.count, 204);
+    push(seed, y.hash, y.word, y.count, fold % 256)
+}
+
+// The hash after the character at a place, and the place past it.
+struct Taken {
+    stream: Stream,
+    at: usize,
+}
+
+fn take_in(s: &[u8], at: usize, end: usize, seed: u64, hash: u64, word: u64, count: u64) -> Taken
+    requires { ⌜ Streams seed (now s) at end count ⌝ }
+    ensures { λ q. ⌜ TakenIn seed (now (s .entry)) at end hash word count q ⌝ }
+{
+    let fold = folding::fold_at(s, at, end);
+    if fold == 0 {
+        let x = push(seed, hash, word, count, wide(s[at]));
+        return Taken {
+            stream: x,
+            at: at + 1,
+        };
+    }
+    let x = push_letter(seed, hash, word, count, fold);
+    Taken {
+        stream: x,
+        at: at + 2,
+    }
+}
+
+// The hash of the text at p as if its letters were decomposed.
+fn hash_folded(s: &[u8], p: usize, seed: u64) -> u64
+    requires { ⌜ (TextAt (now s) p) × (seed < 4294967296) ⌝ }
+    ensures { λ q. ⌜ FoldedHash seed (now (s .entry)) p q ⌝ }
+{
+    let n = in_place::word_at(s, p);
+    let end = p + 4 + n;
+    let mut at = p + 4;
+    let mut hash = seed;
+    let mut word: u64 = 0;
+    let mut count: u64 = 0;
+    while at < end {
+        let x = take_in(s, at, end, seed, hash, word, count);
+        let y = x.stream;
+        hash = y.hash;
+        word = y.word;
+        count = y.count;
+        at = x.at;
+    }
+    let h = fold(
+        seed,
+        mix(seed, hash, count),
+        word / 4294967296 % 4294967296,
+        word % 4294967296,
+    );
+    mix(seed, mix(seed, h, 0), 0)
 }
 
 fn hash_key(s: &[u8], table: Table, p: usize, seed: u64) -> u64
     requires { ⌜ (Placed (formatIn table) (now s) p) × (seed < 4294967296) ⌝ }
     ensures { λ q. ⌜ KeyHash seed table (now (s .entry)) p q ⌝ }
 {
-    let h = hash_text(s, p, seed, hash_package(s, table, p, seed));
-    mix(seed, mix(seed, h, 0), 0)
+    match table {
+        Table::Fields => hash_name(s, p, seed, 0),
+        Table::Methods(_) => hash_name(s, p, seed, 0),
+        Table::Identities => hash_name(s, p, seed, hash_package(s, p, seed)),
+        Table::Alike(_) => hash_folded(s, p, seed),
+    }
 }
 
 // ---- filters: a hash that was entered has left six bits in one of the words
@@ -324,9 +452,9 @@ fn probed(
     suspects: &[u64],
 ) -> Probe
     requires { ⌜ (Standing table (now s) from i p)
-        × (Filter (Chosen lo hi (now suspects)) seed (keysAt table (now s) from) i (now filter)) × (seed < 4294967296)
+        × (Filter (Chosen lo hi (now suspects)) (keyHash table seed) (keysAt table (now s) from) i (now filter)) × (seed < 4294967296)
         × (0 < length (now suspects)) ⌝ }
-    ensures { λ q. ⌜ Probed (Chosen lo hi (now (suspects .entry))) seed (keysAt table (now (s .entry)) from) i
+    ensures { λ q. ⌜ Probed (Chosen lo hi (now (suspects .entry))) (keyHash table seed) (keysAt table (now (s .entry)) from) i
         (now (filter .exit)) q ⌝ }
 {
     let h = hash_key(s, table, p, seed);
@@ -365,7 +493,7 @@ fn pass(
 ) -> Outcome
     requires { ⌜ (Items (formatIn table) n (now s) from) × (0 < length (now filter)) × (seed < 4294967296)
         × (0 < length (now suspects)) ⌝ }
-    ensures { λ q. ⌜ PassedOr (Chosen lo hi (now (suspects .entry))) seed (keysAt table (now (s .entry)) from) n q ⌝ }
+    ensures { λ q. ⌜ PassedOr (Chosen lo hi (now (suspects .entry))) (keyHash table seed) (keysAt table (now (s .entry)) from) n q ⌝ }
 {
     let mut left: usize = 32;
     let mut p = from;
@@ -417,7 +545,7 @@ fn suspect(
 )
     requires { ⌜ (Items (formatIn table) n (now s) from) × (0 < length (now filter)) × (seed < 4294967296)
         × (0 < length (now suspects)) ⌝ }
-    ensures { λ q. ⌜ Suspects lo hi seed (keysAt table (now (s .entry)) from) n (now (suspects .exit)) ⌝ }
+    ensures { λ q. ⌜ Suspects lo hi (keyHash table seed) (keysAt table (now (s .entry)) from) n (now (suspects .exit)) ⌝ }
 {
     let mut p = from;
     let mut i = 0;
@@ -462,7 +590,7 @@ fn middle(s: &[u8], table: Table, from: usize, n: usize, seed: u64) -> Outcome
 // compares them. A filter that the second alone could rest on has room for an eighth of the items.
 fn two_passes(s: &[u8], table: Table, from: usize, n: usize, lo: u64, hi: u64, seed: u64) -> Outcome
     requires { ⌜ (Items (formatIn table) n (now s) from) × (seed < 4294967296) ⌝ }
-    ensures { λ q. ⌜ PassedOr (Classed lo hi) seed (keysAt table (now (s .entry)) from) n q ⌝ }
+    ensures { λ q. ⌜ PassedOr (Classed lo hi) (keyHash table seed) (keysAt table (now (s .entry)) from) n q ⌝ }
 {
     let mut filter = [0u64; 16384];
     let mut suspects = [0u64; 2048];

@@ -20,7 +20,7 @@ use Rattle.reader.proofs.Asks.{asks-then, asks-not, asks-none, asks-deny, asks-
 use Rattle.in_place.specs.declared.Item.{Item}
 use Rattle.in_place.specs.declared.Item.the-variants.{StructField, RuntimeField}
 use Rattle.in_place.specs.declared.Table.{Table}
-use Rattle.in_place.specs.declared.Table.the-variants.{Fields, Methods, Identities}
+use Rattle.in_place.specs.declared.Table.the-variants.{Fields, Methods, Identities, Alike}
 use Rattle.in_place.specs.Walk.{valueAt, itemsAt}
 use Rattle.in_place.specs.Items.{formatOf, nameOf, textAt}
 use Rattle.in_place.specs.Tables.{formatIn}
@@ -59,6 +59,10 @@ module _ {t : Table} {s : List ℕ} {p : ℕ} (h : Placed (formatIn t) s p) {c :
   pub told-method : {i : Item} → t ≡ Methods i → Repeated s p c refusals.duplicateInterfaceMethod 0 q
       → RepeatTold t s p c q
   told-method {i} e r = rw e (record { is = repeat-told i (rw e at h) r })
+
+  pub told-alike : {i : Item} → t ≡ Alike i → Repeated s p c refusals.duplicateInterfaceMethod 0 q
+      → RepeatTold t s p c q
+  told-alike {i} e r = rw e (record { is = repeat-told i (rw e at h) r })
 
   pub told-identity : {x : ℕ} → t ≡ Identities → PackageIs s p x
       → Repeated s p c refusals.duplicateRuntimeStructField (x + 4) q → RepeatTold t s p c q
@@ -100,6 +104,9 @@ module _ {t : Table} {s : List ℕ} {p : ℕ} {c : Cursor} where
 
   pub charge-identity : t ≡ Identities → Charged t s p c (Taken c)
   charge-identity e = rw e (record { asks = asks-none })
+
+  pub charge-alike : {i : Item} → t ≡ Alike i → Charged t s p c (Taken c)
+  charge-alike e = rw e (record { asks = asks-none })
 
 -- ---- the loop of `distinct`, up to the first repeat
 pub record Judging (t : Table) (s : List ℕ) (from n first : ℕ) (c₀ : Cursor) (p i : ℕ) (c : Cursor) : Type 0 where
@@ -144,6 +151,6 @@ module _ {t : Table} {s : List ℕ} {from n first : ℕ} {c₀ : Cursor} where
               let j : i < first = omega (arith, l .below) in
               record { asked = asking-more h (l .asked) (asks-then _ (rw e at (a .asks)) (refuse-no _ (repeats-is (f .new i j)))) refl w; below = omega arith }
 
-pub ruleset answering = (told-field, told-method, told-identity, charge-none, charge-one, charge-field, charge-method, charge-identity)
+pub ruleset answering = (told-field, told-method, told-identity, told-alike, charge-none, charge-one, charge-field, charge-method, charge-identity, charge-alike)
 
 pub ruleset judging = (judging-start, judging-here, judging-done, judging-poor, judging-repeat, judging-more)

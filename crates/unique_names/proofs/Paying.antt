@@ -18,7 +18,7 @@ use Rattle.reader.proofs.Settles.{pay-yes}
 use Rattle.in_place.specs.declared.Item.{Item}
 use Rattle.in_place.specs.declared.Item.the-variants.{StructField}
 use Rattle.in_place.specs.declared.Table.{Table}
-use Rattle.in_place.specs.declared.Table.the-variants.{Fields, Methods, Identities}
+use Rattle.in_place.specs.declared.Table.the-variants.{Fields, Methods, Identities, Alike}
 use Rattle.in_place.specs.Walk.{valueAt, nextAt, itemsAt, lastAt, items-snoc, items-nil, last-snoc}
 use Rattle.in_place.specs.Items.{nameOf}
 use Rattle.in_place.specs.Tables.{formatIn}
@@ -53,6 +53,7 @@ charged Fields v {c} h = go (blank (nameOf StructField v)) h
     go false h = one-paid h
 charged (Methods i) v h = nothing-paid
 charged Identities v h = nothing-paid
+charged (Alike i) v h = nothing-paid
 
 -- the m items after the first i
 rest-paid : (t : Table) (s : List ℕ) (from m i : ℕ) (c : Cursor)

@@ -44,7 +44,7 @@ fn repeated(s: &[u8], p: usize, c: Cursor, number: u64, context: u64) -> Step
     })
 }
 
-// The refusal, at c, of the item at p.
+// The refusal, at c, of the item at p. Reading puts no question on names alike: a match has an arm for them all the same.
 fn refuse_repeat(s: &[u8], table: Table, p: usize, c: Cursor) -> Step
     requires { ⌜ Placed (formatIn table) (now s) p ⌝ }
     ensures { λ q. ⌜ RepeatTold table (now (s .entry)) p c q ⌝ }
@@ -62,6 +62,7 @@ fn refuse_repeat(s: &[u8], table: Table, p: usize, c: Cursor) -> Step
                 (package + 4) as u64,
             )
         }
+        Table::Alike(_) => repeated(s, p, c, numbers::DUPLICATE_INTERFACE_METHOD, 0),
     }
 }
 
@@ -85,6 +86,7 @@ fn charge_key(s: &[u8], table: Table, p: usize, c: Cursor) -> Step
         Table::Fields => charge_field(s, p, c),
         Table::Methods(_) => Step::Taken(c),
         Table::Identities => Step::Taken(c),
+        Table::Alike(_) => Step::Taken(c),
     }
 }
 

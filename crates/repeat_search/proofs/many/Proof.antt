@@ -5,12 +5,12 @@ use Prim.Native.Nat.{_+_, _/_, _-_, _≤_, _<_}
 use native.Mathlib.Nat.{div-le-self}
 use native.Mathlib.Omega.{arith}
 use Rattle.repeat_search.proofs.Tables.{items-less}
-use Rattle.repeat_search.specs.Tables.{keysAt}
+use Rattle.repeat_search.specs.Tables.{keyHash, keysAt}
 use Rattle.repeat_search.proofs.many.Statement.{statement}
 use Rattle.repeat_search.proofs.many.Tie as tie
 
 abbrev Inv-loop : tie.InvT-loop
-Inv-loop s table from n seed parts classes first₀ lo₀ first lo = (Passed (Classed 0 lo) seed (keysAt table s from) n first) × (0 < classes) × (classes ≤ 65537)
+Inv-loop s table from n seed parts classes first₀ lo₀ first lo = (Passed (Classed 0 lo) (keyHash table seed) (keysAt table s from) n first) × (0 < classes) × (classes ≤ 65537)
 
 abbrev μ-loop : tie.MeasureT-loop
 μ-loop s table from n seed parts classes first₀ lo₀ first lo = 65536 - lo

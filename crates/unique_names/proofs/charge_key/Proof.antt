@@ -16,6 +16,9 @@ enum-told-2 c = search needs
 enum-told-3 : tie.Need-enum-told-3
 enum-told-3 c = search needs
 
+enum-told-4 : tie.Need-enum-told-4
+enum-told-4 c = search needs
+
 returns : tie.Need-returns
 returns c = search (needs, answering)
 
@@ -25,7 +28,10 @@ returns-2 c = search (needs, answering)
 returns-3 : tie.Need-returns-3
 returns-3 c = search (needs, answering)
 
+returns-4 : tie.Need-returns-4
+returns-4 c = search (needs, answering)
+
 pub charge-key-spec : {M : Type 1} → statement M
 charge-key-spec =
     tie.close
-    (tie.spec enum-told charge-field-requires enum-told-2 enum-told-3 returns returns-2 returns-3)
+    (tie.spec enum-told charge-field-requires enum-told-2 enum-told-3 enum-told-4 returns returns-2 returns-3 returns-4)

@@ -31,6 +31,12 @@ add-repeated c = omega (arith, runtime-package (placed-in (c .before .enum-told3
 repeated-requires-3 : tie.Need-repeated-requires-3
 repeated-requires-3 c κs = item-name (itemOf (c .before .before .before .before .args .table)) (c .before .before .before .before .pre)
 
+enum-told-4 : tie.Need-enum-told-4
+enum-told-4 c = search needs
+
+repeated-requires-4 : tie.Need-repeated-requires-4
+repeated-requires-4 c κs = item-name (itemOf (c .before .before .before .args .table)) (c .before .before .before .pre)
+
 returns : tie.Need-returns
 returns c = search (needs, answering)
 
@@ -40,8 +46,11 @@ returns-2 c = search (needs, answering)
 returns-3 : tie.Need-returns-3
 returns-3 c = search (needs, answering)
 
+returns-4 : tie.Need-returns-4
+returns-4 c = search (needs, answering)
+
 pub refuse-repeat-spec : {M : Type 1} → statement M
 refuse-repeat-spec =
     tie.close
     (tie.spec enum-told repeated-requires enum-told-2 repeated-requires-2 enum-told-3 package-at-requires add-repeated
-    repeated-requires-3 returns returns-2 returns-3)
+    repeated-requires-3 enum-told-4 repeated-requires-4 returns returns-2 returns-3 returns-4)

@@ -1,0 +1,52 @@
+-- The contracts of folded bytes.
+use Prim.Native.Nat.{ℕ, _-_, _≤_, _<_}
+use mathlib.Core.Path.{_≡_}
+use mathlib.Core.List.{List, [], _∷_, _++_}
+use mathlib.Core.Bool.{Bool, true, false}
+use lib.ListN.{length}
+use lib.Dec.{eqb, ltb}
+use Rattle.format.specs.Trace.{pick}
+use Rattle.format.specs.Reading.{part, same}
+use Rattle.folding.specs.Bytes.{headFold, foldBytes}
+use Rattle.folding.specs.declared.Next.{Next}
+
+-- the bytes from a place to an end
+abbrev pub span : List ℕ → ℕ → ℕ → List ℕ
+span s at end = part s at (end - at)
+
+pub record FoldAt (s : List ℕ) (at end q : ℕ) : Type 0 where
+  pub is : q ≡ headFold (span s at end)
+  pub below : q < 65536
+
+-- The bytes of a mark that are still to come: none, the last, or both.
+abbrev pub heldBytes : ℕ → List ℕ
+heldBytes h = pick (eqb h 0) [] (pick (ltb h 512) ((h - 256) ∷ []) (0xcc ∷ (h - 512) ∷ []))
+
+-- what `held` may be
+pub record Held (h : ℕ) : Type 0 where
+  pub least : (h ≡ 0 → ⊥) → 256 ≤ h
+  pub small : h < 768
+
+-- the folded bytes that are still to come
+abbrev pub ahead : List ℕ → ℕ → ℕ → ℕ → List ℕ
+ahead s at end held = heldBytes held ++ foldBytes (span s at end)
+
+-- whether there are any
+abbrev pub moreOf : ℕ → ℕ → ℕ → Bool
+moreOf at end held = pick (eqb held 0) (ltb at end) true
+
+pub record Unread (s : List ℕ) (at end held : ℕ) : Type 0 where
+  pub room : end ≤ length s
+  pub some : moreOf at end held ≡ true
+  pub kept : Held held
+
+pub record NextIs (s : List ℕ) (at end held : ℕ) (q : Next) : Type 0 where
+  pub is : ahead s at end held ≡ q .byte ∷ ahead s (q .at) end (q .held)
+  pub kept : Held (q .held)
+
+pub record SameFolded (s : List ℕ) (a m b n : ℕ) (q : Bool) : Type 0 where
+  pub is : q ≡ same (foldBytes (part s a m)) (foldBytes (part s b n))
+
+-- if q, then folding leaves the bytes as they are
+pub record PlainIs (s : List ℕ) (p n : ℕ) (q : Bool) : Type 0 where
+  pub is : q ≡ true → foldBytes (part s p n) ≡ part s p n
