@@ -308,15 +308,17 @@ pub fn accented_constants(n: usize) -> Vec<u8> {
     Pack::bare().with(Section::Constants, constants).finish()
 }
 
-/// So many structs of twelve fields, whose names have accents and differ.
-pub fn accented_structs(n: usize) -> Vec<u8> {
+/// So many structs of twelve fields, whose names have accents; what `key` makes of them differs.
+pub fn accented_structs(n: usize, key: fn(&str) -> String) -> Vec<u8> {
     let mut names = Names::new(SEED);
     let structs = list(n, |bytes, _| {
-        let mut fields = Vec::new();
+        let (mut fields, mut keys) = (Vec::new(), Vec::new());
         while fields.len() < 12 {
             let name = names.accented();
-            if !fields.contains(&name) {
+            let key = key(&name);
+            if !keys.contains(&key) {
                 fields.push(name);
+                keys.push(key);
             }
         }
         bytes.slots(4).u32(12);
@@ -325,6 +327,29 @@ pub fn accented_structs(n: usize) -> Vec<u8> {
         }
     });
     Pack::bare().with(Section::Structs, structs).finish()
+}
+
+/// So many interfaces of 23 method names and as many methods: the names of a table have one length and one end when decomposed, every other
+/// one is composed, and they differ in one letter.
+pub fn small_tables(n: usize) -> Vec<u8> {
+    let name = |k: usize| {
+        let letter = char::from(b'a' + k as u8);
+        match k % 2 {
+            0 => format!("f\u{e9}d\u{e9}ration {letter} fran\u{e7}aise"),
+            _ => format!("fe\u{301}de\u{301}ration {letter} franc\u{327}aise"),
+        }
+    };
+    let interfaces = list(n, |bytes, _| {
+        bytes.text(b"").u32(23);
+        for k in 0..23 {
+            bytes.text(name(k).as_bytes());
+        }
+        bytes.u32(23);
+        for k in 0..23 {
+            bytes.text(name(k).as_bytes()).u32(7);
+        }
+    });
+    Pack::bare().with(Section::Interfaces, interfaces).finish()
 }
 
 /// A struct with so many slot types.
@@ -359,6 +384,17 @@ pub fn distinct(n: usize) -> impl ExactSizeIterator<Item = Vec<u8>> {
 
 pub fn names(n: usize) -> Vec<u8> {
     in_table(Table::Fields, distinct(n))
+}
+
+/// Names of people with accents that differ when they are decomposed.
+pub fn accented(n: usize) -> impl ExactSizeIterator<Item = Vec<u8>> {
+    let mut names = Names::new(SEED);
+    (0..n).map(move |i| format!("{} {i}", names.accented()).into_bytes())
+}
+
+/// Names with one accent, every other one composed, that differ when they are decomposed: so short that a pack has room for 4,000,000.
+pub fn short_accented(n: usize) -> impl ExactSizeIterator<Item = Vec<u8>> {
+    (0..n).map(|i| format!("nam{}_{i}", ["\u{e9}", "e\u{301}"][i % 2]).into_bytes())
 }
 
 /// The first seed of the search for repeated names, and the factors that it gives for the four words of a block, two in each lane.
@@ -451,9 +487,14 @@ fn same_hash(factors: [u64; 2], hash: u64) -> ([[u64; 2]; 4], u64) {
     unreachable!("some blocks meet")
 }
 
-/// Names of 208 bytes that differ and all have the same hash under the first seed: one of four blocks at each of six places in two lanes, and
-/// then sixteen bytes that are the same.
-pub fn one_hash(n: usize) -> impl ExactSizeIterator<Item = Vec<u8>> {
+/// How names of one hash end: in sixteen bytes, or in letters that are these sixteen when they are decomposed.
+pub const PLAIN: &str = "all end the same";
+pub const DECOMPOSED: &str = "each end alike\u{301}";
+pub const COMPOSED: &str = "each end alik\u{e9}";
+
+/// Names that differ and all have, when they are decomposed, 208 bytes and the same hash under the first seed: one of four blocks at each of six
+/// places in two lanes, and then an end by the name's number.
+pub fn one_hash(n: usize, end: impl Fn(usize) -> &'static str) -> impl ExactSizeIterator<Item = Vec<u8>> {
     const LENGTH: u64 = 208;
     let lanes = FACTORS.map(|factors| {
         let mut hash = LENGTH * FIRST_SEED;
@@ -469,28 +510,50 @@ pub fn one_hash(n: usize) -> impl ExactSizeIterator<Item = Vec<u8>> {
             let [one, other] = [0, 1].map(|lane| lanes[lane][k][i >> (4 * k + 2 * lane) & 3]);
             name.extend([one[0], other[0], one[1], other[1]].map(u64::to_le_bytes).concat());
         }
-        name.extend(b"all end the same");
-        assert_eq!(name.len() as u64, LENGTH);
+        assert_eq!(name.len() as u64, LENGTH - 16);
+        name.extend(end(i).bytes());
         name
     })
 }
 
-pub fn colliding(n: usize) -> Vec<u8> {
-    in_table(Table::Fields, one_hash(n))
+pub fn accented_table(table: Table, n: usize) -> Vec<u8> {
+    in_table(table, accented(n))
 }
 
-/// Names of sixteen bytes that differ and are all of the first classes of hashes under the first seed, where names that are evenly spread have
-/// one in 21: the search for repeats looks at all of them at once.
-pub fn one_class(n: usize) -> impl ExactSizeIterator<Item = Vec<u8>> {
+pub fn short_accented_names(n: usize) -> Vec<u8> {
+    in_table(Table::Fields, short_accented(n))
+}
+
+pub fn colliding(n: usize) -> Vec<u8> {
+    in_table(Table::Fields, one_hash(n, |_| PLAIN))
+}
+
+/// Names of one hash as they stand, but for the first, which is of that hash when it is decomposed: so the names collide in a reading and in
+/// the search for names that print alike.
+pub fn colliding_decomposed(n: usize) -> Vec<u8> {
+    in_table(Table::Fields, one_hash(n, |i| if i == 0 { COMPOSED } else { DECOMPOSED }))
+}
+
+/// Names of one hash when they are decomposed, which no reading does.
+pub fn colliding_composed(n: usize) -> Vec<u8> {
+    in_table(Table::Fields, one_hash(n, |_| COMPOSED))
+}
+
+/// Names that differ, have sixteen bytes when they are decomposed and are then all of the first classes of hashes under the first seed, where
+/// names that are evenly spread have one in 21: the search for repeats looks at all of them at once. They end in a letter, of which the
+/// decomposed form is given too.
+pub fn one_class(n: usize, end: &'static str, decomposed: &'static str) -> impl ExactSizeIterator<Item = Vec<u8>> {
     let mix = |hash: u64| (hash % (1 << 32)).wrapping_mul(FIRST_SEED).wrapping_add(hash >> 32);
-    let lane = |factors, bytes: &[u8]| fold(factors, 16 * FIRST_SEED, u64::from_le_bytes(bytes.try_into().expect("eight")));
+    let lane =
+        |factors, bytes: &[u8]| fold(factors, 16 * FIRST_SEED, u64::from_le_bytes(bytes.try_into().expect("eight")));
     let mut tried = 0u64;
     (0..n).map(move |_| loop {
-        let name = format!("{tried:016}").into_bytes();
+        let digits = format!("{tried:0width$}", width = 16 - decomposed.len());
         tried += 1;
-        let hash = mix(mix(lane(FACTORS[0], &name[..8]) ^ lane(FACTORS[1], &name[8..])));
+        let bytes = format!("{digits}{decomposed}").into_bytes();
+        let hash = mix(mix(lane(FACTORS[0], &bytes[..8]) ^ lane(FACTORS[1], &bytes[8..])));
         if (hash >> 16) % 65_536 < 3_000 {
-            return name;
+            return (digits + end).into_bytes();
         }
     })
 }

@@ -1,6 +1,6 @@
 //! Runs this program, and the same linked with another archive, to count instructions and to compare the two.
 
-use crate::Case;
+use crate::{above, by_call, Call, Case};
 use std::path::{Path, PathBuf};
 use std::process::{Command, Stdio};
 
@@ -18,21 +18,46 @@ fn printed(command: &mut Command) -> String {
     String::from_utf8(output.stdout).expect("these programs print text")
 }
 
-/// Instructions of one reading. Our count is the same in each run; the Rust's is not quite, as its hashes are not.
-fn instructions(program: &Path, name: &str, who: &str) -> f64 {
+/// Instructions of one call. Our count is the same in each run; the Rust's is not quite, as its hashes are not.
+fn instructions(program: &Path, case: &Case, who: &str) -> f64 {
+    let function = match case.call {
+        Call::Alike { .. } if who != "counting" => format!("bench::alike::{who}"),
+        _ => format!("bench::{who}"),
+    };
     let mut valgrind = Command::new("valgrind");
     valgrind.args(["--tool=callgrind", "--callgrind-out-file=/dev/null", "--log-fd=1"]);
-    valgrind.arg(format!("--toggle-collect=bench::{who}")).arg(program).args(["once", name, who]);
+    valgrind.arg(format!("--toggle-collect={function}")).arg(program).args(["once", case.name, who]);
     let log = printed(&mut valgrind);
     let (_, count) = log.rsplit_once("Collected : ").expect("callgrind prints what it collected");
     count.split_whitespace().next().and_then(|count| count.parse().ok()).expect("a number")
 }
 
 pub fn count(cases: &[&Case]) {
-    println!("{:<24} {:>14} {:>14} {:>6}", "pack", "ours", "Rust", "ratio");
-    for case in cases {
-        let [ours, rust] = ["ours", "rust"].map(|who| instructions(&this(), case.name, who));
+    let (reads, searches) = by_call(cases);
+    if !reads.is_empty() {
+        println!("{:<24} {:>14} {:>14} {:>6}", "reading", "ours", "Rust", "ratio");
+    }
+    for case in reads {
+        let [ours, rust] = ["ours", "rust"].map(|who| instructions(&this(), case, who));
         println!("{:<24} {ours:>14} {rust:>14} {:>6.2}", case.name, ours / rust);
+    }
+    if !searches.is_empty() {
+        println!(
+            "{:<26} {:>14} {:>14} {:>6} {:>9} {:>14} {:>6} {:>6}",
+            "search", "ours", "Rust", "ratio", "readings", "instructions", "ratio", "limit"
+        );
+    }
+    for (case, readings) in searches {
+        let [ours, rust, one] = ["ours", "rust", "counting"].map(|who| instructions(&this(), case, who));
+        let counting = one * f64::from(readings);
+        let ratio = ours / counting;
+        println!(
+            "{:<26} {ours:>14} {rust:>14} {:>6.2} {readings:>9} {counting:>14} {ratio:>6.2} {:>6}{}",
+            case.name,
+            ours / rust,
+            case.limit,
+            above(ratio, case.limit)
+        );
     }
 }
 
@@ -52,12 +77,13 @@ fn spread(mut times: Vec<f64>) -> [f64; 3] {
 /// program's own spread is no difference.
 pub fn compare(old: &str, cases: &[&Case]) {
     let programs = [PathBuf::from(old), this()];
+    let rows = printed(Command::new(old).arg("names"));
     println!(
-        "{:<24} {:>14} {:>14} {:>6} {:>12} {:>24} {:>12} {:>24} {:>6}",
-        "pack", "instr., old", "new", "ratio", "old, us", "least..greatest", "new, us", "least..greatest", "ratio"
+        "{:<26} {:>14} {:>14} {:>6} {:>12} {:>24} {:>12} {:>24} {:>6}",
+        "row", "instr., old", "new", "ratio", "old, us", "least..greatest", "new, us", "least..greatest", "ratio"
     );
-    for case in cases {
-        let [was, is] = programs.each_ref().map(|program| instructions(program, case.name, "ours"));
+    for case in cases.iter().filter(|case| rows.lines().any(|row| row == case.name)) {
+        let [was, is] = programs.each_ref().map(|program| instructions(program, case, "ours"));
         let mut times = [Vec::new(), Vec::new()];
         for _ in 0..RUNS {
             for (program, times) in programs.iter().zip(&mut times) {
@@ -73,7 +99,7 @@ pub fn compare(old: &str, cases: &[&Case]) {
             _ => "",
         };
         println!(
-            "{:<24} {was:>14} {is:>14} {:>6.3} {:>12} {:>24} {:>12} {:>24} {:>6.3}{verdict}",
+            "{:<26} {was:>14} {is:>14} {:>6.3} {:>12} {:>24} {:>12} {:>24} {:>6.3}{verdict}",
             case.name,
             is / was,
             shown(before[1]),

@@ -1,5 +1,6 @@
 /*
- * example FILE: the name of a rule pack, how many entries each of its lists has, and its cost.
+ * example FILE: the name of a rule pack, how many entries each of its lists has, its cost, and whether two names print alike; where
+ * they do, what the arbiter should do about it.
  *
  * The whole pack is read first: what it holds is valid, or the refusal says why not. The counts come from section calls, since
  * a section's words start at the tape's first word and a list opens with its count; on the whole pack's tape they would have to
@@ -48,6 +49,31 @@ static void count(const char *label, uint32_t n)
     printf("%-20s %" PRIu32 "\n", label, n);
 }
 
+static void name(const uint8_t *pack, uint64_t start, uint64_t length)
+{
+    fwrite(pack + start, 1, length, stdout);
+}
+
+static int print_alike(const uint8_t *pack, size_t length)
+{
+    const vob_answer a = vob_alike_names(pack, length);
+    if (a.number != VOB_TAKEN)
+        return refused(a);
+    printf("%-20s ", "print alike");
+    if (!a.value1) {
+        puts("none");
+        return 0;
+    }
+    name(pack, a.value2, a.value3);
+    fputs(" and ", stdout);
+    name(pack, a.value4, a.value5);
+    printf("\n%-20s the %" PRIu64 " bytes from byte %" PRIu64 " on and the %" PRIu64 " bytes from byte %" PRIu64
+           " on are names that print alike: they may be one field or method, sent in two forms; ask the pack's author to send one"
+           " form, and do not pair by this pack before that is settled\n",
+           "advice", a.value3, a.value2, a.value5, a.value4);
+    return 0;
+}
+
 static int print(const uint8_t *pack, size_t length, uint32_t *tape)
 {
     const vob_answer whole = vob_read(pack, length, VOB_STARTING_BUDGET, tape, length);
@@ -55,7 +81,7 @@ static int print(const uint8_t *pack, size_t length, uint32_t *tape)
         return refused(whole);
     /* The tape opens with the name: start and length. */
     printf("%-20s ", "name");
-    fwrite(pack + tape[0], 1, tape[1], stdout);
+    name(pack, tape[0], tape[1]);
     putchar('\n');
 
     uint64_t place = VOB_FIRST_SECTION;
@@ -77,7 +103,7 @@ static int print(const uint8_t *pack, size_t length, uint32_t *tape)
         return refused(last);
     count("inline frames", tape[0]);
     printf("%-20s %" PRIu64 "\n", "cost", whole.value3);
-    return 0;
+    return print_alike(pack, length);
 }
 
 int main(int argc, char **argv)

@@ -1,4 +1,5 @@
-/* The calls of vob.h from C: document 01's worked examples, its limits of budget and tape, sections, lookup and sizes. */
+/* The calls of vob.h from C: document 01's worked examples, its limits of budget and tape, sections, lookup, names that print
+ * alike, and sizes. */
 #include "vob.h"
 
 #include <inttypes.h>
@@ -170,6 +171,46 @@ static void lookups(void)
     EXPECT(vob_find_artifact(p.bytes, 2, ties, 4), VOB_UNEXPECTED_EOF, 0, 0, 0, 0, VOB_STARTING_BUDGET);
 }
 
+/* A bare pack with a struct of three fields; the first name starts at byte 27, each other 14 bytes after the end of
+ * the one before it. */
+static struct pack with_fields(const char *first, const char *second, const char *third)
+{
+    const char *const names[] = {first, second, third};
+    struct pack p = {.length = 0};
+    put(&p, "VOB\x18\0\0\0", 7);
+    put_zeros(&p, 4);
+    put_word(&p, 1);
+    put_zeros(&p, 4);
+    put_word(&p, 3);
+    for (size_t i = 0; i < 3; i++) {
+        put_text(&p, names[i]);
+        put_zeros(&p, 10);
+    }
+    put_zeros(&p, 97);
+    return p;
+}
+
+static void alike(void)
+{
+    const uint64_t all = VOB_STARTING_BUDGET;
+    struct pack p = with_fields("\xc3\xa9", "e", "e\xcc\x81");
+    EXPECT(vob_alike_names(p.bytes, p.length), VOB_TAKEN, 1, 27, 2, 58, 3);
+    EXPECT(vob_alike_names(p.bytes, p.length - 1), VOB_UNEXPECTED_EOF, 0, 0, 0, p.length - 4, all - 396);
+    /* Reading goes on comparing bytes. */
+    EXPECT(vob_read(p.bytes, p.length, all, vob_words(NULL), 0), VOB_NO_ROOM, 0, 60, 0, p.length, all - 396);
+    p = with_fields("e\xcc\x81", "e\xcc\x81", "\xc3\xa9");
+    EXPECT(vob_alike_names(p.bytes, p.length), VOB_DUPLICATE_STRUCT_FIELD, 0, 44, 3, 73, all - 398);
+    /* Marks keep their order, and a letter outside the range stays. */
+    p = with_fields("\xc3\xaa\xcc\xa3", "\xe1\xbb\x87", "e\xcc\xa3\xcc\x82");
+    EXPECT(vob_alike_names(p.bytes, p.length), VOB_TAKEN, 0, 0, 0, 0, 0);
+    p = with_fields("\xc3\xaa\xcc\xa3", "\xe1\xbb\x87", "e\xcc\x82\xcc\xa3");
+    EXPECT(vob_alike_names(p.bytes, p.length), VOB_TAKEN, 1, 27, 4, 62, 5);
+    p = named("\xc3\xa9");
+    EXPECT(vob_alike_names(p.bytes, p.length), VOB_TAKEN, 0, 0, 0, 0, 0);
+    EXPECT(vob_alike_names(vob_bytes(NULL), 0), VOB_UNEXPECTED_EOF, 0, 0, 0, 0, all);
+    EXPECT(vob_alike_names((const uint8_t *)"VOC", 3), VOB_INVALID_MAGIC, 0, 0, 0, 3, all);
+}
+
 static void section_calls(void)
 {
     const struct pack a = named("A");
@@ -230,6 +271,7 @@ int main(void)
     whole_packs();
     budgets();
     lookups();
+    alike();
     section_calls();
     sizes();
     printf("test.c: %s\n", failures ? "failed" : "ok");

@@ -30,6 +30,8 @@ extern "C" {
  *              value1     value2       value3    value4   value5
  *   taken      words      bytes taken  charged   left     0
  *   found      start      length       0         0        0        (vob_find_artifact)
+ *   alike      1          start        length    start    length   (vob_alike_names: the earlier name, then the later)
+ *   none       0          0            0         0        0        (vob_alike_names)
  *   refused    context    detail 1     detail 2  place    left
  *
  * words: how many words of the tape were written. charged and left: the cost of what was read, and the budget less it.
@@ -96,7 +98,7 @@ enum {
     VOB_INLINE_ENTRIES = 14
 };
 
-/* The Rust reader's own starting budget, under which vob_find_artifact reads. */
+/* The Rust reader's own starting budget, under which vob_find_artifact and vob_alike_names read. */
 #define VOB_STARTING_BUDGET UINT64_C(536870912)
 
 /* The longest pack, in bytes. */
@@ -132,6 +134,18 @@ vob_answer vob_read(const uint8_t *pack, size_t pack_length, uint64_t budget, ui
  * Reads the whole pack under VOB_STARTING_BUDGET.
  */
 vob_answer vob_find_artifact(const uint8_t *pack, size_t pack_length, const uint8_t *name, size_t name_length);
+
+/*
+ * Finds two names of one table that are the same letters, composed in one and decomposed in the other: start and length of
+ * both in the pack, or that there are none, or the refusal. Reads the whole pack under VOB_STARTING_BUDGET.
+ *
+ * Names are compared with each letter from U+00C0 to U+017F replaced by its canonical decomposition, where it has one; all other
+ * characters stay, and marks keep their order. A table is the fields of a struct other than "_", the method names of an interface,
+ * its methods, the methods of a named type, or those of a runtime interface. Of several pairs the answer is the one whose later
+ * name ends earliest in the pack, with the earlier name nearest to it. The two names never have the same bytes: a pack with such
+ * a table is refused.
+ */
+vob_answer vob_alike_names(const uint8_t *pack, size_t pack_length);
 
 /*
  * Each reads one section alone, from its place in the pack and under its own budget, and writes its words from the tape's

@@ -1,4 +1,5 @@
-//! summary FILE: the name of a rule pack, how many entries each of its lists has, and its cost.
+//! summary FILE: the name of a rule pack, how many entries each of its lists has, its cost, and whether two names print alike; where
+//! they do, what the arbiter should do about it.
 //!
 //! The counts come from section calls, since a section's words start at the tape's first word and a list opens with its count;
 //! on the whole pack's tape they would have to be searched for, record by record.
@@ -32,8 +33,9 @@ const SECTIONS: [(Section, Option<&str>); 16] = [
 fn summary(pack: &[u8]) -> Result<Vec<(&'static str, String)>, Error> {
     let mut tape = vec![0; pack.len()];
     let whole = vob::read(pack, STARTING_BUDGET, &mut tape)?;
-    let name = &pack[tape[0] as usize..][..tape[1] as usize];
-    let mut lines = vec![("name", String::from_utf8_lossy(name).into_owned())];
+    let text = |span| String::from_utf8_lossy(&pack[span]).into_owned();
+    let start = tape[0] as usize;
+    let mut lines = vec![("name", text(start..start + tape[1] as usize))];
 
     let (mut place, mut left, mut functions) = (FIRST_SECTION, STARTING_BUDGET, 0);
     for (section, label) in SECTIONS {
@@ -49,6 +51,14 @@ fn summary(pack: &[u8]) -> Result<Vec<(&'static str, String)>, Error> {
     vob::read_section(Section::InlineSources { functions }, pack, place, left, &mut tape)?;
     lines.push(("inline frames", tape[0].to_string()));
     lines.push(("cost", whole.charged.to_string()));
+    match vob::alike_names(pack)? {
+        None => lines.push(("print alike", "none".to_string())),
+        Some(pair) => {
+            let advice = pair.to_string();
+            lines.push(("print alike", format!("{} and {}", text(pair.earlier), text(pair.later))));
+            lines.push(("advice", advice));
+        }
+    }
     Ok(lines)
 }
 

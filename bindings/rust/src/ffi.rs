@@ -1,7 +1,7 @@
 //! The archive's functions behind safe ones.
 
 use crate::raw::{self, Answer, SectionCall};
-use crate::{Error, Reading, Reason, Section};
+use crate::{AlikeNames, Error, Reading, Reason, Section};
 use std::ops::Range;
 
 impl Answer {
@@ -26,10 +26,24 @@ impl Answer {
             Some(error) => Err(error),
             None => {
                 let [start, length, ..] = self.values;
-                Ok(start as usize..(start + length) as usize)
+                Ok(span(start, length))
             }
         }
     }
+
+    fn alike(self) -> Result<Option<AlikeNames>, Error> {
+        match (self.refusal(), self.values) {
+            (Some(error), _) => Err(error),
+            (None, [0, ..]) => Ok(None),
+            (None, [_, start1, length1, start2, length2]) => {
+                Ok(Some(AlikeNames { earlier: span(start1, length1), later: span(start2, length2) }))
+            }
+        }
+    }
+}
+
+fn span(start: u64, length: u64) -> Range<usize> {
+    start as usize..(start + length) as usize
 }
 
 pub(crate) fn read(pack: &[u8], budget: u64, tape: &mut [u32]) -> Result<Reading, Error> {
@@ -41,6 +55,11 @@ pub(crate) fn read(pack: &[u8], budget: u64, tape: &mut [u32]) -> Result<Reading
 pub(crate) fn find_artifact(pack: &[u8], name: &[u8]) -> Result<Range<usize>, Error> {
     // SAFETY: as in `read`; nothing is written.
     unsafe { raw::vob_find_artifact(pack.as_ptr(), pack.len(), name.as_ptr(), name.len()) }.found()
+}
+
+pub(crate) fn alike_names(pack: &[u8]) -> Result<Option<AlikeNames>, Error> {
+    // SAFETY: as in `read`; nothing is written.
+    unsafe { raw::vob_alike_names(pack.as_ptr(), pack.len()) }.alike()
 }
 
 pub(crate) fn read_section(
@@ -71,7 +90,15 @@ pub(crate) fn read_section(
             let (place, tape_length) = (place as u64, tape.len());
             // SAFETY: as in `read`.
             let answer = unsafe {
-                raw::vob_inline_sources(pack.as_ptr(), pack.len(), place, budget, functions, tape.as_mut_ptr(), tape_length)
+                raw::vob_inline_sources(
+                    pack.as_ptr(),
+                    pack.len(),
+                    place,
+                    budget,
+                    functions,
+                    tape.as_mut_ptr(),
+                    tape_length,
+                )
             };
             return answer.taken();
         }

@@ -3,7 +3,7 @@
 //! A reading answers with a tape of 32-bit words that holds every field of the pack in file order, or with one refusal that
 //! says what is wrong and where. Each call below is proved, for every input, equal to its definition: it ends, a refusal
 //! changes nothing on the tape, and the budget's account is exact. What this crate adds to the proved archive is the enums
-//! and texts of [`Error`]; only its private module `ffi` has `unsafe` code, over the
+//! and texts of [`Error`] and the text of [`AlikeNames`]; only its private module `ffi` has `unsafe` code, over the
 //! declarations in [`raw`].
 //!
 //! No call needs more than 192 KB of stack, whatever the pack; that is measured and not proved.
@@ -49,15 +49,17 @@
 #[cfg(not(all(target_arch = "x86_64", target_os = "linux")))]
 compile_error!("the proved archive links into x86-64 Linux programs only");
 
+mod alike;
 mod error;
 mod ffi;
 pub mod raw;
 mod section;
 
+pub use alike::AlikeNames;
 pub use error::{Context, Error, FunctionMetadata, Reason};
 pub use section::Section;
 
-/// The budget that the Rust reader starts with, and that [`find_artifact`] reads under.
+/// The budget that the Rust reader starts with, and that [`find_artifact`] and [`alike_names`] read under.
 pub const STARTING_BUDGET: u64 = 536_870_912;
 
 /// The longest pack, in bytes.
@@ -120,6 +122,32 @@ pub fn read_section(
 /// The payload of the first artifact with exactly these name bytes. Reads the whole pack under [`STARTING_BUDGET`].
 pub fn find_artifact<'a>(pack: &'a [u8], name: &[u8]) -> Result<&'a [u8], Error> {
     ffi::find_artifact(pack, name).map(|payload| &pack[payload])
+}
+
+/// Two names of one table that are the same letters, composed in one and decomposed in the other, or `None` exactly if the pack
+/// has no such pair. Reads the whole pack under [`STARTING_BUDGET`].
+///
+/// Names are compared with each letter from U+00C0 to U+017F replaced by its canonical decomposition, where it has one; all other
+/// characters stay, and marks keep their order. A table is the fields of a struct other than "_", the method names of an
+/// interface, its methods, the methods of a named type, or those of a runtime interface. Of several pairs the answer is the one
+/// whose later name ends earliest in the pack, with the earlier name nearest to it.
+///
+/// ```
+/// // A struct with the fields "\u{e9}" and "e\u{301}".
+/// let mut pack = b"VOB\x18\0\0\0\0\0\0\0\x01\0\0\0\0\0\0\0\x02\0\0\0".to_vec();
+/// for name in ["\u{e9}", "e\u{301}"] {
+///     pack.extend((name.len() as u32).to_le_bytes());
+///     pack.extend(name.as_bytes());
+///     pack.extend([0; 10]);
+/// }
+/// pack.extend([0; 97]);
+///
+/// let pair = vob::alike_names(&pack)?.unwrap();
+/// assert_eq!((pair.earlier, pair.later), (27..29, 43..46));
+/// # Ok::<(), vob::Error>(())
+/// ```
+pub fn alike_names(pack: &[u8]) -> Result<Option<AlikeNames>, Error> {
+    ffi::alike_names(pack)
 }
 
 /// The size in bytes that an entry is charged, by its number in document 01's table of sizes, 1 to 33.

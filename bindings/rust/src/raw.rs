@@ -1,7 +1,7 @@
 //! The archive's functions as `bindings/c/vob.h` declares them: the one declaration of the C ABI in Rust, for this crate and for
 //! programs that compare or time the calls themselves. Other programs use the safe functions of [`crate`].
 
-/// An answer as its six numbers. `number` is 0 where it is taken or found, else the refusal's; `vob.h` says what the values are.
+/// An answer as its six numbers. `number` is 0 where there is no refusal, else the refusal's; `vob.h` says what the values are.
 #[repr(C)]
 #[derive(Clone, Copy, Debug, PartialEq, Eq)]
 pub struct Answer {
@@ -56,6 +56,12 @@ unsafe extern "C" {
     /// # Safety
     /// As for [`vob_read`].
     pub fn vob_find_artifact(pack: *const u8, pack_length: usize, name: *const u8, name_length: usize) -> Answer;
+
+    /// Finds two names of one table that print alike.
+    ///
+    /// # Safety
+    /// As for [`vob_read`].
+    pub fn vob_alike_names(pack: *const u8, pack_length: usize) -> Answer;
 
     /// Reads the inline sources alone, bounded by the number of functions.
     ///

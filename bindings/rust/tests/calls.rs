@@ -1,6 +1,9 @@
-//! Document 01's worked examples, and the limits of budget and tape, through the safe calls.
+//! Document 01's worked examples, the limits of budget and tape, and names that print alike, through the safe calls.
 
-use vob::{Context, Error, FIRST_SECTION, FunctionMetadata, MAX_PACK_BYTES, Reading, Reason, STARTING_BUDGET, Section};
+use vob::{
+    AlikeNames, Context, Error, FIRST_SECTION, FunctionMetadata, MAX_PACK_BYTES, Reading, Reason, STARTING_BUDGET,
+    Section,
+};
 
 /// What a word of the tape holds before a call.
 const UNWRITTEN: u32 = 0x5eed_5eed;
@@ -28,6 +31,70 @@ fn with_artifacts(artifacts: &[(&[u8], &[u8])]) -> Vec<u8> {
     }
     pack.resize(pack.len() + 16, 0);
     pack
+}
+
+/// A table of names: the fields of a struct, the two lists of an interface, the methods of a named type, the fields of a runtime
+/// struct, the methods of a runtime interface.
+#[derive(Clone, Copy, Debug, PartialEq)]
+enum Table {
+    Fields,
+    InterfaceNames,
+    InterfaceMethods,
+    NamedMethods,
+    RuntimeFields,
+    RuntimeMethods,
+}
+
+const TABLES: [Table; 6] = [
+    Table::Fields,
+    Table::InterfaceNames,
+    Table::InterfaceMethods,
+    Table::NamedMethods,
+    Table::RuntimeFields,
+    Table::RuntimeMethods,
+];
+
+/// The bare pack with tables of one kind, each in an entry of its own, and where the names start.
+fn with_tables(table: Table, tables: &[&[&str]]) -> (Vec<u8>, Vec<usize>) {
+    // The section; the bytes of an entry before the table, those of an item after its name, those of an entry after the table.
+    let (section, before, after_name, after): (_, &[u8], _, _) = match table {
+        Table::Fields => (11, &[0; 4], 10, 0),
+        Table::InterfaceNames => (15, &[0; 4], 0, 4),
+        Table::InterfaceMethods => (15, &[0; 8], 4, 0),
+        Table::NamedMethods => (19, &[0; 12], 10, 0),
+        Table::RuntimeFields => (27, &[8, 0, 0, 0, 0], 13, 0),
+        Table::RuntimeMethods => (27, &[9, 0, 0, 0, 0], 4, 0),
+    };
+    let bare = named(b"");
+    let mut pack = bare[..section].to_vec();
+    let mut starts = Vec::new();
+    pack.extend((tables.len() as u32).to_le_bytes());
+    for names in tables {
+        pack.extend(before);
+        pack.extend((names.len() as u32).to_le_bytes());
+        for name in *names {
+            pack.extend((name.len() as u32).to_le_bytes());
+            starts.push(pack.len());
+            pack.extend(name.as_bytes());
+            pack.resize(pack.len() + after_name, 0);
+        }
+        pack.resize(pack.len() + after, 0);
+    }
+    pack.extend(&bare[section + 4..]);
+    (pack, starts)
+}
+
+/// The numbers, from 0 over all tables, of the two names that print alike. The pack is read as ever.
+fn pair(table: Table, tables: &[&[&str]]) -> Option<(usize, usize)> {
+    let (pack, starts) = with_tables(table, tables);
+    vob::read(&pack, STARTING_BUDGET, &mut vec![0; pack.len()]).unwrap();
+    let names = tables.concat();
+    vob::alike_names(&pack).unwrap().map(|AlikeNames { earlier, later }| {
+        let number = |start| starts.iter().position(|name| *name == start).unwrap();
+        let (first, second) = (number(earlier.start), number(later.start));
+        assert_eq!((&pack[earlier], &pack[later]), (names[first].as_bytes(), names[second].as_bytes()));
+        (first, second)
+    })
 }
 
 /// Reads a pack that must be refused, and sees that the tape is as it was.
@@ -170,6 +237,76 @@ fn inline_functions_are_bounded_by_the_functions() {
     let reason = Reason::DebugMetadataLimitExceeded { context: Context::InlineFunctions, length: 1, maximum: 0 };
     assert_eq!(read(0), Err(Error { reason, place: 8, left: 32 }));
     assert_eq!(read(1), Ok(Reading { words: 4, bytes: 16, charged: 32, left: 0 }));
+}
+
+#[test]
+fn letters_composed_and_decomposed_are_alike() {
+    for table in TABLES {
+        let fields_of_runtime_structs = table == Table::RuntimeFields;
+        let alike = |names: &[&str]| pair(table, &[names]);
+        let expected = if fields_of_runtime_structs { None } else { Some((0, 1)) };
+        assert_eq!(alike(&["\u{e9}", "e\u{301}"]), expected, "{table:?}");
+        assert_eq!(alike(&["e\u{301}", "\u{e9}"]), expected, "{table:?}");
+        assert_eq!(alike(&["\u{17e}eljko \u{10c}apek", "z\u{30c}eljko C\u{30c}apek"]), expected, "{table:?}");
+        assert_eq!(alike(&["e", "\u{e9}", "\u{e8}", "e\u{302}"]), None, "{table:?}");
+    }
+}
+
+#[test]
+fn one_letter_at_a_time_in_the_range_alone() {
+    let alike = |one, other| pair(Table::InterfaceNames, &[&[one, other]]).is_some();
+    assert!(alike("\u{ea}\u{323}", "e\u{302}\u{323}"));
+    // The same marks in another order, and letters outside the range.
+    assert!(!alike("\u{ea}\u{323}", "e\u{323}\u{302}"));
+    assert!(!alike("\u{ea}\u{323}", "\u{1ec7}"));
+    assert!(!alike("e\u{302}\u{323}", "\u{1ec7}"));
+    assert!(!alike("\u{1ce}", "a\u{30c}"));
+    assert!(!alike("\u{212b}", "\u{c5}"));
+    // The first and the last letter of the range; a letter without a decomposition; decompositions with a tag.
+    assert!(alike("\u{c0}", "A\u{300}"));
+    assert!(alike("\u{17e}", "z\u{30c}"));
+    assert!(!alike("\u{d8}", "O\u{338}"));
+    for (letter, letters) in [("\u{132}", "IJ"), ("\u{13f}", "L\u{b7}"), ("\u{149}", "\u{2bc}n"), ("\u{17f}", "s")] {
+        assert!(!alike(letter, letters));
+    }
+}
+
+#[test]
+fn the_pair_whose_later_name_ends_earliest() {
+    let (first, second): (&[&str], &[&str]) =
+        (&["\u{e9}", "a", "\u{f1}"], &["o", "n\u{303}", "\u{f6}", "\u{f1}", "o\u{308}"]);
+    for table in TABLES {
+        if table != Table::RuntimeFields {
+            // No pair stands across two tables.
+            assert_eq!(pair(table, &[first, &second[..3]]), None, "{table:?}");
+            assert_eq!(pair(table, &[first, second]), Some((4, 6)), "{table:?}");
+        }
+    }
+    assert_eq!(pair(Table::Fields, &[&["_", "_", "\u{e9}", "_", "e\u{301}"]]), Some((2, 4)));
+}
+
+#[test]
+fn alike_names_of_a_refused_pack() {
+    let (pack, _) = with_tables(Table::Fields, &[&["\u{e9}", "e\u{301}"]]);
+    // A struct of 96 bytes, and two fields of 64, names and their keys of 5, entries of 32 in the index.
+    let left = STARTING_BUDGET - (96 + 2 * (64 + 5 + 32));
+    let reason = Reason::UnexpectedEof;
+    let place = pack.len() - 4;
+    assert_eq!(vob::alike_names(&pack[..pack.len() - 1]), Err(Error { reason, place, left }));
+    let (pack, starts) = with_tables(Table::InterfaceNames, &[&["\u{e9}", "e\u{301}", "\u{e9}"]]);
+    let reason = Reason::DuplicateInterfaceMethod { start: starts[2] as u64, length: 2 };
+    assert_eq!(vob::alike_names(&pack).unwrap_err().reason, reason);
+    let error = Error { reason: Reason::UnexpectedEof, place: 0, left: STARTING_BUDGET };
+    assert_eq!(vob::alike_names(&[]), Err(error));
+}
+
+#[test]
+fn text_of_a_pair() {
+    assert_eq!(
+        AlikeNames { earlier: 27..29, later: 43..46 }.to_string(),
+        "the 2 bytes from byte 27 on and the 3 bytes from byte 43 on are names that print alike: they may be one field or \
+         method, sent in two forms; ask the pack's author to send one form, and do not pair by this pack before that is settled"
+    );
 }
 
 #[test]

@@ -4,7 +4,7 @@ mod stored;
 
 use std::path::Path;
 use stored::Record;
-use vob::{Error, Reading, Section};
+use vob::{AlikeNames, Error, Reading, Section};
 
 /// What a word of the tape holds before a call.
 const UNWRITTEN: u32 = 0x5eed_5eed;
@@ -51,6 +51,16 @@ fn found(pack: &[u8], answer: Result<&[u8], Error>) -> (bool, [u64; 6]) {
     }
 }
 
+fn alike(answer: Result<Option<AlikeNames>, Error>) -> (bool, [u64; 6]) {
+    match answer {
+        Ok(None) => (false, [0; 6]),
+        Ok(Some(AlikeNames { earlier, later })) => {
+            (false, [1, earlier.start, earlier.len(), later.start, later.len(), 0].map(|number| number as u64))
+        }
+        Err(refusal) => (true, refusal.numbers()),
+    }
+}
+
 fn sum(words: &[u32]) -> u32 {
     words.iter().fold(0, |sum: u32, word| sum.wrapping_mul(31).wrapping_add(*word))
 }
@@ -64,7 +74,9 @@ fn replay(record: &Record, unwritten: &[u32]) {
             let section = section(record.section, record.functions);
             taken(vob::read_section(section, pack, record.place as usize, record.budget, &mut tape))
         }
-        _ => found(pack, vob::find_artifact(pack, &record.name)),
+        stored::LOOKUP => found(pack, vob::find_artifact(pack, &record.name)),
+        stored::ALIKE => alike(vob::alike_names(pack)),
+        kind => panic!("no call has the kind {kind}"),
     };
     assert_eq!(answer, (record.refused, record.fields));
     let (written, rest) = tape.split_at(record.count);
@@ -105,6 +117,11 @@ fn damage() {
 #[test]
 fn lookups() {
     replay_list("lookups.bin");
+}
+
+#[test]
+fn alike_names() {
+    replay_list("alike.bin");
 }
 
 #[test]

@@ -7,6 +7,8 @@ const HEADER: usize = 128;
 
 pub const WHOLE: u32 = 1;
 pub const SECTION: u32 = 2;
+pub const LOOKUP: u32 = 3;
+pub const ALIKE: u32 = 5;
 
 /// A record: what to call, and what the oracle answered.
 pub struct Record {
