@@ -1,4 +1,4 @@
--- The lookup in a pack that a whole reading has taken.
+-- The lookup, and names alike, in a pack that a whole reading has taken.
 use Prim.Native.Nat.{ℕ, _+_, _-_}
 use mathlib.Core.Path.{_≡_, _∙_}
 use mathlib.Core.List.{List, []}
@@ -6,6 +6,7 @@ use mathlib.Core.Bool.{Bool}
 use native.Mathlib.Omega.{arith}
 use lib.ListN.{length}
 use Rattle.format.specs.Trace.{refused, taken, settle}
+use Rattle.format.specs.SettleTheorems.{settle-taken}
 use Rattle.format.specs.Format.{Value, entries}
 use Rattle.format.specs.Reading.{part, trace}
 use Rattle.vob24.specs.Settings.{Settings, startingBudget}
@@ -17,6 +18,11 @@ use Rattle.calls.specs.Contract.{from, Opens, Ends}
 use Rattle.calls.proofs.Laws.{Passed, passed, denied, read-passed}
 use Rattle.lookup.specs.Look.{ArtifactsAt, LooksFrom, LocateCall, FindCall}
 use Rattle.lookup.specs.declared.Found.{Found}
+use Rattle.alike.specs.Alike.{alikeOutcome}
+use Rattle.in_place.specs.Walk.{valueAt, stand}
+use Rattle.in_place.specs.Contract.{Placed}
+use Rattle.alike_names.specs.Contract.{AlikeCall, AlikeIn}
+use Rattle.alike_names.specs.declared.Alike.{Alike}
 use Rattle.reader.specs.Accepted.{Accepted}
 use Rattle.reader.proofs.Accepting.{taken-accepted}
 use Rattle.reader.specs.Contract.{wrongOf, Ready, Reader, On}
@@ -84,3 +90,33 @@ module _ {set : Settings} {s name : List ℕ} {q : Found} (l : LocateCall set s 
 
   pub find-none : {x : Refusal} → q ≡ Found.Not x → FindCall set s name []
   find-none e = record { is = rw (← (l .is), e) }
+
+-- ---- names alike
+
+-- A pack that was taken: its value, and that it stands in the file.
+record Stood (set : Settings) (s : List ℕ) (b : ℕ) (c : Cursor) : Type 0 where
+  value : Value
+  settles : settle b (wholeTrace set s) ≡ taken value (c .place) (c .left)
+  placed : Placed (pack set) s 0
+  is : valueAt (pack set) s 0 ≡ value
+
+stood : (set : Settings) {s : List ℕ} {r : Step} {b : ℕ} {c : Cursor} {r′ : Step} → Passed (pack set) (wholeTrace set s) s 0 b r r′
+    → r′ ≡ Taken c → Ready s r → Stood set s b c
+stood set {s} {r} {b} {c} (passed {v = v} {c = d} o i k m) e y =
+    let x : d ≡ c = cc in
+    let a = stand (settle-taken b (trace (pack set) s 0) v (d .place) (d .left) .0 k .0) in
+    let z : Ready s (Taken (from 0 b)) = rw o at y in
+    record { value = v; settles = rw x at i; placed = record { small = z .small; stands = a .stands }; is = a .value }
+stood set (denied i) e y = let no : _≡_ {A = ℕ} 0 1 = cc in absurd (omega arith)
+
+module _ (set : Settings) {s : List ℕ} {r₀ r r′ : Step} {t e : List ℕ} (o : Opens s 0 startingBudget r₀) (k : Reader (pack set) s r₀ t r e) (g : Ends (length s) r r′) where
+  pub alike-placed : {c : Cursor} → r′ ≡ Taken c → Placed (pack set) s 0
+  alike-placed i = stood set (read-passed set o k g) i (o .ready) .placed
+
+  pub alike-found : {c : Cursor} {q : Alike} → r′ ≡ Taken c → AlikeIn set s q → AlikeCall set s q
+  unfolding alikeOutcome
+  alike-found i l = let w = stood set (read-passed set o k g) i (o .ready) in record { is = l .is ∙ rw (w .is, w .settles) }
+
+  pub alike-refused : {x : Refusal} → r′ ≡ Refused x → AlikeCall set s (Alike.Not x)
+  unfolding alikeOutcome
+  alike-refused i = record { is = rw (denied-of set (read-passed set o k g) i) }

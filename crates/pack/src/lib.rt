@@ -1,9 +1,11 @@
-// The public calls on a whole pack: reading it under a budget, and the lookup of an artifact.
+// The public calls on a whole pack: reading it under a budget, the lookup of an artifact, and names that print alike.
 // Port the callers' side of Module::deserialize and Module::artifact; the budget and the tape are added.
 ghost use Rattle.vob24.specs.Settings.{settings, settingsOf};
 ghost use Rattle.calls.specs.Contract.{Opens, ReadCall};
 ghost use Rattle.lookup.specs.Look.{LocateCall, FindCall};
+ghost use Rattle.alike_names.specs.Contract.{AlikeCall};
 ghost use Rattle.pack.specs.Find.{Whole, Located};
+use alike_names::Alike;
 use calls::Answer;
 use lookup::Found;
 use reader::Cursor;
@@ -11,7 +13,7 @@ use reader::Step;
 use vob24_data::Section;
 use vob24_data::Settings;
 
-// The Rust's own, under which the lookup reads.
+// The Rust's own, under which the lookup and names alike read.
 pub const STARTING_BUDGET: u64 = 536_870_912;
 
 // A pack of at most SMALL bytes is read once, into a local tape of OWN words that is then copied. A pack without entries
@@ -102,5 +104,21 @@ pub fn find_artifact<'a>(pack: &'a [u8], name: &[u8]) -> &'a [u8]
             &pack[start..end]
         }
         Found::Not(_) => &pack[..0],
+    }
+}
+
+// Start and length of two names of one table that are the same letters, composed in one and decomposed in the other: the
+// pair whose later name ends earliest in the file, with the earlier name nearest to it; none; or the refusal.
+pub fn alike_names(pack: &[u8]) -> Alike
+    ensures { λ q. ⌜ AlikeCall settings (now (pack .entry)) q ⌝ }
+{
+    let set = &vob24_data::MEASURED;
+    let mut none = [0u32; 1];
+    let start = calls::opening_whole(pack, STARTING_BUDGET);
+    let first = deserialize::deserialize(pack, set, start, false, &mut none[..0]);
+    let end = calls::ended(first, pack.len());
+    match end {
+        Step::Refused(x) => Alike::Not(x),
+        Step::Taken(_) => alike_names::find_alike(pack, set),
     }
 }

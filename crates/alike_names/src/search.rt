@@ -1,0 +1,78 @@
+// The pair of one table: the first item whose name is alike to one before it, found by the search for repeats over folded
+// names.
+ghost use Rattle.alike_names.specs.Contract.{TableAt, TableWalk};
+ghost use Rattle.alike_names.specs.Search.{PlainItems, Repeats, PartnerIs, NearerIs};
+ghost use Rattle.in_place.specs.Items.{formatOf};
+ghost use Rattle.in_place.specs.Contract.{Items, TwoPlaced};
+use crate::Walk;
+use crate::skips::past_items;
+use in_place::Item;
+use in_place::Table;
+
+// The place past the items, where no name has a letter that can be decomposed.
+enum Plain {
+    Past(usize),
+    Not,
+}
+
+fn plain_items(s: &[u8], item: Item, from: usize, n: usize) -> Plain
+    requires { ⌜ Items (formatOf item) n (now s) from ⌝ }
+    ensures { λ q. ⌜ PlainItems item n (now (s .entry)) from q ⌝ }
+{
+    let mut p = from;
+    let mut i = 0;
+    while i < n {
+        let len = in_place::word_at(s, p);
+        if !folding::plain(s, p + 4, len) {
+            return Plain::Not;
+        }
+        p = in_place::past(s, item, p);
+        i += 1;
+    }
+    Plain::Past(p)
+}
+
+// The last of the first i items from `from` on whose name is alike to that of item i, which stands at p.
+fn partner(s: &[u8], item: Item, from: usize, i: usize, p: usize) -> usize
+    requires { ⌜ Repeats item (now s) from i p ⌝ }
+    ensures { λ q. ⌜ PartnerIs item (now (s .entry)) from i p q ⌝ }
+{
+    let mut best = p;
+    let mut at = from;
+    let mut k = 0;
+    while k < i {
+        best = nearer(s, item, p, at, best);
+        at = in_place::past(s, item, at);
+        k += 1;
+    }
+    best
+}
+
+// The place a where the name there is alike to that at p, else the best so far.
+fn nearer(s: &[u8], item: Item, p: usize, a: usize, best: usize) -> usize
+    requires { ⌜ TwoPlaced (formatOf item) (now s) p a ⌝ }
+    ensures { λ q. ⌜ NearerIs item (now (s .entry)) p a best q ⌝ }
+{
+    if in_place::same_key(s, Table::Alike(item), p, a) {
+        return a;
+    }
+    best
+}
+
+// The pair of the n items from `from` on. Where no name has a letter to decompose, names that were read as different are
+// not alike, and there is no search.
+pub(crate) fn table(s: &[u8], item: Item, from: usize, n: usize) -> Walk
+    requires { ⌜ TableAt item n (now s) from ⌝ }
+    ensures { λ q. ⌜ TableWalk item n (now (s .entry)) from q ⌝ }
+{
+    if let Plain::Past(end) = plain_items(s, item, from, n) {
+        return Walk::Past(end);
+    }
+    let i = repeat_search::first_repeat(s, Table::Alike(item), from, n);
+    if n <= i {
+        return Walk::Past(past_items(s, item, from, n));
+    }
+    let p = past_items(s, item, from, i);
+    let a = partner(s, item, from, i, p);
+    Walk::Found(a + 4, in_place::word_at(s, a), p + 4, in_place::word_at(s, p))
+}
