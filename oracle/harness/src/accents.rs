@@ -127,9 +127,17 @@ pub fn spelled(text: &str, which: u64) -> String {
     out
 }
 
+/// A text with each letter that has its mark after it as one code.
+pub fn composed(text: &str) -> String {
+    let join = |text: String, (code, letter, mark): (char, char, char)| {
+        text.replace(&format!("{letter}{mark}"), &code.to_string())
+    };
+    decompositions().fold(text.to_string(), join)
+}
+
 /// Each of the 31 codes of U+00C0 to U+017F that stay, beside what a compatibility decomposition would make of it or, where
 /// it has none, what is taken for the same letter.
-const STAY: [(&str, &str); 31] = [
+pub const STAY: [(&str, &str); 31] = [
     ("\u{c6}", "AE"),
     ("\u{d0}", "D\u{335}"),
     ("\u{d7}", "x"),
@@ -164,8 +172,8 @@ const STAY: [(&str, &str); 31] = [
 ];
 
 /// Names that are not alike: a letter outside the range beside its decomposition, in one round and in two; singletons;
-/// marks in another order; another mark, another letter, no mark.
-pub const NOT_ALIKE: [(&str, &str); 34] = [
+/// marks in another order; another mark, another letter, no mark, a mark more.
+pub const NOT_ALIKE: [(&str, &str); 36] = [
     ("\u{be}", "3\u{2044}4"),
     ("\u{1ce}", "a\u{30c}"),
     ("\u{1d5}", "\u{dc}\u{304}"),
@@ -199,6 +207,8 @@ pub const NOT_ALIKE: [(&str, &str); 34] = [
     ("\u{e9}", "\u{c9}"),
     ("\u{e9}", "E\u{301}"),
     ("\u{e9}", "\u{301}e"),
+    ("\u{ea}", "\u{ea}\u{323}"),
+    ("e\u{302}", "\u{ea}\u{323}"),
     ("\u{d55c}", "\u{1112}\u{1161}\u{11ab}"),
 ];
 
