@@ -15,7 +15,7 @@ FIRST, LAST = 0xC0, 0x17F
 # The first byte of a mark's UTF-8, which the code's array leaves out: U+0300 to U+033F.
 LEAD = 0xCC
 
-SPECIFICATION = "crates/vob24/specs/Decompositions.antt"
+SPECIFICATION = "crates/alike/specs/Decompositions.antt"
 CODE = "crates/folding/src/lib.rt"
 HARNESS = "oracle/harness/src/alike.rs"
 HEX = r"0[xX][0-9A-Fa-f]+"
@@ -36,8 +36,12 @@ def rows(path, found):
 
 
 def specification():
-    """Rows (code, letter, mark)."""
-    found = re.findall(rf"\(\s*({HEX})\s*,\s*({HEX})\s*,\s*({HEX})\s*\)", text(SPECIFICATION))
+    """Rows (code, letter, mark), of the list of that name."""
+    body = re.search(r"^decompositions =(.*?)\[\]", text(SPECIFICATION), re.M | re.S)
+    if body is None:
+        problems.append(f"{SPECIFICATION}: there is no list decompositions")
+        return {}
+    found = re.findall(rf"\(\s*({HEX})\s*,\s*({HEX})\s*,\s*({HEX})\s*\)", body.group(1))
     return rows(SPECIFICATION, [tuple(int(number, 16) for number in row) for row in found])
 
 
