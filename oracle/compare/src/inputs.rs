@@ -143,7 +143,7 @@ pub fn accented(chance: &mut Chance) -> Vec<u8> {
     let letters: Vec<char> = alike::decompositions().map(|(code, _, _)| code).collect();
     let words: Vec<String> = (0..1 + chance.below(4)).map(|_| word(chance, &letters)).collect();
     let mut tables = Tables::default();
-    // Half of the packs have no pair.
+    // Half of the packs are made without a pair.
     let none = chance.flag();
     for _ in 0..1 + chance.below(6) {
         let apart = none || chance.flag();

@@ -66,12 +66,12 @@ impl Tables {
         self
     }
 
-    pub fn with_interface(mut self, names: &[&str], methods: &[&str]) -> Self {
+    fn with_interface(mut self, names: &[&str], methods: &[&str]) -> Self {
         self.interfaces.push([names, methods].map(|list| list.iter().map(|name| name.to_string()).collect()));
         self
     }
 
-    pub fn with_runtime_struct(mut self, fields: &[(&str, &str)]) -> Self {
+    fn with_runtime_struct(mut self, fields: &[(&str, &str)]) -> Self {
         let fields = fields.iter().map(|(package, name)| (package.to_string(), name.to_string()));
         self.runtime_types.push(RuntimeType::Struct(fields.collect()));
         self
@@ -100,7 +100,7 @@ impl Tables {
 }
 
 /// A pack with one table.
-pub fn one(kind: Kind, names: &[impl AsRef<str>]) -> Vec<u8> {
+fn one(kind: Kind, names: &[impl AsRef<str>]) -> Vec<u8> {
     Tables::default().with(kind, names).pack()
 }
 
@@ -372,7 +372,7 @@ fn offsets(cases: &mut Vec<Case>) {
 }
 
 /// Names that differ from one another, accents in most of them.
-pub fn different(count: usize) -> Vec<String> {
+fn different(count: usize) -> Vec<String> {
     let opening = ["\u{e9}", "e\u{301}", "\u{160}", "x"];
     (0..count).map(|i| format!("{}{i}", opening[i % opening.len()])).collect()
 }
