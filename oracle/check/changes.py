@@ -29,7 +29,8 @@ DATA = "crates/replay/data"
 EXTERN_DEF = 144
 NAMES = {
     "refused": ("number", "c", "d1", "d2", "place", "left"), "text": ("start", "length", "characters", "place", "left"),
-    "lookup": ("start", "length"), "whole": ("words", "bytes", "charged", "left")}
+    "lookup": ("start", "length"), "alike": ("pair", "start", "length", "later start", "later length"),
+    "whole": ("words", "bytes", "charged", "left")}
 NAMES["section"] = NAMES["whole"]
 
 

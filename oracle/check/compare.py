@@ -8,6 +8,7 @@ Ends with 1 where an answer differs or, with --coverage, where a question that t
 
 import os
 import sys
+import unicodedata
 from collections import Counter
 
 sys.path.insert(0, os.path.dirname(os.path.abspath(__file__)))
@@ -33,6 +34,8 @@ def answer(record, coverage):
                               coverage)
     if record.kind == "text":
         return reader.text(record.pack, record.place, record.budget, coverage)
+    if record.kind == "alike":
+        return reader.alike_names(record.pack, coverage)
     return reader.lookup(record.pack, record.name, coverage)
 
 
@@ -64,17 +67,20 @@ def main(args):
     bad = 0
     coverage = (set(), set())
     for path in files:
-        numbers, count = Counter(), 0
+        numbers, count, pairs = Counter(), 0, 0
         for index, record in enumerate(records(path)):
             count += 1
             difference = differs(record, answer(record, coverage))
             numbers[record.fields[0] if record.status else 0] += 1
+            pairs += record.kind == "alike" and record.status == 0 and record.fields[0]
             if difference:
                 bad += 1
                 if bad <= 10:
                     print(f"{path} record {index} ({record.kind}, {len(record.pack)} bytes): {difference}")
                     print("  " + record.pack[:200].hex())
         table = " ".join(f"{number}:{numbers[number]}" for number in sorted(numbers))
+        if pairs:
+            table += f"; {pairs} pairs, by Unicode {unicodedata.unidata_version}"
         print(f"{os.path.basename(path)}: {count} compared; by number, 0 for taken: {table}")
     if with_coverage:
         asked, denied = coverage

@@ -1,6 +1,6 @@
 #!/usr/bin/env python3
-"""Compares what `oracle read`, `section` and `lookup` print with the second reader: answer, charge list, section starts
-and tape. Packs: the stored ones of packcheck.bin, and large ones at the limits that no stored pack reaches.
+"""Compares what `oracle read`, `section`, `lookup` and `alike` print with the second reader: answer, charge list, section
+starts and tape. Packs: the stored ones of packcheck.bin, and large ones at the limits that no stored pack reaches.
 
 usage: printed.py ORACLE PACKCHECK.BIN
 """
@@ -39,6 +39,14 @@ def read_text(pack, budget, tape):
     if result.status == 0:
         lines += tape_lines(result.words)
     return "\n".join(lines) + "\n"
+
+
+def alike_text(pack):
+    result = reader.alike_names(pack)
+    if result.status:
+        return line(result) + "\n"
+    found, *pair = result.fields
+    return " ".join(["pair", *map(str, pair)] if found else ["none"]) + "\n"
 
 
 def u32(*numbers):
@@ -123,12 +131,14 @@ def main(program, path):
         result = reader.section(pack, number, 5, 77, 0, NO_TAPE_LIMIT)
         check("section of too long a pack", oracle(program, "section", pack, number, 5, 77), line(result) + "\ntape:\n")
     check("lookup in too long a pack", oracle(program, "lookup", pack, "p"), line(reader.lookup(pack, b"p")) + "\n")
+    check("names alike in too long a pack", oracle(program, "alike", pack), alike_text(pack))
     pack = artifacts(2, 3)
     start, length = reader.lookup(pack, b"p").fields
     check("lookup", oracle(program, "lookup", pack, "p"), f"found {start} {length}\n")
     for kind in ("mixed", "names", "slots", "texts", "code"):
         pack = subprocess.run([program, "pack", kind, "200000", "1"], stdout=subprocess.PIPE, check=True).stdout
         check(f"{kind} pack", oracle(program, "read", pack), read_text(pack, reader.RUST_BUDGET, NO_TAPE_LIMIT))
+        check(f"names alike in a {kind} pack", oracle(program, "alike", pack), alike_text(pack))
         print(f"{kind}, {len(pack)} bytes: {line(reader.whole(pack, reader.RUST_BUDGET, NO_TAPE_LIMIT))}")
     print(f"{compared} printed readings compared: " + ("no difference" if not bad else f"{bad} differences"))
     return bad != 0

@@ -1,8 +1,10 @@
 """A second reader of VOB 24 packs, written from document 01 and serialize.rs and independent of the harness.
 
-It computes whole answers: tape words, charge list, section starts, place, budget left, section calls, lookups and texts.
-For the coverage table it also notes at which place of the format each question was put and answered no.
+It computes whole answers: tape words, charge list, section starts, place, budget left, section calls, lookups, texts and
+names that print alike. For the coverage table it also notes at which place of the format each question was put and answered no.
 """
+
+import unicodedata
 
 RUST_BUDGET = 536_870_912
 MAX_PACK = 134_217_728
@@ -66,10 +68,25 @@ def characters(text):
     return found
 
 
+def folded(name):
+    """A name's characters, each letter U+00C0 to U+017F that has a canonical decomposition replaced by it, once."""
+    out = []
+    for character in name.decode("utf-8"):
+        codes = unicodedata.decomposition(character).split() if 0xC0 <= ord(character) <= 0x17F else []
+        # A decomposition with a tag is one of compatibility.
+        if codes and not codes[0].startswith("<"):
+            out += [int(code, 16) for code in codes]
+        else:
+            out.append(ord(character))
+    return tuple(out)
+
+
 class Reader:
     def __init__(self, pack, place, budget, coverage=None):
         self.pack, self.place, self.left = pack, place, budget
         self.words, self.charges = [], []
+        # Start and bytes of the names of each table in which two may print alike.
+        self.tables = []
         self.asked, self.denied = coverage if coverage is not None else (set(), set())
 
     # Questions and charges.
@@ -208,6 +225,7 @@ class Reader:
             self.charge("structs.fields", 4, len(name))
             self.ask("structs.fields", name not in seen, 16, 0, start, len(name))
             seen.add(name)
+        self.tables.append(names)
 
     def struct_field(self):
         name = self.text("structs.fields.name")
@@ -240,6 +258,7 @@ class Reader:
         for start, name in names:
             self.ask(where + " set", name not in seen, 17, 0, start, len(name))
             seen.add(name)
+        self.tables.append(names)
 
     def named_types(self):
         self.list("named_types", NAMED_TYPE, self.named_type)
@@ -253,7 +272,7 @@ class Reader:
         self.ask(where, count <= self.bytes_left() // 14, 2, kind="count")
         self.charge(where, 6, count * (METHOD_ENTRY + 3 * USIZE))
         self.put(count)
-        seen = set()
+        seen, names = set(), []
         for _ in range(count):
             start, name = self.text("named_types.methods.name")
             self.u32("named_types.methods.func_id")
@@ -262,6 +281,8 @@ class Reader:
             self.u32("named_types.methods.signature_rttid")
             self.ask(where, name not in seen, 18, 0, start, len(name))
             seen.add(name)
+            names.append((start, name))
+        self.tables.append(names)
 
     def itabs(self):
         def itab():
@@ -524,6 +545,7 @@ class Result:
         self.status, self.fields = status, fields
         self.words = reader.words if reader and status == 0 else []
         self.charges = reader.charges if reader else []
+        self.tables = reader.tables if reader and status == 0 else []
         self.sections, self.artifacts = sections, artifacts
 
 
@@ -598,3 +620,22 @@ def lookup(pack, name, coverage=None):
         coverage[1].add((27, "lookup", ""))
         coverage[0].add((27, "lookup", ""))
     return Result(1, (27, 0, 0, 0, taken, left))
+
+
+def alike_names(pack, coverage=None):
+    """Status 0 with 1 and start and length of two names that print alike, the earlier one first, or with 0; or a refusal."""
+    result = whole(pack, RUST_BUDGET, NO_END, coverage)
+    if result.status == 1:
+        return result
+    best = None
+    for names in result.tables:
+        before = {}
+        for start, name in names:
+            earlier = before.setdefault(folded(name), [])
+            for other in earlier:
+                # The later name that ends first; of its partners the one that ends last.
+                rank = (start + len(name), -(other[0] + len(other[1])))
+                if best is None or rank < best[0]:
+                    best = rank, (1, other[0], len(other[1]), start, len(name))
+            earlier.append((start, name))
+    return Result(0, best[1] if best else (0,))

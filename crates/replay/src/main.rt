@@ -1,9 +1,11 @@
-// Replays the lists of the oracle's answers that its arguments name: whole packs, section calls, lookups, and texts
-// alone. Prints each difference, and a line for each list.
+// Replays the lists of the oracle's answers that its arguments name: whole packs, section calls, lookups, texts alone, and
+// names that print alike. Prints each difference, and a line for each list.
+use alike_names::Alike;
 use lent_sections::Position;
 use lookup::Found;
 use reader::Step;
 use reader::Text;
+use stored_answers::ALIKE_NAMES;
 use stored_answers::LOOKUP;
 use stored_answers::SECTION_CALL;
 use stored_answers::TEXT;
@@ -100,6 +102,16 @@ fn text(t: Tally, h: &[u8], pack: &[u8]) -> Tally {
     }
 }
 
+fn alike_names(t: Tally, h: &[u8], pack: &[u8]) -> Tally {
+    match pack::alike_names(pack) {
+        Alike::Pair(start, length, later_start, later_length) => {
+            stored_answers::hold_pair(t, h, start, length, later_start, later_length)
+        }
+        Alike::None => stored_answers::hold_no_pair(t, h),
+        Alike::Not(r) => stored_answers::hold_refusal(t, h, r),
+    }
+}
+
 fn replay_kind(
     t: Tally,
     h: &[u8],
@@ -118,6 +130,9 @@ fn replay_kind(
     }
     if kind == TEXT {
         return text(t, h, pack);
+    }
+    if kind == ALIKE_NAMES {
+        return alike_names(t, h, pack);
     }
     let t = stored_answers::hold(t, b"kind", kind, WHOLE);
     whole(t, h, pack, words, tape)

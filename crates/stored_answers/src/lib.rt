@@ -19,6 +19,8 @@ pub const LOOKUP: u64 = 3;
 
 pub const TEXT: u64 = 4;
 
+pub const ALIKE_NAMES: u64 = 5;
+
 const HEADER: u64 = 128;
 
 // Offsets in a header.
@@ -387,6 +389,35 @@ pub fn hold_found(t: Tally, h: &[u8], start: usize, length: usize) -> Tally {
     let t = hold(t, b"count", number(h, COUNT), 0);
     let t = hold(t, b"start", long(h, FIELDS), start as u64);
     hold(t, b"length", long(h, FIELDS + 8), length as u64)
+}
+
+// The earlier name and the later one.
+pub fn hold_pair(
+    t: Tally,
+    h: &[u8],
+    start: usize,
+    length: usize,
+    later_start: usize,
+    later_length: usize,
+) -> Tally {
+    let t = hold(t, b"status", long(h, STATUS), 0);
+    let t = hold(t, b"count", number(h, COUNT), 0);
+    let t = hold(t, b"pair", long(h, FIELDS), 1);
+    let t = hold(t, b"start", long(h, FIELDS + 8), start as u64);
+    let t = hold(t, b"length", long(h, FIELDS + 16), length as u64);
+    let t = hold(t, b"later start", long(h, FIELDS + 24), later_start as u64);
+    hold(
+        t,
+        b"later length",
+        long(h, FIELDS + 32),
+        later_length as u64,
+    )
+}
+
+pub fn hold_no_pair(t: Tally, h: &[u8]) -> Tally {
+    let t = hold(t, b"status", long(h, STATUS), 0);
+    let t = hold(t, b"count", number(h, COUNT), 0);
+    hold(t, b"pair", long(h, FIELDS), 0)
 }
 
 // The cursor is the one past the text.

@@ -1,9 +1,10 @@
 //! The calls that are compared, the memory that is lent to them, and the reader of the archive.
 
+use harness::alike::Pair;
 use harness::answer::{self, Answer};
 
 /// An answer as the archive gives it. Taken: 0, words, bytes, charged, left, 0. Refused: number, c, d1, d2, place, left.
-/// Found: 0, start, length, 0, 0, 0.
+/// Found: 0, start, length, 0, 0, 0. Alike: 0, 1, start and length of the earlier name, then of the later one; none alike: zeros.
 pub type Fields = [u64; 6];
 
 pub fn fields(answer: Answer) -> Fields {
@@ -16,6 +17,14 @@ pub fn fields(answer: Answer) -> Fields {
 pub fn found(answer: Result<(u64, u64), Answer>) -> Fields {
     match answer {
         Ok((start, length)) => [0, start, length, 0, 0, 0],
+        Err(refused) => fields(refused),
+    }
+}
+
+pub fn alike(answer: Result<Option<Pair>, Answer>) -> Fields {
+    match answer {
+        Ok(Some([start, length, later_start, later_length])) => [0, 1, start, length, later_start, later_length],
+        Ok(None) => [0; 6],
         Err(refused) => fields(refused),
     }
 }
@@ -50,6 +59,7 @@ pub trait Reader {
         tape: Lent<u32>,
     ) -> Fields;
     unsafe fn lookup(&mut self, pack: Lent<u8>, name: &[u8]) -> Fields;
+    unsafe fn alike_names(&mut self, pack: Lent<u8>) -> Fields;
 }
 
 #[derive(Clone, Debug)]
@@ -57,13 +67,14 @@ pub enum Call {
     Whole { budget: u64, tape: usize },
     Section { number: usize, place: u64, budget: u64, functions: u64, tape: usize },
     Lookup { name: Vec<u8> },
+    AlikeNames,
 }
 
 impl Call {
     pub fn tape(&self) -> usize {
         match self {
             Call::Whole { tape, .. } | Call::Section { tape, .. } => *tape,
-            Call::Lookup { .. } => 0,
+            Call::Lookup { .. } | Call::AlikeNames => 0,
         }
     }
 
@@ -79,6 +90,7 @@ impl Call {
                 (fields(reading.answer), reading.tape())
             }
             Call::Lookup { name } => (found(answer::lookup(pack, name)), Vec::new()),
+            Call::AlikeNames => (alike(answer::alike_names(pack)), Vec::new()),
         }
     }
 
@@ -90,6 +102,7 @@ impl Call {
                 reader.section(*number, pack, *place, *budget, *functions, tape)
             }
             Call::Lookup { name } => reader.lookup(pack, name),
+            Call::AlikeNames => reader.alike_names(pack),
         }
     }
 
@@ -98,6 +111,8 @@ impl Call {
         let [number, a, b, c, d, e] = answer;
         match (self, number) {
             (Call::Lookup { .. }, 0) => format!("found {a} {b}"),
+            (Call::AlikeNames, 0) if answer == [0; 6] => "none".to_string(),
+            (Call::AlikeNames, 0) => format!("pair {a}: {b} {c} {d} {e}"),
             (_, 0) => format!("taken {a} {b} {c} {d}"),
             _ => format!("refused {number} {a} {b} {c} {d} {e}"),
         }
@@ -112,6 +127,7 @@ impl std::fmt::Display for Call {
                 write!(f, "section {number} at {place}, budget {budget}, functions {functions}, tape {tape}")
             }
             Call::Lookup { name } => write!(f, "the lookup of {}", hex(name)),
+            Call::AlikeNames => write!(f, "the names that print alike"),
         }
     }
 }

@@ -1,6 +1,8 @@
 //! The packs that are compared: written by the Rust, damaged, and lists that are gone through to their end.
 
 use crate::round::Class;
+use harness::accents::{self, Kind, RuntimeType, Tables};
+use harness::alike;
 use harness::answer::{self, opening_part, Reading, BARE, NO_END, RUST_BUDGET};
 use harness::cases;
 use harness::packs::{self, Chance};
@@ -59,6 +61,110 @@ pub fn wide(chance: &mut Chance) -> Vec<u8> {
     let kind = ["mixed", "names", "slots", "texts", "code"][chance.below(5) as usize];
     let size = 3_000 + chance.below(5_000) as usize;
     packs::large(kind, size, chance.next()).expect("a known kind and size enough")
+}
+
+fn any<T: Copy>(chance: &mut Chance, from: &[T]) -> T {
+    from[chance.below(from.len() as u64) as usize]
+}
+
+/// A text of a few letters, most of them with a decomposition, some with a mark more, some that only seem to have one, and
+/// of stretches of ASCII that move them.
+fn word(chance: &mut Chance, letters: &[char]) -> String {
+    let mut out = String::new();
+    for _ in 0..1 + chance.below(4) {
+        match chance.below(6) {
+            0..3 => out.push(any(chance, letters)),
+            3 => out.extend([any(chance, letters), any(chance, &['\u{323}', '\u{301}', '\u{327}', '\u{31b}'])]),
+            4 => {
+                let (one, other) = match chance.flag() {
+                    true => any(chance, &accents::STAY),
+                    false => any(chance, &accents::NOT_ALIKE),
+                };
+                out += if chance.flag() { one } else { other };
+            }
+            _ => out += &"abcdefghijklmnop"[..1 + chance.below(16) as usize],
+        }
+    }
+    out
+}
+
+/// The word in any spelling, or what is nearly the word: another mark, another letter, two marks exchanged.
+fn spelling(chance: &mut Chance, word: &str) -> String {
+    let mut name = accents::spelled(word, chance.next());
+    if chance.below(4) == 0 {
+        let mut characters: Vec<char> = alike::folded(word).chars().collect();
+        let at = chance.below(characters.len() as u64) as usize;
+        let mark = ('\u{300}'..'\u{340}').contains(&characters[at]);
+        match chance.below(4) {
+            0 if mark => {
+                characters[at] = any(chance, &['\u{300}', '\u{301}', '\u{302}', '\u{308}', '\u{30c}', '\u{327}'])
+            }
+            1 if at > 0 => characters.swap(at - 1, at),
+            2 => drop(characters.remove(at)),
+            _ => characters[at] = any(chance, &['e', 'E', 's', '\u{17f}', '\u{1ce}']),
+        }
+        name = characters.into_iter().collect();
+        if chance.flag() {
+            name = accents::composed(&name);
+        }
+    }
+    name
+}
+
+/// The names of a table, most of them spellings of a few words. Where `apart`, no two are alike. Now and then a table is so
+/// wide that its names are searched by a filter; there most start with the same letters, and the rest differs.
+fn names(chance: &mut Chance, words: &[String], apart: bool) -> Vec<String> {
+    let wide = match chance.below(400) {
+        0 => 1_025 + chance.below(40),
+        1..16 => 20 + chance.below(24),
+        _ => 0,
+    };
+    let opening = any(chance, &[&words[0][..], "\u{e9}", "x"]);
+    let mut out: Vec<String> = (0..wide).map(|i| format!("{}{i}", accents::spelled(opening, chance.next()))).collect();
+    for _ in 0..1 + chance.below(8) {
+        let name = match chance.below(14) as usize {
+            0 => "_".to_string(),
+            1 => chance.text(),
+            most => spelling(chance, &words[most % words.len()]),
+        };
+        let at = chance.below(out.len() as u64 + 1) as usize;
+        // Most pairs of a wide table end with it.
+        out.insert(if chance.flag() { out.len() } else { at }, name);
+    }
+    let mut seen = std::collections::HashSet::new();
+    // Without this most packs would be refused for a repeated name; "_" may be repeated in a struct.
+    let repeats = chance.below(32) == 0;
+    out.retain(|name| seen.insert(if apart { alike::folded(name) } else { name.clone() }) || repeats);
+    out
+}
+
+/// A pack with accents in each kind of table, in runtime struct fields, and across tables.
+pub fn accented(chance: &mut Chance) -> Vec<u8> {
+    let letters: Vec<char> = alike::decompositions().map(|(code, _, _)| code).collect();
+    let words: Vec<String> = (0..1 + chance.below(4)).map(|_| word(chance, &letters)).collect();
+    let mut tables = Tables::default();
+    // Half of the packs are made without a pair.
+    let none = chance.flag();
+    for _ in 0..1 + chance.below(6) {
+        let apart = none || chance.flag();
+        let names = names(chance, &words, apart);
+        match chance.below(8) {
+            0 => {
+                let methods = self::names(chance, &words, apart);
+                tables.interfaces.push([names, methods]);
+            }
+            1 => {
+                let fields = names.into_iter().map(|name| (any(chance, &["p", "q"]).to_string(), name));
+                tables.runtime_types.push(RuntimeType::Struct(fields.collect()));
+            }
+            2 => {
+                let blanks = vec!["_".to_string(); chance.below(3) as usize];
+                tables = tables.with(Kind::Fields, &[blanks, names].concat());
+            }
+            kind => tables = tables.with(accents::KINDS[kind as usize - 3], &names),
+        }
+    }
+    tables.pack()
 }
 
 /// Packs at the limits that only a long one reaches.
@@ -160,7 +266,7 @@ pub fn marks(reading: &Reading) -> Marks {
 }
 
 fn pick<T: Copy>(chance: &mut Chance, from: &[T]) -> Option<T> {
-    (!from.is_empty()).then(|| from[chance.below(from.len() as u64) as usize])
+    (!from.is_empty()).then(|| any(chance, from))
 }
 
 pub fn set_word(pack: &mut [u8], at: usize, word: u32) {
@@ -193,14 +299,16 @@ pub fn damaged(pack: &[u8], reading: &Reading, chance: &mut Chance) -> Vec<u8> {
             }
         }
         1 | 2 => {
-            // A name repeated, blank, empty or ill-formed.
+            // A name repeated, in another spelling, blank, empty or ill-formed.
             if let (Some(from), Some(to)) = (pick(chance, &marks.texts), pick(chance, &marks.texts)) {
                 let text = pack[from.0..from.0 + from.1].to_vec();
-                let text = match chance.below(8) {
+                let text = match chance.below(10) {
                     0 => b"_".to_vec(),
                     1 => vec![],
                     2 => [&text[..], &[chance.next() as u8]].concat(),
                     3 => text[..text.len() / 2].to_vec(),
+                    4 => accents::spelled(&String::from_utf8_lossy(&text), chance.next()).into_bytes(),
+                    5 => accents::composed(&String::from_utf8_lossy(&text)).into_bytes(),
                     _ => text,
                 };
                 set_text(&mut out, to, &text);
@@ -352,7 +460,11 @@ pub fn families() -> Vec<Family> {
 
     let from = || corpus.clone();
     let (listed, cut, edged, changed, counted) = (from(), from(), from(), from(), from());
+    let accented: Vec<Vec<u8>> = accents::cases().into_iter().map(|case| case.pack).collect();
     vec![
+        Family::new(Class::Accented, "the stored packs with accents", 400, accented.len(), move |i| {
+            accented[i as usize].clone()
+        }),
         Family::new(Class::Listed, "the listed packs", 200, corpus.len(), move |i| listed[i as usize].clone()),
         Family::new(Class::Short, "all inputs of at most two bytes", 50_000, SHORT, short),
         Family::new(Class::Short, "magic, version and at most two bytes", 50_000, SHORT, move |i| {

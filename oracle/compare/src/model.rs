@@ -2,10 +2,12 @@
 //! the oracle; with one the comparison must notice.
 
 use crate::calls::{Fields, Lent, Reader};
+use harness::accents;
+use harness::alike;
 use harness::answer::RUST_BUDGET;
 use harness::sizes;
 use measured::serialize::MAX_VOB_BYTES;
-use std::collections::BTreeMap;
+use std::collections::{BTreeMap, BTreeSet};
 
 macro_rules! mistakes {
     ($($name:ident: $text:literal,)*) => {
@@ -173,6 +175,49 @@ mistakes! {
     LookupUnread: "the lookup finds an artifact of a pack that is refused after it",
     LookupPlace: "27 shows place 0",
     LookupLeft: "27 shows the starting budget",
+    AlikeUnlooked: "no names are alike, said before looking",
+    AlikeRefused: "no names are alike in a pack that is refused",
+    AlikeUnread: "a pair is shown of a pack that is refused after it",
+    AlikeBudget: "names that print alike are looked for under any budget",
+    AlikeLast: "the pair whose later name ends last",
+    AlikeEarliest: "the pair whose earlier name stands first",
+    AlikeSwapped: "of a pair the later name is shown first",
+    AlikeUnmarked: "a pair is shown without its 1",
+    AlikeLengthWord: "a pair's names start at their length words",
+    AlikeFoldedLength: "a pair's lengths are those of the replaced text",
+    AlikeCharacters: "a pair's lengths count characters",
+    AlikeOneLength: "the later name is shown with the earlier one's length",
+    AlikeAcross: "pairs stand across tables",
+    AlikeLists: "an interface's two lists are one table",
+    AlikeRecords: "the records of a section are one table",
+    AlikeFirstTable: "only the first table is looked at",
+    AlikeFirstRecord: "only the first table of each kind is looked at",
+    AlikeNotFields: "a struct's fields are no table",
+    AlikeNotNames: "an interface's method names are no table",
+    AlikeNotMethods: "an interface's methods are no table",
+    AlikeNotNamed: "a named type's methods are no table",
+    AlikeNotRuntime: "a runtime interface's methods are no table",
+    AlikeRuntimeFields: "a runtime struct's fields are a table",
+    AlikeBlank: "\"_\" is alike to \"_\" among struct fields",
+    AlikeNamedSorted: "named methods are looked at in the order of the Rust's map",
+    AlikeNeighbours: "a name is held against the one before it alone",
+    AlikeNarrow: "tables of 24 names and more are left out",
+    AlikeMost: "only the first 1,024 names of a table are looked at",
+    AlikeSameLength: "only names of one length are alike",
+    AlikePrefix: "only the first 16 characters are compared",
+    AlikeEarlierAlone: "the earlier name alone is replaced",
+    AlikeLaterAlone: "the later name alone is replaced",
+    AlikeOneLetter: "only a name's first letter is replaced",
+    AlikeFirstLetter: "U+00C0 stays",
+    AlikeLastLetter: "U+017E stays",
+    AlikeTagged: "compatibility decompositions are taken too",
+    AlikeSecondRange: "letters of U+0180 to U+024F are replaced too",
+    AlikeThirdRange: "letters of U+1E00 to U+1EFF are replaced too",
+    AlikeSingletons: "codes that are the same character as another are replaced",
+    AlikeReordered: "marks are put in canonical order",
+    AlikeUnmarkedLetters: "marks are left out",
+    AlikeMarkLost: "a mark after a replaced letter is left out",
+    AlikeCase: "capital and small letters are alike",
     SectionTrailing: "a section call puts the question of 24",
     SectionBytes: "a section's bytes count from the pack's start",
     SectionPlace: "26 of a section call shows its bytes as place",
@@ -208,11 +253,35 @@ fn ask(good: bool, number: u64, c: u64, d1: u64, d2: u64) -> Step<()> {
 type Text<'a> = (usize, &'a [u8]);
 
 const MAX_INLINE: u64 = 131_072;
-const FOLDS: [(&str, &str); 2] = [("\u{e9}", "e\u{301}"), ("\u{c0}", "A\u{300}")];
 
 fn folded(name: &[u8]) -> Vec<u8> {
-    let text = String::from_utf8_lossy(name).into_owned();
-    FOLDS.iter().fold(text, |text, (one, two)| text.replace(one, two)).into_bytes()
+    alike::folded(&String::from_utf8_lossy(name)).into_bytes()
+}
+
+/// What a table of names stands in.
+#[derive(Clone, Copy, PartialEq, Eq, PartialOrd, Ord)]
+enum Table {
+    Fields,
+    Names,
+    Methods,
+    Named,
+    RuntimeFields,
+    Runtime,
+}
+
+fn is_mark(character: char) -> bool {
+    ('\u{300}'..='\u{36f}').contains(&character)
+}
+
+/// The canonical combining class of a mark that the inputs have.
+fn combining_class(mark: char) -> u8 {
+    match mark {
+        '\u{335}' | '\u{338}' => 1,
+        '\u{327}' | '\u{328}' => 202,
+        '\u{31b}' => 216,
+        '\u{323}' | '\u{325}' | '\u{326}' => 220,
+        _ => 230,
+    }
 }
 
 /// How many of a text's first bytes go on with what the three bytes before it seem to begin.
@@ -235,6 +304,7 @@ struct Cursor<'a> {
     left: u64,
     words: Vec<u32>,
     artifacts: Vec<(&'a [u8], usize, usize)>,
+    tables: Vec<(Table, Vec<Text<'a>>)>,
     functions: u64,
 }
 
@@ -256,12 +326,125 @@ impl Model {
             left: budget,
             words: Vec::new(),
             artifacts: Vec::new(),
+            tables: Vec::new(),
             functions: 0,
         }
     }
 
     fn is(&self, mistake: Mistake) -> bool {
         self.mistake == mistake
+    }
+
+    /// A name as it is compared: as the earlier or the later one of two.
+    fn alike_key(&self, name: &[u8], later: bool) -> Vec<char> {
+        let text = String::from_utf8_lossy(name);
+        let mut out: Vec<char> = Vec::new();
+        let mut replaced = 0;
+        for character in text.chars() {
+            let alone = character.to_string();
+            let others = || accents::STAY.iter().chain(&accents::NOT_ALIKE);
+            let other = |range: std::ops::RangeInclusive<u32>| {
+                let row = others().find(|(code, _)| range.contains(&(character as u32)) && *code == alone);
+                row.map_or(alone.clone(), |(_, parts)| parts.to_string())
+            };
+            let parts = match self.mistake {
+                Mistake::AlikeEarlierAlone if later => alone.clone(),
+                Mistake::AlikeLaterAlone if !later => alone.clone(),
+                Mistake::AlikeOneLetter if replaced > 0 => alone.clone(),
+                Mistake::AlikeFirstLetter if character == '\u{c0}' => alone.clone(),
+                Mistake::AlikeLastLetter if character == '\u{17e}' => alone.clone(),
+                Mistake::AlikeTagged if "\u{132}\u{133}\u{13f}\u{140}\u{149}\u{17f}".contains(character) => {
+                    other(0..=0x17F)
+                }
+                Mistake::AlikeSecondRange if character > '\u{17f}' => other(0x180..=0x24F),
+                Mistake::AlikeThirdRange if character > '\u{17f}' => other(0x1E00..=0x1EFF),
+                Mistake::AlikeSingletons if character > '\u{17f}' => match character {
+                    '\u{340}' => "\u{300}".to_string(),
+                    _ => other(0x2000..=0x2FFF),
+                },
+                Mistake::AlikeMarkLost if replaced == out.len() && replaced > 0 && is_mark(character) => continue,
+                _ => alike::folded(&alone),
+            };
+            out.extend(parts.chars());
+            if parts != alone {
+                replaced = out.len();
+            }
+        }
+        match self.mistake {
+            Mistake::AlikeReordered => out
+                .chunk_by_mut(|a, b| is_mark(*a) && is_mark(*b))
+                .for_each(|marks| marks.sort_by_key(|mark| combining_class(*mark))),
+            Mistake::AlikeUnmarkedLetters => out.retain(|character| !is_mark(*character)),
+            Mistake::AlikeCase => out.iter_mut().for_each(|character| character.make_ascii_lowercase()),
+            Mistake::AlikePrefix => out.truncate(16),
+            _ => {}
+        }
+        out
+    }
+
+    /// The tables that are looked at.
+    fn alike_tables<'a>(&self, mut read: Vec<(Table, Vec<Text<'a>>)>) -> Vec<Vec<Text<'a>>> {
+        let left_out = match self.mistake {
+            Mistake::AlikeNotFields => Some(Table::Fields),
+            Mistake::AlikeNotNames => Some(Table::Names),
+            Mistake::AlikeNotMethods => Some(Table::Methods),
+            Mistake::AlikeNotNamed => Some(Table::Named),
+            Mistake::AlikeNotRuntime => Some(Table::Runtime),
+            _ => None,
+        };
+        read.retain(|(table, _)| Some(*table) != left_out);
+        if !self.is(Mistake::AlikeBlank) {
+            let fields = read.iter_mut().filter(|(table, _)| *table == Table::Fields);
+            fields.for_each(|(_, names)| names.retain(|(_, name)| *name != b"_"));
+        }
+        match self.mistake {
+            Mistake::AlikeFirstTable => read.truncate(1),
+            Mistake::AlikeFirstRecord => {
+                let mut seen = BTreeSet::new();
+                read.retain(|(table, _)| seen.insert(*table));
+            }
+            Mistake::AlikeNarrow => read.retain(|(_, names)| names.len() < 24),
+            Mistake::AlikeMost => read.iter_mut().for_each(|(_, names)| names.truncate(1_024)),
+            Mistake::AlikeNamedSorted => {
+                let named = read.iter_mut().filter(|(table, _)| *table == Table::Named);
+                named.for_each(|(_, names)| names.sort_by_key(|(_, name)| *name));
+            }
+            _ => {}
+        }
+        let joined = |a: Table, b: Table| match self.mistake {
+            Mistake::AlikeAcross => true,
+            Mistake::AlikeLists => (a, b) == (Table::Names, Table::Methods),
+            Mistake::AlikeRecords => a == b,
+            _ => false,
+        };
+        read.chunk_by(|(a, _), (b, _)| joined(*a, *b))
+            .map(|tables| tables.iter().flat_map(|(_, names)| names.iter().copied()).collect())
+            .collect()
+    }
+
+    fn pair<'a>(&self, tables: Vec<(Table, Vec<Text<'a>>)>) -> Option<(Text<'a>, Text<'a>)> {
+        let mut pairs: Vec<(Text, Text)> = Vec::new();
+        for names in self.alike_tables(tables) {
+            let mut seen: BTreeMap<Vec<char>, Vec<usize>> = BTreeMap::new();
+            for (i, later) in names.iter().enumerate() {
+                let before = seen.get(&self.alike_key(later.1, true)).into_iter().flatten().copied();
+                let partners = before.filter(|j| match self.mistake {
+                    Mistake::AlikeSameLength => names[*j].1.len() == later.1.len(),
+                    Mistake::AlikeNeighbours => j + 1 == i,
+                    _ => true,
+                });
+                pairs.extend(partners.max().map(|j| (names[j], *later)));
+                seen.entry(self.alike_key(later.1, false)).or_default().push(i);
+            }
+        }
+        match self.mistake {
+            Mistake::AlikeUnlooked => None,
+            Mistake::AlikeLast => pairs.into_iter().max_by_key(|(_, later)| later.0),
+            Mistake::AlikeEarliest => pairs.into_iter().min_by_key(|(earlier, _)| earlier.0),
+            // Their order by place is lost.
+            Mistake::AlikeNamedSorted => pairs.into_iter().next(),
+            _ => pairs.into_iter().min_by_key(|(_, later)| later.0),
+        }
     }
 
     /// The answer of a reading that began at `start`, and the tape.
@@ -382,6 +565,44 @@ impl Reader for Model {
                 [27, 0, 0, 0, place, left]
             }
         }
+    }
+
+    unsafe fn alike_names(&mut self, pack: Lent<u8>) -> Fields {
+        let more = if self.is(Mistake::AlikeBudget) { 1 << 40 } else { 0 };
+        let mut r = self.cursor(pack.slice(), 0, RUST_BUDGET + more);
+        let read = r.whole();
+        r.left = r.left.saturating_sub(more);
+        let pair = self.pair(std::mem::take(&mut r.tables));
+        match (read, pair) {
+            (Err(_), _) if self.is(Mistake::AlikeRefused) => [0; 6],
+            (Err(Refusal { number, c, d1, d2 }), _) if !(self.is(Mistake::AlikeUnread) && pair.is_some()) => {
+                [number, c, d1, d2, r.place as u64, r.left]
+            }
+            (_, None) => [0; 6],
+            (_, Some((earlier, later))) => {
+                let [[start, length], [later_start, mut later_length]] = [earlier, later].map(|name| self.shown(name));
+                match self.mistake {
+                    Mistake::AlikeOneLength => later_length = length,
+                    Mistake::AlikeSwapped => return [0, 1, later_start, later_length, start, length],
+                    Mistake::AlikeUnmarked => return [0, 0, start, length, later_start, later_length],
+                    _ => {}
+                }
+                [0, 1, start, length, later_start, later_length]
+            }
+        }
+    }
+}
+
+impl Model {
+    /// Start and length of a pair's name as they are shown.
+    fn shown(&self, (start, name): Text) -> [u64; 2] {
+        let start = if self.is(Mistake::AlikeLengthWord) { start - 4 } else { start };
+        let length = match self.mistake {
+            Mistake::AlikeFoldedLength => folded(name).len(),
+            Mistake::AlikeCharacters => String::from_utf8_lossy(name).chars().count(),
+            _ => name.len(),
+        };
+        [start as u64, length as u64]
     }
 }
 
@@ -789,6 +1010,7 @@ impl<'a> Cursor<'a> {
             }
             Ok(name)
         })?;
+        self.tables.push((Table::Fields, fields.clone()));
         let exempt = |name: &[u8]| name == b"_" && !self.is(Mistake::BlankInStruct);
         let names: Vec<Text> = fields.iter().copied().filter(|(_, name)| !exempt(name)).collect();
         let counted = if self.is(Mistake::IndexOfBlank) { fields.len() } else { names.len() };
@@ -831,6 +1053,7 @@ impl<'a> Cursor<'a> {
             r.u32()?;
             Ok(name)
         })?;
+        self.tables.extend([(Table::Names, names.clone()), (Table::Methods, methods.clone())]);
         match self.mistake {
             Mistake::SetEarly => self.method_set(&methods),
             Mistake::SetsSwapped => {
@@ -899,6 +1122,7 @@ impl<'a> Cursor<'a> {
             seen.push((start, name));
         }
         late?;
+        self.tables.push((Table::Named, seen.clone()));
         if self.is(Mistake::NamedSorted) {
             let rows = self.words.split_off(at);
             let mut rows: Vec<(&[u8], &[u32])> = seen.iter().map(|(_, name)| *name).zip(rows.chunks(6)).collect();
@@ -962,6 +1186,7 @@ impl<'a> Cursor<'a> {
                     r.rttid()?;
                     Ok(name)
                 })?;
+                self.tables.push((Table::Runtime, methods.clone()));
                 self.method_set(&methods)
             }
             10 => self.rttids(),
@@ -977,6 +1202,9 @@ impl<'a> Cursor<'a> {
             r.boolean()?;
             Ok((name, r.text()?))
         })?;
+        if self.is(Mistake::AlikeRuntimeFields) {
+            self.tables.push((Table::RuntimeFields, fields.iter().map(|(name, _)| *name).collect()));
+        }
         let blank = |((_, name), _): &&(Text, Text)| *name == b"_";
         let mut counted = fields.len();
         if self.is(Mistake::RuntimeSetOfBlank) {

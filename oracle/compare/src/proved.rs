@@ -35,6 +35,10 @@ impl Reader for Proved {
     unsafe fn lookup(&mut self, pack: Lent<u8>, name: &[u8]) -> Fields {
         fields(raw::vob_find_artifact(pack.start, pack.length, name.as_ptr(), name.len()))
     }
+
+    unsafe fn alike_names(&mut self, pack: Lent<u8>) -> Fields {
+        fields(raw::vob_alike_names(pack.start, pack.length))
+    }
 }
 
 /// Whether the archive's sizes are the measured ones, and no other number has one.

@@ -1,6 +1,6 @@
 //! One round: inputs are made, each call's answer is compared, and the cases are counted.
 
-use crate::calls::{fields, found, Call, Fields, Reader};
+use crate::calls::{alike, fields, found, Call, Fields, Reader};
 use crate::inputs::{self, Family};
 use crate::memory::{Pack, Tape};
 use harness::answer::{self, opening_part, Reading, NO_END, RUST_BUDGET};
@@ -29,6 +29,8 @@ pub enum Class {
     Text,
     /// The packs of the stored lists.
     Listed,
+    /// Packs with accents in each kind of table.
+    Accented,
     /// At limits that only a long pack reaches.
     Long,
     /// Starting budgets around the sum of each opening part of the charge list.
@@ -39,9 +41,11 @@ pub enum Class {
     Section,
     /// Lookups.
     Lookup,
+    /// Names that print alike.
+    Alike,
 }
 
-const CLASSES: usize = Class::Lookup as usize + 1;
+const CLASSES: usize = Class::Alike as usize + 1;
 const NUMBERS: usize = 28;
 
 /// A derived answer in so many is asked of the Rust itself.
@@ -58,6 +62,7 @@ struct Effort {
     tapes: u64,
     sections: u64,
     lookups: u64,
+    alike: bool,
 }
 
 pub enum Stop {
@@ -151,10 +156,10 @@ impl<'r> Round<'r> {
     fn turn(&mut self, turn: u64) -> Go {
         let pack = inputs::written(&mut self.chance);
         let other = inputs::written(&mut self.chance);
-        let all = Effort { budgets: 12, tapes: 4, sections: 6, lookups: 4 };
+        let all = Effort { budgets: 12, tapes: 4, sections: 6, lookups: 4, alike: true };
         let reading = self.input(Class::Written, &pack, all)?;
         let second = answer::read(&other, NO_END as u64, u64::MAX);
-        let some = Effort { budgets: 4, tapes: 1, sections: 1, lookups: 0 };
+        let some = Effort { budgets: 4, tapes: 1, sections: 1, lookups: 0, alike: true };
         for i in 0..8 {
             let damaged = inputs::damaged(&pack, &reading, &mut self.chance);
             self.input(Class::Damaged, &damaged, Effort { lookups: (i == 0) as u64, ..some })?;
@@ -166,6 +171,15 @@ impl<'r> Round<'r> {
         for _ in 0..4 {
             let length = self.chance.below(pack.len() as u64) as usize;
             self.input(Class::Cut, &pack[..length], some)?;
+        }
+        const ALIKE: Effort = Effort { budgets: 0, tapes: 0, sections: 0, lookups: 0, alike: true };
+        for _ in 0..16 {
+            let pack = inputs::accented(&mut self.chance);
+            let reading = self.input(Class::Accented, &pack, ALIKE)?;
+            for _ in 0..2 {
+                let damaged = inputs::damaged(&pack, &reading, &mut self.chance);
+                self.input(Class::Damaged, &damaged, ALIKE)?;
+            }
         }
         if turn.is_multiple_of(16) {
             let pack = inputs::wide(&mut self.chance);
@@ -183,10 +197,12 @@ impl<'r> Round<'r> {
                     self.text(class, &pack)?;
                     continue;
                 }
+                let sections = (j % 4 == 0) as u64;
                 let effort = match class {
-                    Class::Listed => Effort { budgets: 64, tapes: 4, sections: 17, lookups: 4 },
-                    Class::Short => Effort { budgets: 0, tapes: 0, sections: (j % 4 == 0) as u64, lookups: 0 },
-                    _ => Effort { budgets: 1, tapes: 1, sections: (j % 4 == 0) as u64, lookups: (j % 16 == 0) as u64 },
+                    Class::Listed => Effort { budgets: 64, tapes: 4, sections: 17, lookups: 4, alike: true },
+                    Class::Accented => Effort { budgets: 2, tapes: 1, sections: 1, lookups: 0, alike: true },
+                    Class::Short => Effort { budgets: 0, tapes: 0, sections, lookups: 0, alike: false },
+                    _ => Effort { budgets: 1, tapes: 1, sections, lookups: (j % 16 == 0) as u64, alike: j % 16 == 8 },
                 };
                 self.input(class, &pack, effort)?;
             }
@@ -214,13 +230,17 @@ impl<'r> Round<'r> {
         }
         self.sections(pack, &reading, effort.sections)?;
         self.lookups(pack, &reading, effort.lookups)?;
+        if effort.alike {
+            let expected = alike(reading.alike(reading.under(RUST_BUDGET, u64::MAX)));
+            self.case(Class::Alike, pack, Call::AlikeNames, expected, &[])?;
+        }
         Ok(reading)
     }
 
     /// A text as the name in a pack, as a name section at the pack's end, as all of the pack, between bytes that look like
     /// the start and the rest of a character, and, where it is short enough, as an artifact's name.
     fn text(&mut self, class: Class, text: &[u8]) -> Go {
-        const NOTHING_MORE: Effort = Effort { budgets: 0, tapes: 0, sections: 0, lookups: 0 };
+        const NOTHING_MORE: Effort = Effort { budgets: 0, tapes: 0, sections: 0, lookups: 0, alike: false };
         let stored = cases::text(text);
         self.input(class, &cases::with_section(1, 4, &stored), NOTHING_MORE)?;
         for (before, after) in [(&opening_part(1, 0)[..], &[][..]), (&[], &[]), (&[0xF0; 12], &[0x80; 3])] {
@@ -338,7 +358,7 @@ impl<'r> Round<'r> {
     /// Packs of up to the longest length and one byte more; sections where the oracle's opening part fits too.
     fn long(&mut self) -> Go {
         for pack in inputs::long() {
-            self.input(Class::Long, &pack, Effort { budgets: 4, tapes: 2, sections: 0, lookups: 1 })?;
+            self.input(Class::Long, &pack, Effort { budgets: 4, tapes: 2, sections: 0, lookups: 1, alike: true })?;
             if pack.len() > MAX_VOB_BYTES {
                 for number in 1..=17 {
                     self.section(&pack, number, 9, 1)?;
@@ -393,11 +413,13 @@ impl<'r> Round<'r> {
             Class::Leaf,
             Class::Text,
             Class::Listed,
+            Class::Accented,
             Class::Long,
             Class::Budget,
             Class::Tape,
             Class::Section,
             Class::Lookup,
+            Class::Alike,
         ];
         let row = |label: &str, counts: &[u64]| {
             let numbers = counts.iter().enumerate().filter(|(_, count)| **count > 0);

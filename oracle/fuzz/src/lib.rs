@@ -1,6 +1,6 @@
 //! The target of libFuzzer: an input is a pack, and each call on it is compared with the oracle.
 
-use compare::calls::{fields, found, Call};
+use compare::calls::{alike, fields, found, Call};
 use compare::inputs;
 use compare::proved::Proved;
 use compare::round::{Bench, Case, Class};
@@ -62,6 +62,7 @@ fn compare_all(bench: &mut Bench, pack: &[u8], reading: &Reading) {
             }
         }
     }
+    case(bench, pack, Call::AlikeNames, alike(reading.alike(reading.under(RUST_BUDGET, u64::MAX))), &[]);
 }
 
 /// A difference stops the run, and libFuzzer keeps the input.

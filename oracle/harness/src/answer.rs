@@ -1,5 +1,6 @@
 //! The answers of document 01, from what the patched Rust says and reports.
 
+use crate::alike::{self, Name, Pair};
 use crate::words;
 use measured::bytecode::Module;
 use measured::report::{self, Charge, Mark, Report, Site, Span};
@@ -55,6 +56,8 @@ pub struct Reading {
     pub sections: Vec<Mark>,
     /// Name, and start and length of the payload, of each artifact of a taken pack.
     pub artifacts: Vec<(Vec<u8>, Span)>,
+    /// The tables of names of a taken pack in which a pair may stand.
+    tables: Vec<Vec<Name>>,
     /// Where the last section, or the one called, was read to its end.
     through: Option<Mark>,
 }
@@ -67,6 +70,7 @@ impl Reading {
             charges: Vec::new(),
             sections: Vec::new(),
             artifacts: Vec::new(),
+            tables: Vec::new(),
             through: None,
         }
     }
@@ -113,6 +117,14 @@ impl Reading {
             None => Err(refused(27, 0, 0, 0, Mark { place: bytes as usize, left: left as usize })),
         }
     }
+
+    /// The first pair of names that print alike, in a pack whose answer is `answer`.
+    pub fn alike(&self, answer: Answer) -> Result<Option<Pair>, Answer> {
+        match answer {
+            Answer::Taken { .. } => Ok(alike::first_pair(&self.tables)),
+            Answer::Refused { .. } => Err(answer),
+        }
+    }
 }
 
 /// Module::deserialize on a whole pack, and what document 01 adds to it (25, 26).
@@ -155,7 +167,9 @@ pub fn read(pack: &[u8], budget: u64, tape: u64) -> Reading {
             let payloads = spans.iter().filter(|span| span.site == Site::ArtifactPayload);
             let artifacts =
                 module.artifacts.iter().map(|artifact| artifact.name.clone().into_bytes()).zip(payloads.copied());
-            Reading { answer, words, charges, sections, artifacts: artifacts.collect(), through: Some(end) }
+            let artifacts = artifacts.collect();
+            let tables = alike::tables(&module, pack, &spans);
+            Reading { answer, words, charges, sections, artifacts, tables, through: Some(end) }
         }
         Err(error) => {
             let through = matches!(error, SerializeError::TrailingBytes(_)).then_some(end);
@@ -169,6 +183,12 @@ pub fn read(pack: &[u8], budget: u64, tape: u64) -> Reading {
 pub fn lookup(pack: &[u8], name: &[u8]) -> Result<(u64, u64), Answer> {
     let reading = read(pack, RUST_BUDGET, u64::MAX);
     reading.find(reading.answer, name)
+}
+
+/// The names that print alike: the pack under the Rust's budget, then its tables.
+pub fn alike_names(pack: &[u8]) -> Result<Option<Pair>, Answer> {
+    let reading = read(pack, RUST_BUDGET, u64::MAX);
+    reading.alike(reading.answer)
 }
 
 /// A section alone. The Rust has no such call, but it reads section `number` of any pack whose earlier sections are

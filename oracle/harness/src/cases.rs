@@ -1,5 +1,6 @@
 //! Which answers are stored, and which more are written for a comparison that is too large to keep.
 
+use crate::accents;
 use crate::answer::{self, opening_part, Answer, NO_END, RUST_BUDGET};
 use crate::corpus;
 use crate::packs::{self, Chance, Pack};
@@ -865,6 +866,7 @@ pub fn stored() -> Vec<(&'static str, Book)> {
         ("lookups.bin", lookups()),
         ("corpus.bin", kept()),
         ("texts.bin", texts::book()),
+        ("alike.bin", accents::book()),
     ]
 }
 

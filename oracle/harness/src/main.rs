@@ -8,6 +8,7 @@ const USAGE: &str = "usage:
   oracle read FILE [BUDGET [TAPE]]                       a whole pack: answer, tape, charges, sections
   oracle section FILE NUMBER PLACE BUDGET [FUNCTIONS [TAPE]]   one section (1 to 17) alone
   oracle lookup FILE NAME                                start and length of a payload
+  oracle alike FILE                                      start and length of two names that print alike, or none
   oracle sizes [--check FILE...]                         the sizes of charges, or whether FILE holds them
   oracle pack KIND SIZE SEED > FILE                      a pack of exactly SIZE bytes (mixed, names, slots, texts, code)
   oracle time FILE [RUNS]                                how long the unpatched Module::deserialize takes
@@ -33,6 +34,11 @@ fn main() {
         }
         ["lookup", file, name] => match answer::lookup(&load(file), name.as_bytes()) {
             Ok((start, length)) => println!("found {start} {length}"),
+            Err(answer) => println!("{answer}"),
+        },
+        ["alike", file] => match answer::alike_names(&load(file)) {
+            Ok(Some(pair)) => println!("pair {}", pair.map(|number| number.to_string()).join(" ")),
+            Ok(None) => println!("none"),
             Err(answer) => println!("{answer}"),
         },
         ["sizes"] => print(&sizes_text()),

@@ -1,5 +1,6 @@
 //! The stored answers' file format; README.md describes it.
 
+use crate::alike::Pair;
 use crate::answer::{self, Answer, RUST_BUDGET};
 use std::collections::BTreeMap;
 
@@ -11,6 +12,7 @@ const WHOLE: u32 = 1;
 const SECTION: u32 = 2;
 const LOOKUP: u32 = 3;
 const TEXT: u32 = 4;
+const ALIKE_NAMES: u32 = 5;
 
 /// Up to four bytes that stand in place of the buffer's own for one record.
 #[derive(Clone, Copy, Default)]
@@ -82,6 +84,20 @@ impl Book {
         };
         let call = SectionCall { number: 0, place: 0, budget: RUST_BUDGET, functions: 0, tape: 0 };
         self.record(LOOKUP, pack, pack.len(), Edit::default(), call, name, fields, &[], false);
+    }
+
+    pub fn alike_names(&mut self, pack: &[u8]) -> Result<Option<Pair>, Answer> {
+        let answer = answer::alike_names(pack);
+        let fields = match answer {
+            Ok(Some([earlier, earlier_length, later, later_length])) => {
+                [0, 1, earlier, earlier_length, later, later_length, 0]
+            }
+            Ok(None) => [0; 7],
+            Err(refused) => refused.fields(),
+        };
+        let call = SectionCall { number: 0, place: 0, budget: RUST_BUDGET, functions: 0, tape: 0 };
+        self.record(ALIKE_NAMES, pack, pack.len(), Edit::default(), call, &[], fields, &[], false);
+        answer
     }
 
     /// A text alone, in the first `length` bytes of `buffer`, changed by `edit`. Gives the answer's number, 0 where it is
