@@ -7,7 +7,9 @@ use Rattle.calls.specs.declared.Answer.{Answer}
 use Rattle.reader.specs.declared.Refusal.{Refusal}
 use Rattle.lookup.specs.Look.{foundOf}
 use Rattle.lookup.specs.declared.Found.{Found}
-use Rattle.c_answers.specs.Numbers.{numbersOf, foundNumbers}
+use Rattle.alike_names.specs.Contract as alike
+use Rattle.alike_names.specs.declared.Alike.{Alike}
+use Rattle.c_answers.specs.Numbers.{numbersOf, foundNumbers, alikeNumbers}
 use Rattle.c_answers.specs.declared.VobAnswer.{VobAnswer}
 
 pub taken-numbers : {a : Answer} {w n c l : ℕ} → a ≡ Answer.Taken w n c l
@@ -25,4 +27,16 @@ pub not-numbers : {a : Found} {x : Refusal} {q : VobAnswer} → a ≡ Found.Not 
     → q ≡ numbersOf (answerOf (Answer.Refused x)) → q ≡ foundNumbers (foundOf a)
 not-numbers e h = rw e h
 
-pub ruleset numbers = (taken-numbers, refused-numbers, at-numbers, not-numbers)
+module _ {a : Alike} where
+  pub pair-numbers : {s m t n : ℕ} → a ≡ Alike.Pair s m t n
+      → alikeNumbers (alike.answerOf (Alike.Pair s m t n)) ≡ alikeNumbers (alike.answerOf a)
+  pair-numbers e = rw e
+
+  pub none-numbers : a ≡ Alike.None → alikeNumbers (alike.answerOf Alike.None) ≡ alikeNumbers (alike.answerOf a)
+  none-numbers e = rw e
+
+  pub alike-numbers : {x : Refusal} {q : VobAnswer} → a ≡ Alike.Not x → q ≡ numbersOf (answerOf (Answer.Refused x))
+      → q ≡ alikeNumbers (alike.answerOf a)
+  alike-numbers e h = rw e h
+
+pub ruleset numbers = (taken-numbers, refused-numbers, at-numbers, not-numbers, pair-numbers, none-numbers, alike-numbers)

@@ -9,7 +9,10 @@ use Rattle.calls.specs.Contract.{answerOf, ReadCall, SectionCall}
 use Rattle.calls.specs.declared.Answer.{Answer}
 use Rattle.lookup.specs.Look.{foundOf, LocateCall}
 use Rattle.lookup.specs.declared.Found.{Found}
-use Rattle.c_answers.specs.Numbers.{numbersOf, foundNumbers, Shows}
+use Rattle.alike.specs.Alike.{alikeOutcome}
+use Rattle.alike_names.specs.Contract as alike
+use Rattle.alike_names.specs.declared.Alike.{Alike}
+use Rattle.c_answers.specs.Numbers.{numbersOf, foundNumbers, alikeNumbers, Shows}
 use Rattle.c_answers.specs.declared.VobAnswer.{VobAnswer}
 
 shows : {o : vob.Outcome} (a : Answer) {q : VobAnswer} {t′ : List ℕ} → o ≡ record { answer = answerOf a; tape = t′ }
@@ -28,3 +31,7 @@ module _ {s : List ℕ} {b : ℕ} {t : List ℕ} {a : Answer} {q : VobAnswer} {t
 pub shows-found : {s name : List ℕ} {a : Found} {q : VobAnswer} → LocateCall settings s name a
     → q ≡ foundNumbers (foundOf a) → q ≡ foundNumbers (vob.findOutcome settings s name)
 shows-found call h = h ∙ ap foundNumbers (call .is)
+
+pub shows-alike : {s : List ℕ} {a : Alike} {q : VobAnswer} → alike.AlikeCall settings s a
+    → q ≡ alikeNumbers (alike.answerOf a) → q ≡ alikeNumbers (alikeOutcome settings s)
+shows-alike call h = h ∙ ap alikeNumbers (call .is)

@@ -1,11 +1,12 @@
-// The calls for programs in C or Rust to link (rt staticlib exports): whole pack, sections, lookup and the table of
-// sizes, over the C ABI. The Rust has none of these; bindings/c/vob.h declares them. An answer is returned by value, so
+// The calls for programs in C or Rust to link (rt staticlib exports): whole pack, sections, lookup, names alike and the
+// table of sizes, over the C ABI. The Rust has none of these; bindings/c/vob.h declares them. An answer is returned by value, so
 // a refusal changes no lent memory.
 ghost use mathlib.Core.Path.{_≡_};
 ghost use Rattle.vob24.specs.Settings.{settings, sizeOf};
 ghost use Rattle.vob24.specs.Grammar as vob;
 ghost use Rattle.vob24.specs.Calls.{readOutcome, sectionOutcome, findOutcome};
-ghost use Rattle.c_answers.specs.Numbers.{foundNumbers, Shows};
+ghost use Rattle.alike.specs.Alike.{alikeOutcome};
+ghost use Rattle.c_answers.specs.Numbers.{foundNumbers, alikeNumbers, Shows};
 pub use c_answers::VobAnswer;
 use vob24_data::Section;
 
@@ -22,6 +23,13 @@ pub extern "C" fn vob_find_artifact(pack: &[u8], name: &[u8]) -> VobAnswer
     ensures { λ q. ⌜ q ≡ foundNumbers (findOutcome settings (now (pack .entry)) (now (name .entry))) ⌝ }
 {
     c_answers::shown_found(pack::locate_artifact(pack, name))
+}
+
+#[no_mangle]
+pub extern "C" fn vob_alike_names(pack: &[u8]) -> VobAnswer
+    ensures { λ q. ⌜ q ≡ alikeNumbers (alikeOutcome settings (now (pack .entry))) ⌝ }
+{
+    c_answers::shown_alike(pack::alike_names(pack))
 }
 
 // The size numbered i in the table of sizes, from 1 to 32; 0 where there is none.
