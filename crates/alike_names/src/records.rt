@@ -5,8 +5,8 @@ ghost use Rattle.alike.specs.Alike.{interfaceTables, runtimeTables};
 ghost use Rattle.in_place.specs.Contract.{Placed};
 ghost use Rattle.alike_names.specs.Tables.{structTables, namedTables, WalksAt};
 use crate::Walk;
-use crate::skips::past_variant;
 use crate::search::table;
+use crate::skips::past_variant;
 use in_place::Item;
 use vob24_data::Settings;
 

@@ -74,5 +74,10 @@ pub(crate) fn table(s: &[u8], item: Item, from: usize, n: usize) -> Walk
     }
     let p = past_items(s, item, from, i);
     let a = partner(s, item, from, i, p);
-    Walk::Found(a + 4, in_place::word_at(s, a), p + 4, in_place::word_at(s, p))
+    Walk::Found(
+        a + 4,
+        in_place::word_at(s, a),
+        p + 4,
+        in_place::word_at(s, p),
+    )
 }
