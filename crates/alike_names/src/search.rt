@@ -68,16 +68,18 @@ pub(crate) fn table(s: &[u8], item: Item, from: usize, n: usize) -> Walk
     if let Plain::Past(end) = plain_items(s, item, from, n) {
         return Walk::Past(end);
     }
-    let i = repeat_search::first_repeat(s, Table::Alike(item), from, n);
+    let i = repeat_search::first_alike(s, item, from, n);
     if n <= i {
         return Walk::Past(past_items(s, item, from, n));
     }
     let p = past_items(s, item, from, i);
     let a = partner(s, item, from, i, p);
+    let earlier = a + 4;
+    let later = p + 4;
     Walk::Found(
-        a + 4,
+        earlier,
         in_place::word_at(s, a),
-        p + 4,
+        later,
         in_place::word_at(s, p),
     )
 }

@@ -16,7 +16,7 @@ use Rattle.vob24.specs.Utf8.{in?}
 use Rattle.vob24.specs.Ranges.{inside, below, above}
 use Rattle.folding.specs.Bytes.{folds, foldOf, headFold, foldBytes}
 use Rattle.folding.specs.FoldLaws.{fold-nil, fold-stays, fold-letter, head-plain, fold-plain}
-use Rattle.folding.specs.Contract.{span, FoldAt, heldBytes, ahead, moreOf, Held, Unread, NextIs, SameFolded, PlainIs}
+use Rattle.folding.specs.Contract.{span, FoldAt, heldBytes, ahead, moreOf, Held, Unread, NextIs, PrefixIs, SameFolded, PlainIs}
 use Rattle.folding.specs.declared.Next.{Next}
 
 -- ---- the bytes from a place on
@@ -164,6 +164,55 @@ module _ {s : List ℕ} {at end held : ℕ} (u : Unread s at end held) where
 
 pub ruleset nexts = (next-first, next-last, held-least, unread-some, next-stays, next-letter)
 
+-- ---- the loop of `same_prefix`
+
+same-head : (x : ℕ) {y : ℕ} (xs ys : List ℕ) → x ≡ y → same (x ∷ xs) (y ∷ ys) ≡ same xs ys
+unfolding same pick
+same-head x {y} xs ys e = rw (eq-eqb x y e)
+
+pub plain-first : (s : List ℕ) (at end : ℕ) → at < end → end ≤ length s → in? 0xc3 0xc5 (getD s at 0) ≡ false
+    → foldBytes (span s at end) ≡ getD s at 0 ∷ foldBytes (span s (at + 1) end)
+plain-first s at end h k e = let x = span-cons s at end h k in ap foldBytes x ∙ fold-stays _ _ (head-plain _ _ e)
+
+-- the two have come from a to p, and from b to q
+pub record Prefixing (s : List ℕ) (a e b f p q : ℕ) : Type 0 where
+  pub left : e ≤ length s
+  pub right : f ≤ length s
+  pub from : a ≤ p
+  pub within : p ≤ e
+  pub other : q ≡ b + (p - a)
+  pub back : q ≤ f
+  pub leads : same (foldBytes (span s a e)) (foldBytes (span s b f)) ≡ same (foldBytes (span s p e)) (foldBytes (span s q f))
+
+module _ {s : List ℕ} {a e b f : ℕ} where
+  pub prefix-start : a ≤ e → e ≤ length s → b ≤ f → f ≤ length s → Prefixing s a e b f a b
+  prefix-start h k i j = record { left = k; right = j; from = omega arith; within = h; other = omega arith; back = i; leads = refl }
+
+  module _ {p q : ℕ} (l : Prefixing s a e b f p q) where
+    pub prefix-done : PrefixIs s a e b f (p - a)
+    prefix-done =
+        let i : a + (p - a) ≡ p = omega (arith, l .from) in
+        let j : b + (p - a) ≡ q = omega (arith, l .other) in
+        record { is = rw (i, j) (l .leads); fore = omega (arith, l .from, l .within); back = omega (arith, l .other, l .back) }
+
+    pub prefix-more : {o : Bool} → p < e → q < f → getD s p 0 ≡ getD s q 0 → o ≡ in? 0xc3 0xc5 (getD s p 0) → o ≡ false
+        → Prefixing s a e b f (p + 1) (q + 1)
+    prefix-more h k i w z =
+        record {
+          left = l .left;
+          right = l .right;
+          from = omega (arith, l .from);
+          within = omega arith;
+          other = omega (arith, l .other, l .from);
+          back = omega arith;
+          leads =
+              l .leads
+              ∙ rw (plain-first s p e h (l .left) (sym w ∙ z), plain-first s q f k (l .right) (sym (ap (in? 0xc3 0xc5) i) ∙ sym w ∙ z))
+              (same-head (getD s p 0) (foldBytes (span s (p + 1) e)) (foldBytes (span s (q + 1) f)) i);
+        }
+
+pub ruleset prefixing = (prefix-start, prefix-done, prefix-more)
+
 -- ---- the loop of `same_folded`
 
 ahead-none : (s : List ℕ) (at end held : ℕ) → moreOf at end held ≡ false → ahead s at end held ≡ []
@@ -215,18 +264,15 @@ none-held = record { least = λ e. absurd (e refl); small = omega arith }
 span-whole : (s : List ℕ) (a m e : ℕ) → e ≡ a + m → part s a m ≡ span s a e
 span-whole s a m e h = let i : e - a ≡ m = omega arith in rw i
 
-same-head : (x : ℕ) {y : ℕ} (xs ys : List ℕ) → x ≡ y → same (x ∷ xs) (y ∷ ys) ≡ same xs ys
-unfolding same pick
-same-head x {y} xs ys e = rw (eq-eqb x y e)
-
 other-head : (x y : ℕ) (xs ys : List ℕ) → (x ≡ y → ⊥) → same (x ∷ xs) (y ∷ ys) ≡ false
 unfolding same pick
 other-head x y xs ys e = rw (ne-eqb x y e)
 
 module _ {s : List ℕ} {a m b n e f : ℕ} where
-  pub comparing-start : e ≡ a + m → f ≡ b + n → a + m ≤ length s → b + n ≤ length s → Comparing s a m b n e f a 0 b 0
+  pub comparing-start : {k : ℕ} → e ≡ a + m → f ≡ b + n → a + m ≤ length s → b + n ≤ length s → PrefixIs s a e b f k
+      → Comparing s a m b n e f (a + k) 0 (b + k) 0
   unfolding pick
-  comparing-start i j k l = record { left = omega arith; right = omega arith; fore = none-held; back = none-held; leads = rw (span-whole s a m e i, span-whole s b n f j) }
+  comparing-start i j k l w = record { left = omega arith; right = omega arith; fore = none-held; back = none-held; leads = rw (span-whole s a m e i, span-whole s b n f j) (w .is) }
 
   module _ {p h q k : ℕ} (l : Comparing s a m b n e f p h q k) where
     pub comparing-fore : {z : Bool} → z ≡ moreOf p e h → z ≡ true → Unread s p e h

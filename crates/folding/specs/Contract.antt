@@ -1,5 +1,5 @@
 -- The contracts of folded bytes.
-use Prim.Native.Nat.{ℕ, _-_, _≤_, _<_}
+use Prim.Native.Nat.{ℕ, _+_, _-_, _≤_, _<_}
 use mathlib.Core.Path.{_≡_}
 use mathlib.Core.List.{List, [], _∷_, _++_}
 use mathlib.Core.Bool.{Bool, true, false}
@@ -43,6 +43,12 @@ pub record Unread (s : List ℕ) (at end held : ℕ) : Type 0 where
 pub record NextIs (s : List ℕ) (at end held : ℕ) (q : Next) : Type 0 where
   pub is : ahead s at end held ≡ q .byte ∷ ahead s (q .at) end (q .held)
   pub kept : Held (q .held)
+
+-- the first q bytes at a and at b, up to their ends, are the same and fold to themselves
+pub record PrefixIs (s : List ℕ) (a e b f q : ℕ) : Type 0 where
+  pub is : same (foldBytes (span s a e)) (foldBytes (span s b f)) ≡ same (foldBytes (span s (a + q) e)) (foldBytes (span s (b + q) f))
+  pub fore : a + q ≤ e
+  pub back : b + q ≤ f
 
 pub record SameFolded (s : List ℕ) (a m b n : ℕ) (q : Bool) : Type 0 where
   pub is : q ≡ same (foldBytes (part s a m)) (foldBytes (part s b n))

@@ -4,7 +4,7 @@ ghost use mathlib.Core.Path.{_≡_};
 ghost use Prim.Native.Nat.{_+_, _-_, _*_, _≤_, _<_};
 ghost use lib.ListN.{length};
 ghost use Rattle.vob24.specs.Utf8.{in?};
-ghost use Rattle.folding.specs.Contract.{moreOf, FoldAt, Unread, NextIs, SameFolded, PlainIs};
+ghost use Rattle.folding.specs.Contract.{moreOf, FoldAt, Unread, NextIs, PrefixIs, SameFolded, PlainIs};
 
 // For each letter from U+00C0 to U+017F: 0 where it has none, else its base letter times 256 and the last byte of its
 // mark, whose first byte is CC.
@@ -209,6 +209,16 @@ fn wide(n: u16) -> u64
     n as u64
 }
 
+// Does b open a letter from U+00C0 to U+017F?
+pub fn opens(b: u8) -> bool
+    ensures { λ q. ⌜ q ≡ in? 195 197 b ⌝ }
+{
+    if b < 195 {
+        return false;
+    }
+    b <= 197
+}
+
 fn index(lead: u8, last: u8) -> usize
     requires { ⌜ (195 ≤ lead) × (lead ≤ 197) × (128 ≤ last) × (last ≤ 191) ⌝ }
     ensures { λ q. ⌜ (q ≡ (lead - 195) * 64 + (last - 128)) × (q < 192) ⌝ }
@@ -298,6 +308,29 @@ fn more(at: usize, end: usize, held: u64) -> bool
     at < end
 }
 
+// How many bytes at a and at b, up to e and f, are the same and open no letter: they fold to themselves on both sides.
+fn same_prefix(s: &[u8], a: usize, e: usize, b: usize, f: usize) -> usize
+    requires { ⌜ (a ≤ e) × (e ≤ length (now s)) × (b ≤ f) × (f ≤ length (now s)) ⌝ }
+    ensures { λ q. ⌜ PrefixIs (now (s .entry)) a e b f q ⌝ }
+{
+    let mut p = a;
+    let mut q = b;
+    while p < e {
+        if f <= q {
+            return p - a;
+        }
+        if s[p] != s[q] {
+            return p - a;
+        }
+        if opens(s[p]) {
+            return p - a;
+        }
+        p += 1;
+        q += 1;
+    }
+    p - a
+}
+
 // Are the m bytes at a and the n bytes at b the same when folded?
 pub fn same_folded(s: &[u8], a: usize, m: usize, b: usize, n: usize) -> bool
     requires { ⌜ (a + m ≤ length (now s)) × (b + n ≤ length (now s)) ⌝ }
@@ -305,9 +338,10 @@ pub fn same_folded(s: &[u8], a: usize, m: usize, b: usize, n: usize) -> bool
 {
     let a_end = a + m;
     let b_end = b + n;
-    let mut p = a;
+    let k = same_prefix(s, a, a_end, b, b_end);
+    let mut p = a + k;
     let mut p_held: u64 = 0;
-    let mut q = b;
+    let mut q = b + k;
     let mut q_held: u64 = 0;
     while more(p, a_end, p_held) {
         if !more(q, b_end, q_held) {
@@ -324,15 +358,6 @@ pub fn same_folded(s: &[u8], a: usize, m: usize, b: usize, n: usize) -> bool
         q_held = y.held;
     }
     !more(q, b_end, q_held)
-}
-
-fn opens(b: u8) -> bool
-    ensures { λ q. ⌜ q ≡ in? 195 197 b ⌝ }
-{
-    if b < 195 {
-        return false;
-    }
-    b <= 197
 }
 
 // Have the n bytes at p no byte that opens such a letter?

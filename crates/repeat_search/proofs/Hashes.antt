@@ -2,6 +2,7 @@
 use Prim.Native.Nat.{ℕ, suc, zero, _+_, _-_, _*_, _/_, _%_, _^_, _≤_, _<_}
 use mathlib.Core.Path.{_≡_, refl, ap, sym, _∙_}
 use mathlib.Core.List.{List, [], _∷_}
+use mathlib.Core.Bool.{Bool, false}
 use native.Mathlib.Omega.{arith}
 use native.Mathlib.Nat.{mul-le-mul}
 use lib.Dec.{eqb}
@@ -12,6 +13,7 @@ use borrow.Author.Tests.{lt-ltb, le-ltb, eq-eqb, ne-eqb}
 use Rattle.format.specs.Trace.{pick}
 use Rattle.format.specs.Reading.{little, part}
 use Rattle.format.specs.TraceTheorems.{part-length}
+use Rattle.vob24.specs.Utf8.{in?}
 use Rattle.in_place.specs.declared.Item.{Item}
 use Rattle.in_place.specs.declared.Table.{Table}
 use Rattle.in_place.specs.declared.Table.the-variants.{Fields, Methods, Identities, Alike}
@@ -26,7 +28,7 @@ use Rattle.repeat_search.specs.declared.Taken.{Taken}
 use Rattle.folding.specs.Bytes.{foldBytes}
 use Rattle.folding.specs.FoldLaws.{fold-nil}
 use Rattle.folding.specs.Contract.{span, FoldAt}
-use Rattle.folding.proofs.Folded.{folded-stays, letter-room, folded-letter}
+use Rattle.folding.proofs.Folded.{plain-first, folded-stays, letter-room, folded-letter}
 use Rattle.repeat_search.specs.Tables.{keyHash, TextHash, EndedHash, FoldedHash, PackageHash, KeyHash}
 
 -- ---- a turn stays below 2 ^ 64
@@ -266,6 +268,17 @@ module _ {seed : ℕ} {s : List ℕ} {at end h w k f : ℕ} (l : Streams seed s 
         within = omega (arith, letter-room s at end (l .some) (l .room) e z);
       }
 
+pub taken-plain : {seed : ℕ} {s : List ℕ} {at end h w k b : ℕ} {o : Bool} {q : Stream} → Streams seed s at end k
+    → o ≡ in? 0xc3 0xc5 (getD s at 0) → o ≡ false → b ≡ getD s at 0 → Pushed seed h w k b q
+    → TakenIn seed s at end h w k (record { stream = q; at = at + 1 })
+taken-plain {seed} {s} {at} {end} {h} {w} {k} l i j e p =
+    record {
+      is = ap (streamHash seed h w k) (plain-first s at end (l .some) (l .room) (sym i ∙ j) ∙ rw (← e)) ∙ p .is _;
+      few = p .few;
+      on = omega arith;
+      within = omega (arith, l .some);
+    }
+
 pub taken-room : {seed : ℕ} {s : List ℕ} {at end k f : ℕ} → Streams seed s at end k → FoldAt s at end f → (f ≡ 0 → ⊥)
     → at + 2 ≤ length s
 taken-room {s = s} {at} {end} l e z = omega (arith, letter-room s at end (l .some) (l .room) e z, l .room)
@@ -302,4 +315,4 @@ module _ {seed : ℕ} {s : List ℕ} {p end : ℕ} where
 
 pub ruleset hashing = (short-none, short-three, short-words, lanes-joined, blocks-start, blocks-second, blocks-room, blocks-more, blocks-end, text-hash, ended-hash, package-hash, hash-field, hash-method, hash-identity, hash-alike)
 
-pub ruleset streams = (pushed-full, pushed-more, pushed-letter, taken-stays, taken-letter, taken-room, streaming-start, streaming-some, streaming-more, streaming-done)
+pub ruleset streams = (pushed-full, pushed-more, pushed-letter, taken-stays, taken-letter, taken-plain, taken-room, streaming-start, streaming-some, streaming-more, streaming-done)

@@ -6,6 +6,7 @@ ghost use Prim.Native.Nat.{_+_, _≤_, _<_};
 ghost use lib.ListN.{length};
 ghost use Rattle.format.specs.Reading.{part};
 ghost use Rattle.vob24.specs.Grammar.{runtimeField};
+ghost use Rattle.in_place.specs.Items.{formatOf};
 ghost use Rattle.in_place.specs.Tables.{formatIn};
 ghost use Rattle.repeat_search.specs.Keys.{repeatAt, FirstRepeat};
 ghost use Rattle.repeat_search.specs.Marks.{Marked, AllNew};
@@ -326,7 +327,15 @@ struct Taken {
     at: usize,
 }
 
-fn take_in(s: &[u8], at: usize, end: usize, seed: u64, hash: u64, word: u64, count: u64) -> Taken
+fn take_letter(
+    s: &[u8],
+    at: usize,
+    end: usize,
+    seed: u64,
+    hash: u64,
+    word: u64,
+    count: u64,
+) -> Taken
     requires { ⌜ Streams seed (now s) at end count ⌝ }
     ensures { λ q. ⌜ TakenIn seed (now (s .entry)) at end hash word count q ⌝ }
 {
@@ -342,6 +351,21 @@ fn take_in(s: &[u8], at: usize, end: usize, seed: u64, hash: u64, word: u64, cou
     Taken {
         stream: x,
         at: at + 2,
+    }
+}
+
+// The same. Most bytes open no letter, and this test of them is compiled into the loop.
+fn take_in(s: &[u8], at: usize, end: usize, seed: u64, hash: u64, word: u64, count: u64) -> Taken
+    requires { ⌜ Streams seed (now s) at end count ⌝ }
+    ensures { λ q. ⌜ TakenIn seed (now (s .entry)) at end hash word count q ⌝ }
+{
+    if folding::opens(s[at]) {
+        return take_letter(s, at, end, seed, hash, word, count);
+    }
+    let x = push(seed, hash, word, count, wide(s[at]));
+    Taken {
+        stream: x,
+        at: at + 1,
     }
 }
 
@@ -696,4 +720,19 @@ pub fn first_repeat(s: &[u8], table: Table, from: usize, n: usize) -> usize
         return searched(s, table, from, n, false);
     }
     searched(s, table, from, n, true)
+}
+
+// The same of folded names. A name's mark is a hash of it then, so that few names meet by their marks, and no pass is made
+// to see whether all marks differ.
+pub fn first_alike(s: &[u8], item: Item, from: usize, n: usize) -> usize
+    requires { ⌜ Items (formatOf item) n (now s) from ⌝ }
+    ensures { λ q. ⌜ FirstRepeat (keysAt (Table.Alike item) (now (s .entry)) from) n q ⌝ }
+{
+    if n < FEW {
+        return scan(s, Table::Alike(item), from, n);
+    }
+    if n < MIDDLING {
+        return searched(s, Table::Alike(item), from, n, false);
+    }
+    searched(s, Table::Alike(item), from, n, true)
 }

@@ -1,22 +1,31 @@
 use borrow.Author.Needs.{needs}
-use Rattle.folding.proofs.Folded.{comparing, comparing-fore, comparing-back}
-use Rattle.folding.proofs.Folded.{Comparing}
+use Rattle.folding.proofs.Folded.{comparing}
+use Rattle.folding.proofs.Folded.{Comparing, comparing-fore, comparing-back}
 use lib.ListN.{length}
 use Rattle.folding.specs.Contract.{ahead}
 use Rattle.folding.proofs.same_folded.Statement.{statement}
 use Rattle.folding.proofs.same_folded.Tie as tie
 
 abbrev Inv-loop : tie.InvT-loop
-Inv-loop s a m b n a-end b-end p₀ p-held₀ q₀ q-held₀ p p-held q q-held = Comparing s a m b n a-end b-end p p-held q q-held
+Inv-loop s a m b n a-end b-end k p₀ p-held₀ q₀ q-held₀ p p-held q q-held = Comparing s a m b n a-end b-end p p-held q q-held
 
 abbrev μ-loop : tie.MeasureT-loop
-μ-loop s a m b n a-end b-end p₀ p-held₀ q₀ q-held₀ p p-held q q-held = length (ahead s p a-end p-held)
+μ-loop s a m b n a-end b-end k p₀ p-held₀ q₀ q-held₀ p p-held q q-held = length (ahead s p a-end p-held)
 
 add-a-end : tie.Need-add-a-end Inv-loop μ-loop
 add-a-end c = search (needs, comparing)
 
 add-b-end : tie.Need-add-b-end Inv-loop μ-loop
 add-b-end c = search (needs, comparing)
+
+same-prefix-requires : tie.Need-same-prefix-requires Inv-loop μ-loop
+same-prefix-requires c κs = search (needs, comparing)
+
+add-p : tie.Need-add-p Inv-loop μ-loop
+add-p c = search (needs, comparing)
+
+add-q : tie.Need-add-q Inv-loop μ-loop
+add-q c = search (needs, comparing)
 
 loop-holds : tie.Need-loop-holds Inv-loop μ-loop
 loop-holds c = search (needs, comparing)
@@ -54,5 +63,6 @@ returns-3 c = search (needs, comparing)
 pub same-folded-spec : {M : Type 1} → statement M
 same-folded-spec =
     tie.close
-    (tie.spec Inv-loop μ-loop add-a-end add-b-end loop-holds more-requires more-requires-2 returns next-byte-requires
-    next-byte-requires-2 returns-2 loop-less loop-again more-requires-3 returns-3)
+    (tie.spec Inv-loop μ-loop add-a-end add-b-end same-prefix-requires add-p add-q loop-holds more-requires
+    more-requires-2 returns next-byte-requires next-byte-requires-2 returns-2 loop-less loop-again more-requires-3
+    returns-3)

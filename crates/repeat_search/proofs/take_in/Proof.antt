@@ -3,8 +3,17 @@ use borrow.Author.Needs.{needs}
 use Rattle.repeat_search.proofs.take_in.Statement.{statement}
 use Rattle.repeat_search.proofs.take_in.Tie as tie
 
-fold-at-requires : tie.Need-fold-at-requires
-fold-at-requires c κs = search needs
+shared-slice-read-opens : tie.Need-shared-slice-read-opens
+shared-slice-read-opens c = search needs
+
+opens-requires : tie.Need-opens-requires
+opens-requires c κs = search needs
+
+take-letter-requires : tie.Need-take-letter-requires
+take-letter-requires c κs = search needs
+
+returns : tie.Need-returns
+returns c = search needs
 
 shared-slice-read-wide : tie.Need-shared-slice-read-wide
 shared-slice-read-wide c = search needs
@@ -15,17 +24,8 @@ wide-requires c κs = search needs
 push-requires : tie.Need-push-requires
 push-requires c κs = search needs
 
-add-t15 : tie.Need-add-t15
-add-t15 c = search needs
-
-returns : tie.Need-returns
-returns c = search (needs, streams)
-
-push-letter-requires : tie.Need-push-letter-requires
-push-letter-requires c κs = search needs
-
-add-t16 : tie.Need-add-t16
-add-t16 c = search needs
+add-t14 : tie.Need-add-t14
+add-t14 c = search needs
 
 returns-2 : tie.Need-returns-2
 returns-2 c = search (needs, streams)
@@ -33,5 +33,5 @@ returns-2 c = search (needs, streams)
 pub take-in-spec : {M : Type 1} → statement M
 take-in-spec =
     tie.close
-    (tie.spec fold-at-requires shared-slice-read-wide wide-requires push-requires add-t15 returns push-letter-requires
-    add-t16 returns-2)
+    (tie.spec shared-slice-read-opens opens-requires take-letter-requires returns shared-slice-read-wide wide-requires
+    push-requires add-t14 returns-2)
