@@ -126,6 +126,6 @@ module _ {set : Settings} {s : List ℕ} {q : Alike} (call : AlikeCall set s q) 
     pub same-folded : foldBytes (part s a m) ≡ foldBytes (part s b n)
     same-folded = alike-bytes (part s a m) (well-formed .0) (part s b n) (well-formed .1) .0 are-alike
 
-    -- "Reading itself goes on comparing bytes": no two names of a table have the same.
+    -- "Reading itself goes on comparing bytes": names of one table that passed have not the same, nor has a pair.
     pub differ : part s a m ≡ part s b n → ⊥
     differ = let e = passes .3 in spec.spans-differ set s e (spans e h)
