@@ -16,6 +16,7 @@ use Rattle.vob24.specs.Fields.{variantOf, newMethodOf, interfaceOf, runtimeInte
 use Rattle.vob24.specs.Leaves.{free}
 use Rattle.vob24.specs.Grammar.{fieldName, methodName, slotTypes, fieldIndex, struct, methodSet, interface, methodSize, methods, namedType, runtimeInterface, runtimeType, newMethod, alsoSeen, section, structs, interfaces, namedTypes, runtimeTypes}
 use Rattle.alike.specs.Alike.{fieldTable, interfaceTables, methodTable, runtimeTables, pairIn}
+use Rattle.alike_theorems.specs.NewNames.{AllNew, keys-new, names-new}
 use Rattle.reader.proofs.Gather.{read-take}
 use Rattle.in_place.specs.declared.Item.{Item}
 use Rattle.in_place.specs.declared.Item.the-variants.{Name, StructField, InterfaceMethod, RuntimeMethod, NamedMethod}
@@ -24,13 +25,13 @@ use Rattle.in_place.specs.Items.{formatOf, endOf}
 use Rattle.in_place.specs.Contract as place
 use Rattle.in_place.specs.Contract.{WordIs, Placed}
 use Rattle.in_place.proofs.Places.{number-stands}
-use Rattle.alike_names.specs.Contract.{tableOf, AllNew, TableAt, Walks, past, TableWalk}
+use Rattle.alike_names.specs.Contract.{tableOf, TableAt, Walks, past, TableWalk}
 use Rattle.alike_names.specs.Tables.{variant, OtherAt, structTables, namedTables, WalksAt}
 use Rattle.alike_names.specs.declared.Walk.{Walk}
 use Rattle.alike_names.specs.declared.Walk.the-variants.{Found, Past}
 use Rattle.alike_names.proofs.Lists.{behind, ListStands, list-stands, asked-stands}
 use Rattle.alike_names.proofs.Sizes.{sized-number, sized-list}
-use Rattle.alike_names.proofs.NewNames.{keys-new, names-new, methods-stand}
+use Rattle.alike_names.proofs.NewNames.{methods-stand}
 use Rattle.alike_names.proofs.Pairs.{walks-found, walks-then}
 
 -- A list of such items at p, whose names are those of the table t and are new, and the place q past it.

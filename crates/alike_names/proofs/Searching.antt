@@ -21,6 +21,7 @@ use Rattle.alike.specs.Decompositions.{alike}
 use Rattle.alike.specs.Alike.{Names, none, pair, orElse, nearest, pairAfter, pairIn, shown}
 use Rattle.alike.specs.Alike as alike
 use Rattle.alike_theorems.specs.FoldedBytes.{alike-bytes}
+use Rattle.alike_theorems.specs.NewNames.{AllNew, done, also}
 use Rattle.folding.specs.Bytes.{foldOf, foldBytes}
 use Rattle.folding.specs.Contract as folding
 use Rattle.in_place.specs.declared.Item.{Item}
@@ -36,7 +37,7 @@ use Rattle.in_place.proofs.Walking.{Walking, walking-start, walking-here, walki
 use Rattle.repeat_search.specs.Keys.{repeatAt, FirstRepeat}
 use Rattle.repeat_search.specs.Tables.{exempt, repeats, keysAt, Standing}
 use Rattle.repeat_search.proofs.Tables.{repeats-at}
-use Rattle.alike_names.specs.Contract.{tableOf, AllNew, done, also, TableAt, Walks, found, past, TableWalk}
+use Rattle.alike_names.specs.Contract.{tableOf, TableAt, Walks, found, past, TableWalk}
 use Rattle.alike_names.specs.Search.{All, Unfolded, PlainItems, Repeats, nameAt, NearerIs, PartnerIs}
 use Rattle.alike_names.specs.Search as search
 use Rattle.alike_names.specs.Tables.{PastItems}

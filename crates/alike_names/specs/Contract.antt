@@ -2,13 +2,13 @@
 use Prim.Native.Nat.{ℕ}
 use mathlib.Core.Path.{_≡_}
 use mathlib.Core.List.{List, [], _∷_, map}
-use mathlib.Core.Bool.{false}
-use Rattle.format.specs.Format.{Value, content}
+use Rattle.format.specs.Format.{Value}
 use Rattle.vob24.specs.Settings.{Settings}
-use Rattle.vob24.specs.Questions.{named, among}
+use Rattle.vob24.specs.Questions.{named}
 use Rattle.vob24.specs.Grammar.{fieldName, pack}
 use Rattle.alike.specs.Alike.{pairIn, tables, shown}
 use Rattle.alike.specs.Alike as alike
+use Rattle.alike_theorems.specs.NewNames.{AllNew}
 use Rattle.reader.specs.Contract.{wrongOf}
 use Rattle.in_place.specs.declared.Item.{Item}
 use Rattle.in_place.specs.declared.Item.the-variants.{Name, StructField, InterfaceMethod, RuntimeMethod, NamedMethod, RuntimeField}
@@ -34,13 +34,7 @@ tableOf RuntimeMethod vs = namesOf RuntimeMethod vs
 tableOf NamedMethod vs = namesOf NamedMethod vs
 tableOf RuntimeField vs = namesOf RuntimeField vs
 
--- No name repeats one before it, or one of these: what reading has asked.
-pub data AllNew : List (List ℕ) → List Value → Type 0 where
-  done : {seen : List (List ℕ)} → AllNew seen []
-  also : {seen : List (List ℕ)} {v : Value} {vs : List Value} → among (content v) seen ≡ false
-      → AllNew (content v ∷ seen) vs → AllNew seen (v ∷ vs)
-
--- n items from a place on, whose names are new.
+-- n items from a place on, whose names are new, as reading has asked.
 pub record TableAt (i : Item) (n : ℕ) (s : List ℕ) (from : ℕ) : Type 0 where
   pub items : Items (formatOf i) n s from
   pub new : AllNew [] (tableOf i (itemsAt (formatOf i) n s from))

@@ -6,11 +6,13 @@ use mathlib.Core.Bool.{true}
 use mathlib.Core.Logic.{_↔_}
 use native.Mathlib.Omega.{arith}
 use lib.ListN.{length}
-use Rattle.format.specs.Trace.{Wrong, Settled, refused, taken, settle}
+use Rattle.format.specs.Trace.{Wrong, Ends, Settled, refused, taken, settle}
 use Rattle.format.specs.Format.{Value, start, content}
-use Rattle.format.specs.Reading.{part}
+use Rattle.format.specs.Reading.{part, trace}
 use Rattle.format.specs.SettleTheorems.{settle-taken}
+use Rattle.vob24.specs.Utf8.{wellFormed}
 use Rattle.vob24.specs.Settings.{Settings, startingBudget}
+use Rattle.vob24.specs.Grammar.{pack}
 use Rattle.vob24.specs.Calls.{wholeTrace}
 use Rattle.vob24_theorems.specs.Theorems.{whole-reads, whole-end}
 use Rattle.vob24_theorems.specs.RefusalNumbers.{Listed, whole-listed}
@@ -18,7 +20,8 @@ use Rattle.alike.specs.Decompositions.{alike}
 use Rattle.alike.specs.Alike as names
 use Rattle.alike.specs.Alike.{Names, pairIn, tables, Answer, Pair, None, Not, shown, answering, alikeOutcome}
 use Rattle.alike_theorems.specs.Order.{InOrder, order-lies, names-in-order}
-use Rattle.alike_theorems.specs.Pairs.{PairOf, Described, pair-there, pair-alike, pair-order, none-iff, described-iff}
+use Rattle.alike_theorems.specs.Pairs.{PairOf, Described, pair-there, pair-alike, pair-order, none-iff, described-iff, one-partner}
+use Rattle.alike_theorems.specs.NewNames.{tables-new, pair-differ}
 
 -- An answer is a pair, none, or a refusal, which has the number of a question that is put to a file.
 pub data Alikes : Answer → Type 0 where
@@ -83,11 +86,14 @@ module _ (set : Settings) (s : List ℕ) where
     unfolding alikeOutcome
     is-shown = ap answering e
 
-    in-order : InOrder s 0 (flatten (tables v)) (length s)
-    in-order =
+    read : Ends (trace (pack set) s 0) v (length s)
+    read =
         let h = settle-taken startingBudget (wholeTrace set s) v p l .0 e .0 in
         let i = whole-end set s h in
-        rw (← i) (names-in-order set s (whole-reads set s .inner h .0))
+        rw (← i) (whole-reads set s .inner h .0)
+
+    in-order : InOrder s 0 (flatten (tables v)) (length s)
+    in-order = names-in-order set s read
 
     -- "The answer is the pair whose later name ends earliest in the file, with the earlier name nearest to it"
     pub alike-described : (a m b n : ℕ) → (alikeOutcome set s ≡ Pair a m b n) ↔ Spans (tables v) a m b n
@@ -117,6 +123,19 @@ module _ (set : Settings) (s : List ℕ) where
         rw (h .laterStart, h .laterLength) (order-lies in-order (there .1) .bytes),
       )
 
+      -- They are well-formed.
+      pub spans-text : (wellFormed (content (h .earlier)) ≡ true) × (wellFormed (content (h .later)) ≡ true)
+      spans-text = (order-lies in-order (there .0) .text, order-lies in-order (there .1) .text)
+
+      -- "Reading itself goes on comparing bytes": their bytes differ.
+      pub spans-differ : part s a m ≡ part s b n → ⊥
+      spans-differ i =
+          pair-differ (tables-new set s read) (h .described .is) (sym (spans-names .0) ∙ i ∙ spans-names .1)
+
+      -- The later name has no other earlier partner.
+      pub spans-one-partner : (x : Value) → PairOf (tables v) x (h .later) → x ≡ h .earlier
+      spans-one-partner x i = one-partner (tables v) in-order (h .described) i
+
   -- A pair is answered of a pack that is taken, and its spans lie within it.
   pub alike-taken : {a m b n : ℕ} → alikeOutcome set s ≡ Pair a m b n
       → (v : Value) × (p : ℕ) × (l : ℕ) × (settle startingBudget (wholeTrace set s) ≡ taken v p l)
@@ -135,8 +154,8 @@ module _ (set : Settings) (s : List ℕ) where
       (omega arith, i .1, i .0)
 
   -- and their bytes are alike
-  pub alike-bytes : {a m b n : ℕ} → alikeOutcome set s ≡ Pair a m b n → alike (part s a m) (part s b n) ≡ true
-  alike-bytes {a} {m} {b} {n} e =
+  pub spans-alike : {a m b n : ℕ} → alikeOutcome set s ≡ Pair a m b n → alike (part s a m) (part s b n) ≡ true
+  spans-alike {a} {m} {b} {n} e =
       let r = alike-taken e in
       let h = alike-described (r .3) a m b n .0 e in
       let i = spans-names (r .3) h in

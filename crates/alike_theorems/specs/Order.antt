@@ -1,33 +1,35 @@
 -- The names of a pack's tables stand in the file in the order of the tables.
-use Prim.Native.Nat.{ℕ, suc, zero, _+_, _≤_, _<_}
-use mathlib.Core.Path.{_≡_, refl, ap, sym, _∙_, subst}
+use Prim.Native.Nat.{ℕ, _+_, _≤_, _<_}
+use mathlib.Core.Path.{_≡_, refl, ap, sym, _∙_}
 use mathlib.Core.List.{List, [], _∷_, _++_, append-assoc, append-nil, map, map-id, flatMap, flatten, List·Memᴰ, List·Memᴰ·head, List·Memᴰ·tail}
 use mathlib.Core.Bool.{Bool, true, false}
 use native.Mathlib.Omega.{arith}
-use lib.ListN.{length, getD}
-use lib.Dec.{T, eqb, eqb→eq}
+use lib.ListN.{length}
+use lib.Dec.{T, eqb}
 use Rattle.format.specs.Trace.{pick, Ends}
-use Rattle.format.specs.Format.{Value, number, start, content, first, second, Rule, string, count, Format, empty, leaf, seq, chain, items, entries}
+use Rattle.format.specs.Format.{Value, number, start, content, Rule, string, count, Format, leaf, seq, chain, items, entries}
 use Rattle.format.specs.Reading.{little, part, trace}
-use Rattle.format.specs.TraceTheorems.{Passed, part-length, leaf-ends, seq-ends, trace-within}
-use Rattle.vob24.specs.Refusals.{vector}
+use Rattle.format.specs.TraceTheorems.{Passed, part-length, leaf-ends}
+use Rattle.vob24.specs.Utf8.{wellFormed}
 use Rattle.vob24.specs.Settings.{Settings}
-use Rattle.vob24.specs.Leaves.{listOf, choose}
+use Rattle.vob24.specs.Leaves.{listOf}
 use Rattle.vob24.specs.Fields.{variantOf, newMethodOf, runtimeInterfaceOf}
 use Rattle.vob24.specs.Questions.{named, blank}
 use Rattle.vob24.specs.Grammar.{fieldName, methodName, alsoSeen, structField, interfaceMethod, method, newMethod, runtimeMethod, struct, interface, methods, namedType, runtimeInterface, runtimeVariants, runtimeType, section, sections, pack}
 use Rattle.vob24.specs.Cost.{partOf}
 use Rattle.alike.specs.Alike.{fieldTable, interfaceTables, methodTable, interfaceTag, runtimeTables, tables}
+use Rattle.alike_theorems.specs.Collected.{Joined, Collects, in-equal, in-none, in-first, in-second, in-both, in-list, in-listOf, in-variant}
 
 -- the place past a name
 abbrev pub nameEnd : Value → ℕ
 nameEnd v = start v + length (content v)
 
--- A name in the file s between p and q: behind its length word, with its bytes where it says.
+-- A name in the file s between p and q: behind its length word, with its bytes where it says, which are well-formed.
 pub record Lies (s : List ℕ) (p : ℕ) (v : Value) (q : ℕ) : Type 0 where
   pub from : p + 4 ≤ start v
   pub to : nameEnd v ≤ q
   pub bytes : part s (start v) (length (content v)) ≡ content v
+  pub text : wellFormed (content v) ≡ true
 
 -- Names in the file s from p to q, each behind the one before it.
 pub data InOrder (s : List ℕ) : ℕ → List Value → ℕ → Type 0 where
@@ -36,7 +38,7 @@ pub data InOrder (s : List ℕ) : ℕ → List Value → ℕ → Type 0 where
 
 module _ {s : List ℕ} where
   lies-within : {p q r m : ℕ} {v : Value} → p ≤ r → Lies s r v m → m ≤ q → Lies s p v q
-  lies-within i h j = record { from = omega (arith, h .from); to = omega (arith, h .to); bytes = h .bytes }
+  lies-within i h j = record { from = omega (arith, h .from); to = omega (arith, h .to); bytes = h .bytes; text = h .text }
 
   order-from : {p r q : ℕ} {vs : List Value} → p ≤ r → InOrder s r vs q → InOrder s p vs q
   order-from {p} {r} {q} h (done i) = let j : p ≤ q = omega arith in done j
@@ -94,80 +96,33 @@ module _ {s : List ℕ} where
 -- ---- the names of what a format reads
 
 -- What f reads has these names, in order between its start and its end.
-record HasNames (f : Format) (names : Value → List Value) : Type 0 where
-  inOrder : (s : List ℕ) (p : ℕ) {v : Value} {q : ℕ} → Ends (trace f s p) v q → InOrder s p (names v) q
+abbrev HasNames : Format → (Value → List Value) → Type 0
+HasNames f names = Collects InOrder f names
 
-no-name : (f : Format) → HasNames f (λ _. [])
-no-name f = record { inOrder = λ s p h. done (trace-within f s p h .0) }
+ordered : Joined InOrder
+ordered = record { nothing = done; wider = order-from; longer = order-to; append = order-append }
 
-one-name : {r : Rule} {c : ℕ} {ok : List ℕ → Bool} → HasNames (leaf (string r c ok)) (λ v. v ∷ [])
+holds : (d : Bool) → T d → d ≡ true
+holds true t = refl
+
+one-name : {r : Rule} {c : ℕ} → HasNames (leaf (string r c wellFormed)) (λ v. v ∷ [])
 unfolding trace
-one-name {r} {c} {ok} = record {
-  inOrder = λ s p {v} {q} h. let e : q ≤ q = omega arith in next (go s p (leaf-ends (string r c ok) s p h)) (done e);
+one-name {r} {c} = record {
+  has = λ s p {v} {q} h. let e : q ≤ q = omega arith in next (go s p (leaf-ends (string r c wellFormed) s p h)) (done e);
 }
   where
-    go : (s : List ℕ) (p : ℕ) {v : Value} {q : ℕ} → Passed (string r c ok) s p v q → Lies s p v q
+    go : (s : List ℕ) (p : ℕ) {v : Value} {q : ℕ} → Passed (string r c wellFormed) s p v q → Lies s p v q
     go s p h =
         let e = part-length s (p + 4) (little (part s p 4)) (h .0) in
-        rw (h .3, h .4) (record { from = omega arith; to = omega arith; bytes = ap (part s (p + 4)) e })
-
--- a sequence: names in its first part, in its second, in both
-in-first : {f : Format} {g : Value → Format} {N : Value → List Value} → HasNames f N
-    → HasNames (seq f g) (λ v. N (first v))
-in-first {f} {g} a = record {
-  inOrder = λ s p {v} h.
-      let r = seq-ends f g s p h in
-      order-to (a .inOrder s p (r .fore)) (trace-within (g (first v)) s (r .mid) (r .back) .0);
-}
-
-in-second : {f : Format} {g : Value → Format} {N : Value → Value → List Value} → ((v : Value) → HasNames (g v) (N v))
-    → HasNames (seq f g) (λ v. N (first v) (second v))
-in-second {f} {g} a = record {
-  inOrder = λ s p {v} h.
-      let r = seq-ends f g s p h in
-      order-from (trace-within f s p (r .fore) .0) (a (first v) .inOrder s (r .mid) (r .back));
-}
-
-in-both : {f : Format} {g : Value → Format} {N M : Value → List Value} → HasNames f N
-    → ((v : Value) → HasNames (g v) M) → HasNames (seq f g) (λ v. N (first v) ++ M (second v))
-in-both {f} {g} a b = record {
-  inOrder = λ s p {v} h.
-      let r = seq-ends f g s p h in
-      order-append (a .inOrder s p (r .fore)) (b (first v) .inOrder s (r .mid) (r .back));
-}
-
--- the items of a list, each by the state that the ones before it left
-module _ {S : Type 0} (f : S → Format) (u : S → Value → S) {N : Value → List Value}
-    (each : (x : S) → HasNames (f x) N) where
-  in-items : (x : S) (n : ℕ) → HasNames (chain f u x n) (λ v. flatMap N (items n v))
-  unfolding chain items flatMap
-  in-items x zero = no-name empty
-  in-items x (suc n) = in-both (each x) (λ v. in-items (u x v) n)
-
-  in-list : (r : Rule) (m c z : ℕ) (x : S)
-      → HasNames (seq (leaf (count r m c z)) (λ n. chain f u x (number n))) (λ v. flatMap N (entries v))
-  in-list r m c z x = in-second (λ n. in-items x (number n))
-
--- a variant: names in the part of the tag k
-in-variant : (r : Rule) (fs : List Format) (k : ℕ) {N : Value → List Value} → HasNames (getD fs k empty) N
-    → HasNames (choose r fs) (λ v. pick (eqb (number (first v)) k) (N (second v)) [])
-unfolding pick
-in-variant r fs k {N} a = in-second (λ tag. go (number tag) (eqb (number tag) k) (eqb→eq (number tag) k))
-  where
-    go : (n : ℕ) (d : Bool) → (T d → n ≡ k) → HasNames (getD fs n empty) (λ v. pick d (N v) [])
-    go n true e = let same = e tt in rw same a
-    go n false e = no-name (getD fs n empty)
+        let w = holds (wellFormed (part s (p + 4) (little (part s p 4)))) (h .2) in
+        rw (h .3, h .4) (record { from = omega arith; to = omega arith; bytes = ap (part s (p + 4)) e; text = w })
 
 in-named : {f : Format} {N : Value → List Value} → HasNames f N → HasNames f (λ v. named (N v))
-in-named a = record { inOrder = λ s p h. order-named (a .inOrder s p h) }
-
--- an equal list
-in-equal : {f : Format} {N M : Value → List Value} → ((v : Value) → N v ≡ M v) → HasNames f N → HasNames f M
-in-equal e a = record { inOrder = λ s p {v} {q} h. subst (λ l. InOrder s p l q) (e v) (a .inOrder s p h) }
+in-named a = record { has = λ s p h. order-named (a .has s p h) }
 
 -- ---- lists of lists, joined
 
-flatMap-one : (h : Value → Value) (l : List Value) → flatMap (λ v. h v ∷ []) l ≡ map h l
+pub flatMap-one : {A : Type 0} (h : Value → A) (l : List Value) → flatMap (λ v. h v ∷ []) l ≡ map h l
 unfolding flatMap
 flatMap-one h [] = refl
 flatMap-one h (v ∷ vs) = ap (λ l. h v ∷ l) (flatMap-one h vs)
@@ -199,56 +154,52 @@ flatten-pick false t = refl
 in-table : {S : Type 0} (f : S → Format) (u : S → Value → S) (h : Value → Value)
     → ((x : S) → HasNames (f x) (λ v. h v ∷ [])) → (r : Rule) (m c z : ℕ) (x : S)
     → HasNames (seq (leaf (count r m c z)) (λ n. chain f u x (number n))) (λ v. map h (entries v))
-in-table f u h each r m c z x = in-equal (λ v. flatMap-one h (entries v)) (in-list f u each r m c z x)
-
-in-listOf : {f : Format} {N : Value → List Value} → HasNames f N → (r : Rule) (z : ℕ)
-    → HasNames (listOf r z f) (λ v. flatMap N (entries v))
-in-listOf {f} a r z = in-list (λ _. f) (λ _ _. tt) (λ _. a) r 1 vector z tt
+in-table f u h each r m c z x = in-equal (λ v. flatMap-one h (entries v)) (in-list ordered f u each r m c z x)
 
 in-tableOf : {f : Format} (h : Value → Value) → HasNames f (λ v. h v ∷ []) → (r : Rule) (z : ℕ)
     → HasNames (listOf r z f) (λ v. map h (entries v))
-in-tableOf h a r z = in-equal (λ v. flatMap-one h (entries v)) (in-listOf a r z)
+in-tableOf h a r z = in-equal (λ v. flatMap-one h (entries v)) (in-listOf ordered a r z)
 
 module _ (set : Settings) where
   in-struct : HasNames (struct set) fieldTable
   unfolding struct structField
-  in-struct = in-second (λ _. in-first (in-named (in-tableOf fieldName (in-first one-name) _ _)))
+  in-struct = in-second ordered (λ _. in-first ordered (in-named (in-tableOf fieldName (in-first ordered one-name) _ _)))
 
   in-interface : HasNames (interface set) (λ v. flatten (interfaceTables v))
   unfolding interface interfaceMethod flatten
   in-interface =
-      in-second (λ _.
-      in-both (in-equal (λ v. map-id (entries v)) (in-tableOf (λ v. v) one-name _ _)) (λ _.
-      in-both (in-tableOf methodName (in-first one-name) _ _) (λ _. no-name _)))
+      in-second ordered (λ _.
+      in-both ordered (in-equal (λ v. map-id (entries v)) (in-tableOf (λ v. v) one-name _ _)) (λ _.
+      in-both ordered (in-tableOf methodName (in-first ordered one-name) _ _) (λ _. in-none ordered _)))
 
   in-namedType : HasNames (namedType set) methodTable
   unfolding namedType methods newMethod method
   in-namedType =
       let nameOf : Value → Value = λ m. methodName (newMethodOf m .method) in
-      in-second (λ _. in-second (λ _. in-second (λ _.
-      in-table newMethod alsoSeen nameOf (λ _. in-first (in-first one-name)) _ _ _ _ [])))
+      in-second ordered (λ _. in-second ordered (λ _. in-second ordered (λ _.
+      in-table newMethod alsoSeen nameOf (λ _. in-first ordered (in-first ordered one-name)) _ _ _ _ [])))
 
   in-runtimeInterface : HasNames (runtimeInterface set) (λ v. map methodName (entries (runtimeInterfaceOf v .methods)))
   unfolding runtimeInterface runtimeMethod
-  in-runtimeInterface = in-second (λ _. in-first (in-tableOf methodName (in-first one-name) _ _))
+  in-runtimeInterface = in-second ordered (λ _. in-first ordered (in-tableOf methodName (in-first ordered one-name) _ _))
 
   in-runtimeType : HasNames (runtimeType set) (λ v. flatten (runtimeTables v))
   unfolding runtimeType
   in-runtimeType =
       in-equal (λ v. sym (flatten-pick (eqb (number (variantOf v .tag)) interfaceTag) _))
-      (in-variant _ (runtimeVariants set) interfaceTag in-runtimeInterface)
+      (in-variant ordered _ (runtimeVariants set) interfaceTag in-runtimeInterface)
 
   in-pack : HasNames (pack set) (λ v. flatten (tables v))
   unfolding pack sections section partOf tables
   in-pack =
       in-equal (λ v. sym (simp (flatten-append, flatten-map, flatten-flatMap)))
-      (in-second (λ _. in-second (λ _. in-second (λ _.
-      in-both (in-listOf in-struct _ _) (λ _.
-      in-both (in-listOf in-interface _ _) (λ _.
-      in-both (in-listOf in-namedType _ _) (λ _.
-      in-second (λ _. in-first (in-listOf in-runtimeType _ _)))))))))
+      (in-second ordered (λ _. in-second ordered (λ _. in-second ordered (λ _.
+      in-both ordered (in-listOf ordered in-struct _ _) (λ _.
+      in-both ordered (in-listOf ordered in-interface _ _) (λ _.
+      in-both ordered (in-listOf ordered in-namedType _ _) (λ _.
+      in-second ordered (λ _. in-first ordered (in-listOf ordered in-runtimeType _ _)))))))))
 
   -- The names of all tables of a pack that is read, one table after the other.
   pub names-in-order : (s : List ℕ) {v : Value} {q : ℕ} → Ends (trace (pack set) s 0) v q
       → InOrder s 0 (flatten (tables v)) q
-  names-in-order s h = in-pack .inOrder s 0 h
+  names-in-order s h = in-pack .has s 0 h

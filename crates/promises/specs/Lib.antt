@@ -3,3 +3,4 @@ pub mod Pack
 pub mod Section
 pub mod Lent
 pub mod Lookup
+pub mod Alike
