@@ -4,8 +4,9 @@
  * `rt staticlib exports` proves the library and writes target/staticlib/libexports.a; link that archive (x86-64 Linux).
  * bindings/c/example.c is a whole program, and ./bindings/run builds it.
  *
- * Every call ends, for every input, and answers as crates/vob24/specs/Calls.antt defines. None keeps a pointer, allocates
- * or touches a global, so that calls may run at the same time. What the calls ask of a caller is what C asks of any:
+ * Every call ends, for every input, and answers as crates/vob24/specs/Calls.antt defines, vob_alike_names as
+ * crates/alike/specs/Alike.antt. None keeps a pointer, allocates or touches a global, so that calls may run at the same time.
+ * What the calls ask of a caller is what C asks of any:
  *
  *   - a pointer and its length are memory that is there; the pointer is not null, also where the length is 0 (a caller whose
  *     empty buffer is null passes vob_bytes(p) or vob_words(p));
