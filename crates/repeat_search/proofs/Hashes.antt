@@ -22,8 +22,7 @@ use Rattle.in_place.specs.Tables.{formatIn, keyText, packageText}
 use Rattle.in_place.specs.Contract.{TextAt, WordIs, PackageIs, Placed}
 use Rattle.in_place.proofs.Texts.{text-room, text-part}
 use Rattle.in_place.proofs.Keys.{key-name, key-package}
-use Rattle.repeat_search.specs.Hashes.{mixed, folded, secondSeed, wordIn, shortHash, lanesHash, bytesHash, textHash, streamHash, ended, plainHash, streamedHash, PartAt, JoinIs, HashIs, Pushed, PushedLetter, TakenIn, Streams}
-use Rattle.repeat_search.specs.declared.Stream.{Stream}
+use Rattle.repeat_search.specs.Hashes.{mixed, folded, secondSeed, wordIn, shortHash, lanesHash, bytesHash, textHash, streamHash, ended, plainHash, streamedHash, PartAt, JoinIs, HashIs, TakenIn, Streams}
 use Rattle.repeat_search.specs.declared.Taken.{Taken}
 use Rattle.folding.specs.Bytes.{foldBytes}
 use Rattle.folding.specs.FoldLaws.{fold-nil}
@@ -227,92 +226,74 @@ module _ {t : Table} {seed : ℕ} {s : List ℕ} {p q : ℕ} (w : Placed (format
 
 -- ---- bytes that come one by one
 
-stream-cons : (seed h w k b v : ℕ) → v ≡ w % 72057594037927936 * 256 + b → (bs : List ℕ)
-    → streamHash seed h w k (b ∷ bs) ≡ pick (eqb k 7) (streamHash seed (folded seed h (v / 4294967296) (v % 4294967296)) 0 0 bs) (streamHash seed h v (k + 1) bs)
+stream-cons : (seed h b : ℕ) (bs : List ℕ) → streamHash seed h (b ∷ bs) ≡ streamHash seed (mixed seed h b) bs
 unfolding streamHash
-stream-cons seed h w k b v e bs = rw e
+stream-cons seed h b bs = refl
 
-module _ {seed h w k b v : ℕ} (e : v ≡ w % 72057594037927936 * 256 + b) where
-  pub pushed-full : {g : ℕ} → k ≡ 7 → g ≡ folded seed h (v / 4294967296) (v % 4294967296)
-      → Pushed seed h w k b (record { hash = g; word = 0; count = 0 })
-  unfolding pick
-  pushed-full z i = record { is = λ bs. stream-cons seed h w k b v e bs ∙ rw (eq-eqb k 7 z, i); few = omega arith }
-
-  pub pushed-more : (k ≡ 7 → ⊥) → k ≤ 7 → Pushed seed h w k b (record { hash = h; word = v; count = k + 1 })
-  unfolding pick
-  pushed-more z l = record { is = λ bs. stream-cons seed h w k b v e bs ∙ rw (ne-eqb k 7 z); few = omega arith }
-
-pub pushed-letter : {seed h w k f : ℕ} {x y z : Stream} → Pushed seed h w k (f / 256) x
-    → Pushed seed (x .hash) (x .word) (x .count) 0xcc y → Pushed seed (y .hash) (y .word) (y .count) (f % 256) z
-    → PushedLetter seed h w k f z
-pushed-letter a b c = record { is = λ bs. a .is _ ∙ b .is _ ∙ c .is bs; few = c .few }
-
-module _ {seed : ℕ} {s : List ℕ} {at end h w k f : ℕ} (l : Streams seed s at end k) (e : FoldAt s at end f) where
-  pub taken-stays : {b : ℕ} {q : Stream} → b ≡ getD s at 0 → f ≡ 0 → Pushed seed h w k b q
-      → TakenIn seed s at end h w k (record { stream = q; at = at + 1 })
-  taken-stays i z p =
+module _ {seed : ℕ} {s : List ℕ} {at end h : ℕ} (l : Streams seed s at end) where
+  -- a byte that stays
+  one-taken : {b x : ℕ} → foldBytes (span s at end) ≡ getD s at 0 ∷ foldBytes (span s (at + 1) end) → b ≡ getD s at 0
+      → x ≡ mixed seed h b → TakenIn seed s at end h (record { hash = x; at = at + 1 })
+  one-taken e i j =
       record {
-        is = ap (streamHash seed h w k) (folded-stays s at end (l .some) (l .room) e z ∙ rw (← i)) ∙ p .is _;
-        few = p .few;
+        is = ap (streamHash seed h) e ∙ stream-cons seed h (getD s at 0) (foldBytes (span s (at + 1) end)) ∙ rw (j, i);
         on = omega arith;
         within = omega (arith, l .some);
       }
 
-  pub taken-letter : {q : Stream} → (f ≡ 0 → ⊥) → PushedLetter seed h w k f q
-      → TakenIn seed s at end h w k (record { stream = q; at = at + 2 })
-  taken-letter z p =
-      record {
-        is = ap (streamHash seed h w k) (folded-letter s at end (l .some) (l .room) e z) ∙ p .is _;
-        few = p .few;
-        on = omega arith;
-        within = omega (arith, letter-room s at end (l .some) (l .room) e z);
-      }
+  pub taken-plain : {b x : ℕ} {o : Bool} → o ≡ in? 0xc3 0xc5 (getD s at 0) → o ≡ false → b ≡ getD s at 0 → x ≡ mixed seed h b
+      → TakenIn seed s at end h (record { hash = x; at = at + 1 })
+  taken-plain i j = one-taken (plain-first s at end (l .some) (l .room) (sym i ∙ j))
 
-pub taken-plain : {seed : ℕ} {s : List ℕ} {at end h w k b : ℕ} {o : Bool} {q : Stream} → Streams seed s at end k
-    → o ≡ in? 0xc3 0xc5 (getD s at 0) → o ≡ false → b ≡ getD s at 0 → Pushed seed h w k b q
-    → TakenIn seed s at end h w k (record { stream = q; at = at + 1 })
-taken-plain {seed} {s} {at} {end} {h} {w} {k} l i j e p =
-    record {
-      is = ap (streamHash seed h w k) (plain-first s at end (l .some) (l .room) (sym i ∙ j) ∙ rw (← e)) ∙ p .is _;
-      few = p .few;
-      on = omega arith;
-      within = omega (arith, l .some);
-    }
+  module _ {f : ℕ} (e : FoldAt s at end f) where
+    pub taken-stays : {b x : ℕ} → f ≡ 0 → b ≡ getD s at 0 → x ≡ mixed seed h b
+        → TakenIn seed s at end h (record { hash = x; at = at + 1 })
+    taken-stays z = one-taken (folded-stays s at end (l .some) (l .room) e z)
 
-pub taken-room : {seed : ℕ} {s : List ℕ} {at end k f : ℕ} → Streams seed s at end k → FoldAt s at end f → (f ≡ 0 → ⊥)
+    pub taken-letter : {x y z : ℕ} → (f ≡ 0 → ⊥) → x ≡ mixed seed h (f / 256) → y ≡ mixed seed x 204 → z ≡ mixed seed y (f % 256)
+        → TakenIn seed s at end h (record { hash = z; at = at + 2 })
+    taken-letter n i j k =
+        record {
+          is = ap (streamHash seed h) (folded-letter s at end (l .some) (l .room) e n)
+              ∙ stream-cons seed h (f / 256) _
+              ∙ stream-cons seed (mixed seed h (f / 256)) 204 _
+              ∙ stream-cons seed (mixed seed (mixed seed h (f / 256)) 204) (f % 256) _
+              ∙ rw (k, j, i);
+          on = omega arith;
+          within = omega (arith, letter-room s at end (l .some) (l .room) e n);
+        }
+
+pub taken-room : {seed : ℕ} {s : List ℕ} {at end f : ℕ} → Streams seed s at end → FoldAt s at end f → (f ≡ 0 → ⊥)
     → at + 2 ≤ length s
 taken-room {s = s} {at} {end} l e z = omega (arith, letter-room s at end (l .some) (l .room) e z, l .room)
 
 -- the loop of `hash_folded`
-pub record Streaming (seed : ℕ) (s : List ℕ) (p end at h w k : ℕ) : Type 0 where
+pub record Streaming (seed : ℕ) (s : List ℕ) (p end at h : ℕ) : Type 0 where
   pub small : seed < 4294967296
   pub room : end ≤ length s
   pub within : at ≤ end
-  pub few : k ≤ 7
-  pub leads : streamHash seed seed 0 0 (foldBytes (textAt s p)) ≡ streamHash seed h w k (foldBytes (span s at end))
+  pub leads : streamHash seed seed (foldBytes (textAt s p)) ≡ streamHash seed h (foldBytes (span s at end))
 
 module _ {seed : ℕ} {s : List ℕ} {p end : ℕ} where
   pub streaming-start : {n : ℕ} → TextAt s p → WordIs s p n → seed < 4294967296 → end ≡ p + 4 + n
-      → Streaming seed s p end (p + 4) seed 0 0
+      → Streaming seed s p end (p + 4) seed
   streaming-start {n} t e z i =
       let j : end - (p + 4) ≡ n = omega arith in
-      record { small = z; room = omega (arith, text-room t e); within = omega arith; few = omega arith; leads = rw (text-part t e, j) }
+      record { small = z; room = omega (arith, text-room t e); within = omega arith; leads = rw (text-part t e, j) }
 
-  module _ {at h w k : ℕ} (l : Streaming seed s p end at h w k) where
-    pub streaming-some : at < end → Streams seed s at end k
-    streaming-some z = record { some = z; room = l .room; small = l .small; few = l .few }
+  module _ {at h : ℕ} (l : Streaming seed s p end at h) where
+    pub streaming-some : at < end → Streams seed s at end
+    streaming-some z = record { some = z; room = l .room; small = l .small }
 
-    pub streaming-more : {q : Taken} → TakenIn seed s at end h w k q
-        → Streaming seed s p end (q .at) (q .stream .hash) (q .stream .word) (q .stream .count)
-    streaming-more x = record { small = l .small; room = l .room; within = x .within; few = x .few; leads = l .leads ∙ x .is }
+    pub streaming-more : {q : Taken} → TakenIn seed s at end h q → Streaming seed s p end (q .at) (q .hash)
+    streaming-more x = record { small = l .small; room = l .room; within = x .within; leads = l .leads ∙ x .is }
 
-    pub streaming-done : {a b c q : ℕ} → end ≤ at → a ≡ mixed seed h k → b ≡ folded seed a (w / 4294967296 % 4294967296) (w % 4294967296)
-        → c ≡ mixed seed b 0 → q ≡ mixed seed c 0 → FoldedHash seed s p q
+    pub streaming-done : {c q : ℕ} → end ≤ at → c ≡ mixed seed h 0 → q ≡ mixed seed c 0 → FoldedHash seed s p q
     unfolding streamedHash streamHash
-    streaming-done z i j x y =
+    streaming-done z x y =
         let e : end - at ≡ 0 = omega arith in
-        record { is = y ∙ rw (x, j, i) (sym (ap (ended seed) (l .leads ∙ ap (streamHash seed h w k) (ap foldBytes (ap (λ n. part s at n) e) ∙ fold-nil)))) }
+        record { is = y ∙ rw x (sym (ap (ended seed) (l .leads ∙ ap (streamHash seed h) (ap foldBytes (ap (λ n. part s at n) e) ∙ fold-nil)))) }
 
 pub ruleset hashing = (short-none, short-three, short-words, lanes-joined, blocks-start, blocks-second, blocks-room, blocks-more, blocks-end, text-hash, ended-hash, package-hash, hash-field, hash-method, hash-identity, hash-alike)
 
-pub ruleset streams = (pushed-full, pushed-more, pushed-letter, taken-stays, taken-letter, taken-plain, taken-room, streaming-start, streaming-some, streaming-more, streaming-done)
+pub ruleset streams = (taken-plain, taken-stays, taken-letter, taken-room, streaming-start, streaming-some, streaming-more, streaming-done)

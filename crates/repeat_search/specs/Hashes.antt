@@ -9,7 +9,6 @@ use Rattle.format.specs.Trace.{pick}
 use Rattle.format.specs.Reading.{little, part}
 use Rattle.folding.specs.Bytes.{foldBytes}
 use Rattle.folding.specs.Contract.{span}
-use Rattle.repeat_search.specs.declared.Stream.{Stream}
 use Rattle.repeat_search.specs.declared.Taken.{Taken}
 
 abbrev pub mixed : ℕ → ℕ → ℕ → ℕ
@@ -47,12 +46,10 @@ bytesHash seed h x = pick (ltb (length x) 8) (shortHash seed h x) (lanesHash see
 unfoldable pub textHash : ℕ → ℕ → List ℕ → ℕ
 textHash seed h x = bytesHash seed (mixed seed h (length x)) x
 
--- bytes that come one by one: w has the last k of them, fewer than eight
-unfoldable pub streamHash : ℕ → ℕ → ℕ → ℕ → List ℕ → ℕ
-streamHash seed h w k [] = folded seed (mixed seed h k) (w / 4294967296 % 4294967296) (w % 4294967296)
-streamHash seed h w k (b ∷ bs) =
-    let v = w % 72057594037927936 * 256 + b in
-    pick (eqb k 7) (streamHash seed (folded seed h (v / 4294967296) (v % 4294967296)) 0 0 bs) (streamHash seed h v (k + 1) bs)
+-- bytes that come one by one
+unfoldable pub streamHash : ℕ → ℕ → List ℕ → ℕ
+streamHash seed h [] = h
+streamHash seed h (b ∷ bs) = streamHash seed (mixed seed h b) bs
 
 abbrev pub ended : ℕ → ℕ → ℕ
 ended seed h = mixed seed (mixed seed h 0) 0
@@ -63,7 +60,7 @@ plainHash seed x y = ended seed (textHash seed (textHash seed 0 y) x)
 
 -- of a name whose bytes come one by one, with no package
 unfoldable pub streamedHash : ℕ → List ℕ → List ℕ → ℕ
-streamedHash seed x y = ended seed (streamHash seed seed 0 0 x)
+streamedHash seed x y = ended seed (streamHash seed seed x)
 
 -- ---- of bytes in a row: what the code asks and tells
 
@@ -78,26 +75,14 @@ pub record JoinIs (seed lane1 lane2 : ℕ) (s : List ℕ) (p end q : ℕ) : Type
 pub record HashIs (seed h : ℕ) (x : List ℕ) (q : ℕ) : Type 0 where
   pub is : q ≡ bytesHash seed h x
 
--- one byte more
-pub record Pushed (seed h w k b : ℕ) (q : Stream) : Type 0 where
-  pub is : (bs : List ℕ) → streamHash seed h w k (b ∷ bs) ≡ streamHash seed (q .hash) (q .word) (q .count) bs
-  pub few : q .count ≤ 7
-
--- a letter's: base letter, CC, last byte of the mark
-pub record PushedLetter (seed h w k f : ℕ) (q : Stream) : Type 0 where
-  pub is : (bs : List ℕ) → streamHash seed h w k (f / 256 ∷ 0xcc ∷ f % 256 ∷ bs) ≡ streamHash seed (q .hash) (q .word) (q .count) bs
-  pub few : q .count ≤ 7
-
 -- the folded bytes from a place to an end, of which some were taken in
-pub record TakenIn (seed : ℕ) (s : List ℕ) (at end h w k : ℕ) (q : Taken) : Type 0 where
-  pub is : streamHash seed h w k (foldBytes (span s at end)) ≡ streamHash seed (q .stream .hash) (q .stream .word) (q .stream .count) (foldBytes (span s (q .at) end))
-  pub few : q .stream .count ≤ 7
+pub record TakenIn (seed : ℕ) (s : List ℕ) (at end h : ℕ) (q : Taken) : Type 0 where
+  pub is : streamHash seed h (foldBytes (span s at end)) ≡ streamHash seed (q .hash) (foldBytes (span s (q .at) end))
   pub on : at < q .at
   pub within : q .at ≤ end
 
 -- bytes from a place to an end that are to be hashed
-pub record Streams (seed : ℕ) (s : List ℕ) (at end k : ℕ) : Type 0 where
+pub record Streams (seed : ℕ) (s : List ℕ) (at end : ℕ) : Type 0 where
   pub some : at < end
   pub room : end ≤ length s
   pub small : seed < 4294967296
-  pub few : k ≤ 7

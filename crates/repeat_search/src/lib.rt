@@ -10,7 +10,7 @@ ghost use Rattle.in_place.specs.Items.{formatOf};
 ghost use Rattle.in_place.specs.Tables.{formatIn};
 ghost use Rattle.repeat_search.specs.Keys.{repeatAt, FirstRepeat};
 ghost use Rattle.repeat_search.specs.Marks.{Marked, AllNew};
-ghost use Rattle.repeat_search.specs.Hashes.{mixed, folded, secondSeed, PartAt, JoinIs, HashIs, Pushed, PushedLetter, Streams, TakenIn};
+ghost use Rattle.repeat_search.specs.Hashes.{mixed, folded, secondSeed, PartAt, JoinIs, HashIs, Streams, TakenIn};
 ghost use Rattle.repeat_search.specs.Filters.{maskOf, Lacks, Entered, Outside, Classed, Chosen, Noted, Filter, Probed, PassedOr, Suspects, FirstOr};
 ghost use Rattle.repeat_search.specs.Tables.{keysAt, keyHash, markIn, ExemptIs, TextMark, MarkIs, TextHash, EndedHash, FoldedHash, PackageHash, KeyHash, Standing, Within};
 ghost use Rattle.in_place.specs.Contract.{TextAt, Placed, Items};
@@ -284,92 +284,50 @@ fn hash_package(s: &[u8], p: usize, seed: u64) -> u64
     hash_text(s, package, seed, 0)
 }
 
-// A hash of bytes that come one by one: the last of them, fewer than eight, are in `word`.
-struct Stream {
-    hash: u64,
-    word: u64,
-    count: u64,
-}
-
-fn push(seed: u64, hash: u64, word: u64, count: u64, b: u64) -> Stream
-    requires { ⌜ (seed < 4294967296) × (count ≤ 7) × (b < 256) ⌝ }
-    ensures { λ q. ⌜ Pushed seed hash word count b q ⌝ }
-{
-    let w = word % 72057594037927936 * 256 + b;
-    if count == 7 {
-        let h = fold(seed, hash, w / 4294967296, w % 4294967296);
-        return Stream {
-            hash: h,
-            word: 0,
-            count: 0,
-        };
-    }
-    Stream {
-        hash,
-        word: w,
-        count: count + 1,
-    }
-}
-
-// Base letter and mark, three bytes.
-fn push_letter(seed: u64, hash: u64, word: u64, count: u64, fold: u64) -> Stream
-    requires { ⌜ (seed < 4294967296) × (count ≤ 7) × (fold < 65536) ⌝ }
-    ensures { λ q. ⌜ PushedLetter seed hash word count fold q ⌝ }
-{
-    let x = push(seed, hash, word, count, fold / 256);
-    let y = push(seed, x.hash, x.word, x.count, 204);
-    push(seed, y.hash, y.word, y.count, fold % 256)
-}
-
 // The hash after the character at a place, and the place past it.
 struct Taken {
-    stream: Stream,
+    hash: u64,
     at: usize,
 }
 
-fn take_letter(
-    s: &[u8],
-    at: usize,
-    end: usize,
-    seed: u64,
-    hash: u64,
-    word: u64,
-    count: u64,
-) -> Taken
-    requires { ⌜ Streams seed (now s) at end count ⌝ }
-    ensures { λ q. ⌜ TakenIn seed (now (s .entry)) at end hash word count q ⌝ }
+// Where a letter may be: base letter and mark are three bytes.
+fn take_letter(s: &[u8], at: usize, end: usize, seed: u64, hash: u64) -> Taken
+    requires { ⌜ Streams seed (now s) at end ⌝ }
+    ensures { λ q. ⌜ TakenIn seed (now (s .entry)) at end hash q ⌝ }
 {
     let fold = folding::fold_at(s, at, end);
     if fold == 0 {
-        let x = push(seed, hash, word, count, wide(s[at]));
+        let x = mix(seed, hash, wide(s[at]));
         return Taken {
-            stream: x,
+            hash: x,
             at: at + 1,
         };
     }
-    let x = push_letter(seed, hash, word, count, fold);
+    let x = mix(seed, hash, fold / 256);
+    let y = mix(seed, x, 204);
+    let z = mix(seed, y, fold % 256);
     Taken {
-        stream: x,
+        hash: z,
         at: at + 2,
     }
 }
 
-// The same. Most bytes open no letter, and this test of them is compiled into the loop.
-fn take_in(s: &[u8], at: usize, end: usize, seed: u64, hash: u64, word: u64, count: u64) -> Taken
-    requires { ⌜ Streams seed (now s) at end count ⌝ }
-    ensures { λ q. ⌜ TakenIn seed (now (s .entry)) at end hash word count q ⌝ }
+// Most bytes open no letter, and this test of them is compiled into the loop.
+fn take_in(s: &[u8], at: usize, end: usize, seed: u64, hash: u64) -> Taken
+    requires { ⌜ Streams seed (now s) at end ⌝ }
+    ensures { λ q. ⌜ TakenIn seed (now (s .entry)) at end hash q ⌝ }
 {
     if folding::opens(s[at]) {
-        return take_letter(s, at, end, seed, hash, word, count);
+        return take_letter(s, at, end, seed, hash);
     }
-    let x = push(seed, hash, word, count, wide(s[at]));
+    let x = mix(seed, hash, wide(s[at]));
     Taken {
-        stream: x,
+        hash: x,
         at: at + 1,
     }
 }
 
-// The hash of the text at p as if its letters were decomposed.
+// The hash of the text at p as if its letters were decomposed: byte by byte, since a letter moves all that come after it.
 fn hash_folded(s: &[u8], p: usize, seed: u64) -> u64
     requires { ⌜ (TextAt (now s) p) × (seed < 4294967296) ⌝ }
     ensures { λ q. ⌜ FoldedHash seed (now (s .entry)) p q ⌝ }
@@ -378,23 +336,12 @@ fn hash_folded(s: &[u8], p: usize, seed: u64) -> u64
     let end = p + 4 + n;
     let mut at = p + 4;
     let mut hash = seed;
-    let mut word: u64 = 0;
-    let mut count: u64 = 0;
     while at < end {
-        let x = take_in(s, at, end, seed, hash, word, count);
-        let y = x.stream;
-        hash = y.hash;
-        word = y.word;
-        count = y.count;
+        let x = take_in(s, at, end, seed, hash);
+        hash = x.hash;
         at = x.at;
     }
-    let h = fold(
-        seed,
-        mix(seed, hash, count),
-        word / 4294967296 % 4294967296,
-        word % 4294967296,
-    );
-    mix(seed, mix(seed, h, 0), 0)
+    mix(seed, mix(seed, hash, 0), 0)
 }
 
 fn hash_key(s: &[u8], table: Table, p: usize, seed: u64) -> u64

@@ -6,10 +6,10 @@ use Rattle.repeat_search.proofs.hash_folded.Statement.{statement}
 use Rattle.repeat_search.proofs.hash_folded.Tie as tie
 
 abbrev Inv-loop : tie.InvT-loop
-Inv-loop s p seed n end at₀ hash₀ word₀ count₀ at hash word count = Streaming seed s p end at hash word count
+Inv-loop s p seed n end at₀ hash₀ at hash = Streaming seed s p end at hash
 
 abbrev μ-loop : tie.MeasureT-loop
-μ-loop s p seed n end at₀ hash₀ word₀ count₀ at hash word count = end - at
+μ-loop s p seed n end at₀ hash₀ at hash = end - at
 
 word-at-requires : tie.Need-word-at-requires Inv-loop μ-loop
 word-at-requires c κs = search (needs, streams)
@@ -38,14 +38,8 @@ loop-again c = search (needs, streams)
 mix-requires : tie.Need-mix-requires Inv-loop μ-loop
 mix-requires c κs = search (needs, streams)
 
-fold-requires : tie.Need-fold-requires Inv-loop μ-loop
-fold-requires c κs = search (needs, streams)
-
 mix-requires-2 : tie.Need-mix-requires-2 Inv-loop μ-loop
 mix-requires-2 c κs = search (needs, streams)
-
-mix-requires-3 : tie.Need-mix-requires-3 Inv-loop μ-loop
-mix-requires-3 c κs = search (needs, streams)
 
 returns : tie.Need-returns Inv-loop μ-loop
 returns c = search (needs, streams)
@@ -54,4 +48,4 @@ pub hash-folded-spec : {M : Type 1} → statement M
 hash-folded-spec =
     tie.close
     (tie.spec Inv-loop μ-loop word-at-requires add-end add-end-2 add-at loop-holds take-in-requires loop-less
-    loop-again mix-requires fold-requires mix-requires-2 mix-requires-3 returns)
+    loop-again mix-requires mix-requires-2 returns)

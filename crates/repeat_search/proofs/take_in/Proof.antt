@@ -21,11 +21,11 @@ shared-slice-read-wide c = search needs
 wide-requires : tie.Need-wide-requires
 wide-requires c κs = search needs
 
-push-requires : tie.Need-push-requires
-push-requires c κs = search needs
+mix-requires : tie.Need-mix-requires
+mix-requires c κs = search needs
 
-add-t14 : tie.Need-add-t14
-add-t14 c = search needs
+add-t12 : tie.Need-add-t12
+add-t12 c = search needs
 
 returns-2 : tie.Need-returns-2
 returns-2 c = search (needs, streams)
@@ -34,4 +34,4 @@ pub take-in-spec : {M : Type 1} → statement M
 take-in-spec =
     tie.close
     (tie.spec shared-slice-read-opens opens-requires take-letter-requires returns shared-slice-read-wide wide-requires
-    push-requires add-t14 returns-2)
+    mix-requires add-t12 returns-2)

@@ -12,8 +12,8 @@ shared-slice-read-wide c = search needs
 wide-requires : tie.Need-wide-requires
 wide-requires c κs = search needs
 
-push-requires : tie.Need-push-requires
-push-requires c κs = search needs
+mix-requires : tie.Need-mix-requires
+mix-requires c κs = search needs
 
 add-t15 : tie.Need-add-t15
 add-t15 c = search needs
@@ -21,11 +21,17 @@ add-t15 c = search needs
 returns : tie.Need-returns
 returns c = search (needs, streams)
 
-push-letter-requires : tie.Need-push-letter-requires
-push-letter-requires c κs = search needs
+mix-requires-2 : tie.Need-mix-requires-2
+mix-requires-2 c κs = search needs
 
-add-t16 : tie.Need-add-t16
-add-t16 c = search needs
+mix-requires-3 : tie.Need-mix-requires-3
+mix-requires-3 c κs = search needs
+
+mix-requires-4 : tie.Need-mix-requires-4
+mix-requires-4 c κs = search needs
+
+add-t17 : tie.Need-add-t17
+add-t17 c = search needs
 
 returns-2 : tie.Need-returns-2
 returns-2 c = search (needs, streams)
@@ -33,5 +39,5 @@ returns-2 c = search (needs, streams)
 pub take-letter-spec : {M : Type 1} → statement M
 take-letter-spec =
     tie.close
-    (tie.spec fold-at-requires shared-slice-read-wide wide-requires push-requires add-t15 returns push-letter-requires
-    add-t16 returns-2)
+    (tie.spec fold-at-requires shared-slice-read-wide wide-requires mix-requires add-t15 returns mix-requires-2
+    mix-requires-3 mix-requires-4 add-t17 returns-2)
