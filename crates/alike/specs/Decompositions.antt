@@ -7,7 +7,7 @@ use Rattle.format.specs.Trace.{pick}
 use Rattle.format.specs.Reading.{same}
 
 -- "The letters U+00C0 to U+017F that have a canonical decomposition in UnicodeData.txt": letter, base letter, mark, as
--- in the Unicode Character Database 14.0.0; canonical decompositions are the same in every later version. A
+-- in the Unicode Character Database 15.0.0; canonical decompositions are the same in every later version. A
 -- decomposition that opens with a tag, as that of U+0149, is none.
 unfoldable pub decompositions : List (ℕ × ℕ × ℕ)
 decompositions =

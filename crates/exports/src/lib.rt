@@ -32,7 +32,7 @@ pub extern "C" fn vob_alike_names(pack: &[u8]) -> VobAnswer
     c_answers::shown_alike(pack::alike_names(pack))
 }
 
-// The size numbered i in the table of sizes, from 1 to 32; 0 where there is none.
+// The size numbered i in the table of sizes, from 1 to 33; 0 where there is none.
 #[no_mangle]
 pub extern "C" fn vob_charge_size(index: u64) -> u64
     ensures { λ q. ⌜ q ≡ sizeOf settings index ⌝ }
