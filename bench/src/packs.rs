@@ -487,13 +487,14 @@ fn same_hash(factors: [u64; 2], hash: u64) -> ([[u64; 2]; 4], u64) {
     unreachable!("some blocks meet")
 }
 
-/// How names of one hash end: in sixteen bytes, or in letters that are these sixteen when they are decomposed.
+/// How names of one hash, the one of reading, end: in sixteen bytes, or in letters that are these sixteen when they are decomposed.
 pub const PLAIN: &str = "all end the same";
 pub const DECOMPOSED: &str = "each end alike\u{301}";
 pub const COMPOSED: &str = "each end alik\u{e9}";
 
-/// Names that differ and all have, when they are decomposed, 208 bytes and the same hash under the first seed: one of four blocks at each of six
-/// places in two lanes, and then an end by the name's number.
+/// Names that differ and all have, when they are decomposed, 208 bytes and, as reading hashes bytes, the same hash under the first seed: one of four
+/// blocks at each of six places in two lanes, and then an end by the name's number. Folded names are hashed in another way, under which these are not known
+/// to collide.
 pub fn one_hash(n: usize, end: impl Fn(usize) -> &'static str) -> impl ExactSizeIterator<Item = Vec<u8>> {
     const LENGTH: u64 = 208;
     let lanes = FACTORS.map(|factors| {
@@ -528,18 +529,18 @@ pub fn colliding(n: usize) -> Vec<u8> {
     in_table(Table::Fields, one_hash(n, |_| PLAIN))
 }
 
-/// Names of one hash as they stand, but for the first, which is of that hash when it is decomposed: so the names collide in a reading and in
-/// the search for names that print alike.
+/// Names of one hash as they stand, but for the first, which is of that hash when it is decomposed: they collide in a reading, and the table has a
+/// letter to decompose.
 pub fn colliding_decomposed(n: usize) -> Vec<u8> {
     in_table(Table::Fields, one_hash(n, |i| if i == 0 { COMPOSED } else { DECOMPOSED }))
 }
 
-/// Names of one hash when they are decomposed, which no reading does.
+/// Names whose bytes are of one hash when they are decomposed, which no reading does: long names that are all accented.
 pub fn colliding_composed(n: usize) -> Vec<u8> {
     in_table(Table::Fields, one_hash(n, |_| COMPOSED))
 }
 
-/// Names that differ, have sixteen bytes when they are decomposed and are then all of the first classes of hashes under the first seed, where
+/// Names that differ, have sixteen bytes when they are decomposed and are then, by reading's hash, all of the first classes under the first seed, where
 /// names that are evenly spread have one in 21: the search for repeats looks at all of them at once. They end in a letter, of which the
 /// decomposed form is given too.
 pub fn one_class(n: usize, end: &'static str, decomposed: &'static str) -> impl ExactSizeIterator<Item = Vec<u8>> {
