@@ -29,11 +29,16 @@ module _ {t u : Table} (e : t ≡ u) {s : List ℕ} where
   pub placed-in : {p : ℕ} → Placed (formatIn t) s p → Placed (formatIn u) s p
   placed-in h = rw e at h
 
-  pub past-in : {p q : ℕ} → Past (formatIn u) s p q → Past (formatIn t) s p q
-  past-in h = rw e h
-
   pub placed-both : {a b : ℕ} → TwoPlaced (formatIn t) s a b → TwoPlaced (formatIn u) s a b
   placed-both h = rw e at h
+
+-- what its items are
+module _ (t : Table) {i : Item} (e : i ≡ itemOf t) {s : List ℕ} {p : ℕ} where
+  pub item-placed : Placed (formatIn t) s p → Placed (formatOf i) s p
+  item-placed h = rw e h
+
+  pub item-past : {q : ℕ} → Past (formatOf i) s p q → Past (formatIn t) s p q
+  item-past h = rw e at h
 
 pub both-texts : (t : Table) {s : List ℕ} {a b : ℕ} → TwoPlaced (formatIn t) s a b → TextAt s a × TextAt s b
 both-texts t h = (item-name (itemOf t) (h .fore), item-name (itemOf t) (h .back))

@@ -2,12 +2,13 @@
 // have the same key.
 // Ports the comparisons behind the maps and sets of serialize.rs. There is no heap: names are compared where they
 // stand.
+ghost use mathlib.Core.Path.{_≡_};
 ghost use Prim.Native.Nat.{_+_, _≤_, _<_};
 ghost use lib.ListN.{length};
 ghost use Rattle.vob24.specs.Leaves.{str, optional};
 ghost use Rattle.vob24.specs.Grammar.{runtimeField};
 ghost use Rattle.in_place.specs.Items.{formatOf};
-ghost use Rattle.in_place.specs.Tables.{formatIn};
+ghost use Rattle.in_place.specs.Tables.{itemOf, formatIn};
 ghost use Rattle.in_place.specs.Contract.{TextAt, WordIs, EndIs, SameBytes, SameText, SameFolded, SameName, BlankIs, Placed, Past, PackageIs, After, TwoPlaced, SamePackage, SameKey, Seen};
 
 // The items that have a name; it is the first field of each.
@@ -134,16 +135,23 @@ pub fn past(s: &[u8], item: Item, p: usize) -> usize
     }
 }
 
+// What the items of a table are.
+fn item_of(table: Table) -> Item
+    ensures { λ q. ⌜ q ≡ itemOf table ⌝ }
+{
+    match table {
+        Table::Fields => Item::StructField,
+        Table::Methods(item) => item,
+        Table::Identities => Item::RuntimeField,
+        Table::Alike(item) => item,
+    }
+}
+
 pub fn past_item(s: &[u8], table: Table, p: usize) -> usize
     requires { ⌜ Placed (formatIn table) (now s) p ⌝ }
     ensures { λ q. ⌜ Past (formatIn table) (now (s .entry)) p q ⌝ }
 {
-    match table {
-        Table::Fields => past(s, Item::StructField, p),
-        Table::Methods(item) => past(s, item, p),
-        Table::Identities => past(s, Item::RuntimeField, p),
-        Table::Alike(item) => past(s, item, p),
-    }
+    past(s, item_of(table), p)
 }
 
 // ---- keys

@@ -2,11 +2,12 @@
 use Prim.Native.Nat.{ℕ, suc, zero, _+_, _-_, _*_, _%_, _^_, _≤_, _<_}
 use mathlib.Core.Path.{_≡_, refl, ap, sym, _∙_}
 use mathlib.Core.List.{List, [], _∷_}
-use mathlib.Core.Bool.{Bool, true, false}
+use mathlib.Core.Bool.{Bool, true, false, not}
 use native.Mathlib.Omega.{arith}
 use lib.ListN.{length, getD}
 use lib.Bits.{bitAnd, bitOr}
 use borrow.Author.Count.{below-more}
+use borrow.Author.Tests.{not-false}
 use Rattle.format.specs.Reading.{little, part}
 use Rattle.in_place.specs.declared.Item.{Item}
 use Rattle.in_place.specs.declared.Table.{Table}
@@ -16,7 +17,7 @@ use Rattle.in_place.specs.Contract.{TextAt, WordIs, Past, Items}
 use Rattle.in_place.proofs.Texts.{piece, text-part, text-length}
 use Rattle.in_place.proofs.Walking.{Walking, walking-start, walking-next}
 use Rattle.repeat_search.specs.Keys.{Key, repeatAt, FirstRepeat}
-use Rattle.repeat_search.specs.Tables.{keysAt, markIn, TextMark, MarkIs, FoldedHash, Standing}
+use Rattle.repeat_search.specs.Tables.{asRead, keysAt, markIn, TextMark, MarkIs, FoldedHash, Standing}
 use Rattle.repeat_search.specs.Marks.{bit, markOf, streamedMark, Marked, AllNew}
 use Rattle.repeat_search.proofs.Bits.{bits-stay, bits-set}
 use Rattle.repeat_search.proofs.Keys.{repeat-none}
@@ -25,7 +26,7 @@ use Rattle.repeat_search.proofs.Hashes.{byte-in}
 
 -- ---- a text's mark
 
-word-bytes : (s : List ℕ) (p : ℕ) → p + 4 ≤ length s
+pub word-bytes : (s : List ℕ) (p : ℕ) → p + 4 ≤ length s
     → part s p 4 ≡ getD s p 0 ∷ getD s (p + 1) 0 ∷ getD s (p + 1 + 1) 0 ∷ getD s (p + 1 + 1 + 1) 0 ∷ []
 word-bytes s p f = rw (piece s p 4 (omega arith) f, piece s (p + 1) 3 (omega arith) (omega arith), piece s (p + 1 + 1) 2 (omega arith) (omega arith), piece s (p + 1 + 1 + 1) 1 (omega arith) (omega arith))
 
@@ -62,6 +63,13 @@ module _ {t : Table} {s : List ℕ} {p q : ℕ} where
   mark-alike e w i = rw e (record { is = i ∙ rw (w .is) })
 
 pub ruleset marking = (text-mark, mark-field, mark-method, mark-identity, mark-alike)
+
+-- a table whose names are compared as they stand
+as-read : (t : Table) {s : List ℕ} {p q : ℕ} → asRead t ≡ true → TextMark s p q → MarkIs t s p q
+as-read Fields e w = mark-field refl w
+as-read (Methods i) e w = mark-method refl w
+as-read Identities e w = mark-identity refl w
+as-read (Alike i) e w = let z : _≡_ {A = ℕ} 0 1 = cc in absurd (omega arith)
 
 -- ---- the marks of the keys before
 module _ {t : Table} {s : List ℕ} {from i p m q : ℕ} (w : Standing t s from i p) (l : Marked (markIn t) (keysAt t s from) i m) (e : MarkIs t s p q) where
@@ -105,9 +113,14 @@ module _ {t : Table} {s : List ℕ} {from n : ℕ} where
             record { walk = walking-next h (l .walk) w; marked = marked-more (walking-stands h (l .walk)) (l .marked) g; new = below-more _ i (l .new) (sym e ∙ r) }
 
       -- an item whose mark is new
-      pub scanning-new : {q z : ℕ} → MarkIs t s p q → (bitAnd m q ≡ q → ⊥) → Past (formatIn t) s p z
+      scanning-new : {q z : ℕ} → MarkIs t s p q → (bitAnd m q ≡ q → ⊥) → Past (formatIn t) s p z
           → Scanning t s from n z (i + 1) (bitOr m q)
       scanning-new e d w = scanning-more (mark-new (walking-stands h (l .walk)) (l .marked) e d) refl e w
+
+      -- by the text's own mark
+      pub scanning-read : {q z : ℕ} {b : Bool} → b ≡ asRead t → not b ≡ false → TextMark s p q → (bitAnd m q ≡ q → ⊥)
+          → Past (formatIn t) s p z → Scanning t s from n z (i + 1) (bitOr m q)
+      scanning-read r o e = scanning-new (as-read t (sym r ∙ not-false _ o) e)
 
     pub all-new : n ≤ i → AllNew (keysAt t s from) n true
     all-new h = record { first = λ _. scanning-done h }
@@ -115,4 +128,4 @@ module _ {t : Table} {s : List ℕ} {from n : ℕ} where
 pub not-new : {keys : ℕ → Key} {n : ℕ} → AllNew keys n false
 not-new = record { first = λ e. let z : _≡_ {A = ℕ} 0 1 = cc in absurd (omega arith) }
 
-pub ruleset scanning = (scanning-start, scanning-done, scanning-text, scanning-asks, scanning-found, scanning-more, scanning-new, all-new, not-new)
+pub ruleset scanning = (scanning-start, scanning-done, scanning-text, scanning-asks, scanning-found, scanning-more, all-new, not-new)

@@ -2,6 +2,7 @@
 use Prim.Native.Nat.{ℕ, suc, zero, _+_, _-_, _*_, _/_, _%_, _≤_, _<_}
 use mathlib.Core.Path.{_≡_}
 use mathlib.Core.List.{List, [], _∷_}
+use mathlib.Core.Bool.{Bool, true, false}
 use lib.ListN.{length, getD}
 use lib.Bits.{bitXor}
 use lib.Dec.{eqb, ltb}
@@ -61,6 +62,23 @@ plainHash seed x y = ended seed (textHash seed (textHash seed 0 y) x)
 -- of a name whose bytes come one by one, with no package
 unfoldable pub streamedHash : ℕ → List ℕ → List ℕ → ℕ
 streamedHash seed x y = ended seed (streamHash seed seed x)
+
+-- The last four bytes of a name where they are ASCII, else 0: k bytes since the last that is not, in the word w. Folding
+-- leaves them as they are, so that a name has them before and after.
+unfoldable pub tailFrom : ℕ → ℕ → List ℕ → ℕ
+tailFrom k w [] = pick (ltb k 4) 0 w
+tailFrom k w (b ∷ bs) = pick (ltb b 128) (tailFrom (k + 1) (w / 256 + 16777216 * b) bs) (tailFrom 0 0 bs)
+
+abbrev pub tailOf : List ℕ → ℕ
+tailOf = tailFrom 0 0
+
+unfoldable pub tailHash : ℕ → List ℕ → ℕ
+tailHash seed x = ended seed (tailOf x)
+
+-- whether all bytes are ASCII
+unfoldable pub lows : List ℕ → Bool
+lows [] = true
+lows (b ∷ bs) = pick (ltb b 128) (lows bs) false
 
 -- ---- of bytes in a row: what the code asks and tells
 

@@ -28,6 +28,10 @@ repeatAt keys i = pick (keys i .exempt) false (among (keys i) i keys)
 abbrev pub hashOf : (List ℕ → List ℕ → ℕ) → Key → ℕ
 hashOf hash x = hash (x .name) (x .packageName)
 
+-- and whether it is of a kind, by them
+abbrev pub kindOf : (List ℕ → List ℕ → Type 0) → Key → Type 0
+kindOf Kind x = Kind (x .name) (x .packageName)
+
 -- q is the first of n keys that repeats one before it, or n.
 pub record FirstRepeat (keys : ℕ → Key) (n q : ℕ) : Type 0 where
   pub within : q ≤ n

@@ -1,7 +1,7 @@
 -- The keys of a table's items, where they stand in a pack.
 use Prim.Native.Nat.{ℕ, _≤_, _<_}
 use mathlib.Core.List.{List, [], _∷_, map}
-use mathlib.Core.Bool.{Bool, false}
+use mathlib.Core.Bool.{Bool, true, false}
 use mathlib.Core.Path.{_≡_}
 use lib.ListN.{length}
 use Rattle.format.specs.Trace.{pick}
@@ -19,7 +19,7 @@ use Rattle.in_place.specs.Tables.{itemOf, formatIn, packageOf, keyName, keyOf, 
 use Rattle.in_place.specs.Contract.{After}
 use Rattle.repeat_search.specs.Keys.{Key, hashOf}
 use Rattle.repeat_search.specs.Marks.{markOf, streamedMark}
-use Rattle.repeat_search.specs.Hashes.{textHash, ended, plainHash, streamedHash}
+use Rattle.repeat_search.specs.Hashes.{tailOf, textHash, ended, plainHash, streamedHash}
 
 -- among the struct fields of names alike
 abbrev exemptItem : Item → List ℕ → Bool
@@ -65,6 +65,13 @@ markIn (Methods i) = markOf
 markIn Identities = markOf
 markIn (Alike i) = streamedMark
 
+-- whether names are compared as they stand
+abbrev pub asRead : Table → Bool
+asRead Fields = true
+asRead (Methods i) = true
+asRead Identities = true
+asRead (Alike i) = false
+
 -- ---- what the code tells of the item at p
 
 pub record ExemptIs (t : Table) (s : List ℕ) (p : ℕ) (q : Bool) : Type 0 where
@@ -76,6 +83,11 @@ pub record TextMark (s : List ℕ) (p q : ℕ) : Type 0 where
 
 pub record MarkIs (t : Table) (s : List ℕ) (p q : ℕ) : Type 0 where
   pub is : q ≡ markIn t (keyText t s p)
+
+-- its last bytes
+pub record TextTail (s : List ℕ) (p q : ℕ) : Type 0 where
+  pub is : q ≡ tailOf (textAt s p)
+  pub small : q < 4294967296
 
 -- the hash of the text at p, as a key's after that of a package, and folded
 pub record TextHash (seed h : ℕ) (s : List ℕ) (p q : ℕ) : Type 0 where

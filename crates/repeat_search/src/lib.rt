@@ -6,13 +6,13 @@ ghost use Prim.Native.Nat.{_+_, _≤_, _<_};
 ghost use lib.ListN.{length};
 ghost use Rattle.format.specs.Reading.{part};
 ghost use Rattle.vob24.specs.Grammar.{runtimeField};
-ghost use Rattle.in_place.specs.Items.{formatOf};
+ghost use Rattle.in_place.specs.Items.{formatOf, textAt};
 ghost use Rattle.in_place.specs.Tables.{formatIn};
 ghost use Rattle.repeat_search.specs.Keys.{repeatAt, FirstRepeat};
 ghost use Rattle.repeat_search.specs.Marks.{Marked, AllNew};
-ghost use Rattle.repeat_search.specs.Hashes.{mixed, folded, secondSeed, PartAt, JoinIs, HashIs, Streams, TakenIn};
-ghost use Rattle.repeat_search.specs.Filters.{maskOf, Lacks, Entered, Outside, Classed, Chosen, Noted, Filter, Probed, PassedOr, Suspects, FirstOr};
-ghost use Rattle.repeat_search.specs.Tables.{keysAt, keyHash, markIn, ExemptIs, TextMark, MarkIs, TextHash, EndedHash, FoldedHash, PackageHash, KeyHash, Standing, Within};
+ghost use Rattle.repeat_search.specs.Hashes.{mixed, folded, secondSeed, tailHash, lows, PartAt, JoinIs, HashIs, Streams, TakenIn};
+ghost use Rattle.repeat_search.specs.Filters.{maskOf, Lacks, Entered, Outside, ClassedBy, Chosen, Noted, Filter, Probed, PassedOr, Suspects, FirstOr};
+ghost use Rattle.repeat_search.specs.Tables.{asRead, keysAt, keyHash, markIn, ExemptIs, TextMark, MarkIs, TextHash, TextTail, EndedHash, FoldedHash, PackageHash, KeyHash, Standing, Within};
 ghost use Rattle.in_place.specs.Contract.{TextAt, Placed, Items};
 use in_place::Item;
 use in_place::Table;
@@ -116,16 +116,32 @@ fn repeats_one(s: &[u8], table: Table, from: usize, i: usize, p: usize, marks: u
     in_place::seen(s, table, from, i, p)
 }
 
-// Have the n items from `from` on different marks? True for most small tables.
+// Are the names of a table compared as they stand?
+fn as_read(table: Table) -> bool
+    ensures { λ q. ⌜ q ≡ asRead table ⌝ }
+{
+    match table {
+        Table::Fields => true,
+        Table::Methods(_) => true,
+        Table::Identities => true,
+        Table::Alike(_) => false,
+    }
+}
+
+// Have the names of the n items from `from` on different marks, as they stand? True for most small tables. Not asked
+// where names are folded: a mark is then a hash, and `scan` takes it as well.
 fn all_new(s: &[u8], table: Table, from: usize, n: usize) -> bool
     requires { ⌜ Items (formatIn table) n (now s) from ⌝ }
     ensures { λ q. ⌜ AllNew (keysAt table (now (s .entry)) from) n q ⌝ }
 {
+    if !as_read(table) {
+        return false;
+    }
     let mut p = from;
     let mut i = 0;
     let mut marks: u64 = 0;
     while i < n {
-        let m = mark(s, table, p);
+        let m = mark_text(s, p);
         let x = marks & m;
         if x == m {
             return false;
@@ -405,6 +421,61 @@ fn outside(h: u64, lo: u64, hi: u64) -> bool
     hi <= class
 }
 
+// ---- the last bytes of a name: read without a hash of all of it, they tell most items from all suspects
+
+// Are the four bytes at p ASCII?
+fn ascii(s: &[u8], p: usize) -> bool
+    requires { ⌜ p + 4 ≤ length (now s) ⌝ }
+    ensures { λ q. ⌜ q ≡ lows (part (now (s .entry)) p 4) ⌝ }
+{
+    if 127 < s[p] {
+        return false;
+    }
+    if 127 < s[p + 1] {
+        return false;
+    }
+    if 127 < s[p + 2] {
+        return false;
+    }
+    s[p + 3] < 128
+}
+
+// The last four bytes of the text at p, where they are ASCII, so that folding leaves them; else 0.
+fn tail(s: &[u8], p: usize) -> u64
+    requires { ⌜ TextAt (now s) p ⌝ }
+    ensures { λ q. ⌜ TextTail (now (s .entry)) p q ⌝ }
+{
+    let n = in_place::word_at(s, p);
+    if n < 4 {
+        return 0;
+    }
+    let at = p + n;
+    if ascii(s, at) {
+        let w = in_place::word_at(s, at);
+        return w as u64;
+    }
+    0
+}
+
+fn hash_tail(s: &[u8], p: usize, seed: u64) -> u64
+    requires { ⌜ (TextAt (now s) p) × (seed < 4294967296) ⌝ }
+    ensures { λ q. ⌜ q ≡ tailHash seed (textAt (now (s .entry)) p) ⌝ }
+{
+    let x = tail(s, p);
+    mix(seed, mix(seed, x, 0), 0)
+}
+
+// Has no suspect the last bytes of the text at p? Not asked where every item is a suspect, which one word stands for.
+fn skips(s: &[u8], p: usize, seed: u64, suspects: &[u64]) -> bool
+    requires { ⌜ (TextAt (now s) p) × (seed < 4294967296) × (0 < length (now suspects)) ⌝ }
+    ensures { λ q. ⌜ Lacks (now (suspects .entry)) (tailHash seed (textAt (now (s .entry)) p)) q ⌝ }
+{
+    if suspects.len() == 1 {
+        return false;
+    }
+    lacks(suspects, hash_tail(s, p, seed))
+}
+
 // ---- a pass over the items
 
 // Does the item at p repeat one of the i before it? Considers only suspects of class lo to hi. `left`: how many
@@ -423,11 +494,14 @@ fn probed(
     suspects: &[u64],
 ) -> Probe
     requires { ⌜ (Standing table (now s) from i p)
-        × (Filter (Chosen lo hi (now suspects)) (keyHash table seed) (keysAt table (now s) from) i (now filter)) × (seed < 4294967296)
-        × (0 < length (now suspects)) ⌝ }
-    ensures { λ q. ⌜ Probed (Chosen lo hi (now (suspects .entry))) (keyHash table seed) (keysAt table (now (s .entry)) from) i
-        (now (filter .exit)) q ⌝ }
+        × (Filter (Chosen lo hi (keyHash table seed) (tailHash seed) (now suspects)) (keyHash table seed) (keysAt table (now s) from) i (now filter))
+        × (seed < 4294967296) × (0 < length (now suspects)) ⌝ }
+    ensures { λ q. ⌜ Probed (Chosen lo hi (keyHash table seed) (tailHash seed) (now (suspects .entry))) (keyHash table seed)
+        (keysAt table (now (s .entry)) from) i (now (filter .exit)) q ⌝ }
 {
+    if skips(s, p, seed, suspects) {
+        return Probe::Next(left);
+    }
     let h = hash_key(s, table, p, seed);
     if outside(h, lo, hi) {
         return Probe::Next(left);
@@ -464,7 +538,8 @@ fn pass(
 ) -> Outcome
     requires { ⌜ (Items (formatIn table) n (now s) from) × (0 < length (now filter)) × (seed < 4294967296)
         × (0 < length (now suspects)) ⌝ }
-    ensures { λ q. ⌜ PassedOr (Chosen lo hi (now (suspects .entry))) (keyHash table seed) (keysAt table (now (s .entry)) from) n q ⌝ }
+    ensures { λ q. ⌜ PassedOr (Chosen lo hi (keyHash table seed) (tailHash seed) (now (suspects .entry)))
+        (keysAt table (now (s .entry)) from) n q ⌝ }
 {
     let mut left: usize = 32;
     let mut p = from;
@@ -487,11 +562,21 @@ fn pass(
     Outcome::First(n)
 }
 
-// Enters h, if it is of these classes, and among the suspects too if its bits were in the filter before.
-fn note(h: u64, lo: u64, hi: u64, filter: &mut [u64], suspects: &mut [u64])
-    requires { ⌜ (0 < length (now filter)) × (0 < length (now suspects)) ⌝ }
-    ensures { λ q. ⌜ Noted lo hi h (now (filter .entry)) (now (filter .exit)) (now (suspects .entry))
-        (now (suspects .exit)) ⌝ }
+// Enters h, the hash of the item at p, if it is of these classes, and among the suspects, with the hash of the name's last
+// bytes, if its bits were in the filter before.
+fn note(
+    s: &[u8],
+    p: usize,
+    seed: u64,
+    h: u64,
+    lo: u64,
+    hi: u64,
+    filter: &mut [u64],
+    suspects: &mut [u64],
+)
+    requires { ⌜ (TextAt (now s) p) × (seed < 4294967296) × (0 < length (now filter)) × (0 < length (now suspects)) ⌝ }
+    ensures { λ q. ⌜ Noted lo hi h (tailHash seed (textAt (now (s .entry)) p)) (now (filter .entry)) (now (filter .exit))
+        (now (suspects .entry)) (now (suspects .exit)) ⌝ }
 {
     if outside(h, lo, hi) {
         return;
@@ -500,6 +585,7 @@ fn note(h: u64, lo: u64, hi: u64, filter: &mut [u64], suspects: &mut [u64])
         return;
     }
     enter(suspects, h);
+    enter(suspects, hash_tail(s, p, seed));
 }
 
 // Finds the suspects among the n items of these classes, by a filter and a set of suspects that are empty yet.
@@ -516,13 +602,14 @@ fn suspect(
 )
     requires { ⌜ (Items (formatIn table) n (now s) from) × (0 < length (now filter)) × (seed < 4294967296)
         × (0 < length (now suspects)) ⌝ }
-    ensures { λ q. ⌜ Suspects lo hi (keyHash table seed) (keysAt table (now (s .entry)) from) n (now (suspects .exit)) ⌝ }
+    ensures { λ q. ⌜ Suspects lo hi (keyHash table seed) (tailHash seed) (keysAt table (now (s .entry)) from) n
+        (now (suspects .exit)) ⌝ }
 {
     let mut p = from;
     let mut i = 0;
     while i < n {
         let h = hash_key(s, table, p, seed);
-        note(h, lo, hi, filter, suspects);
+        note(s, p, seed, h, lo, hi, filter, suspects);
         p = in_place::past_item(s, table, p);
         i += 1;
     }
@@ -561,7 +648,7 @@ fn middle(s: &[u8], table: Table, from: usize, n: usize, seed: u64) -> Outcome
 // compares them. A filter that the second alone could rest on has room for an eighth of the items.
 fn two_passes(s: &[u8], table: Table, from: usize, n: usize, lo: u64, hi: u64, seed: u64) -> Outcome
     requires { ⌜ (Items (formatIn table) n (now s) from) × (seed < 4294967296) ⌝ }
-    ensures { λ q. ⌜ PassedOr (Classed lo hi) (keyHash table seed) (keysAt table (now (s .entry)) from) n q ⌝ }
+    ensures { λ q. ⌜ PassedOr (ClassedBy lo hi (keyHash table seed)) (keysAt table (now (s .entry)) from) n q ⌝ }
 {
     let mut filter = [0u64; 16384];
     let mut suspects = [0u64; 2048];

@@ -1,6 +1,6 @@
 use borrow.Author.Needs.{needs}
 use Rattle.repeat_search.proofs.Filters.{firsts, firsts-start}
-use Rattle.repeat_search.specs.Filters.{Classed, Passed}
+use Rattle.repeat_search.specs.Filters.{ClassedBy, Passed}
 use Prim.Native.Nat.{_+_, _/_, _-_, _≤_, _<_}
 use native.Mathlib.Nat.{div-le-self}
 use native.Mathlib.Omega.{arith}
@@ -10,7 +10,7 @@ use Rattle.repeat_search.proofs.many.Statement.{statement}
 use Rattle.repeat_search.proofs.many.Tie as tie
 
 abbrev Inv-loop : tie.InvT-loop
-Inv-loop s table from n seed parts classes first₀ lo₀ first lo = (Passed (Classed 0 lo) (keyHash table seed) (keysAt table s from) n first) × (0 < classes) × (classes ≤ 65537)
+Inv-loop s table from n seed parts classes first₀ lo₀ first lo = (Passed (ClassedBy 0 lo (keyHash table seed)) (keysAt table s from) n first) × (0 < classes) × (classes ≤ 65537)
 
 abbrev μ-loop : tie.MeasureT-loop
 μ-loop s table from n seed parts classes first₀ lo₀ first lo = 65536 - lo

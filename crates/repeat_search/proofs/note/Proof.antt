@@ -21,6 +21,12 @@ returns-2 c = search (needs, noting)
 enter-requires-2 : tie.Need-enter-requires-2
 enter-requires-2 c κs = search needs
 
+hash-tail-requires : tie.Need-hash-tail-requires
+hash-tail-requires c κs = search needs
+
+enter-requires-3 : tie.Need-enter-requires-3
+enter-requires-3 c κs = search needs
+
 same-length-2 : tie.Need-same-length-2
 same-length-2 c = search needs
 
@@ -28,10 +34,10 @@ same-length-3 : tie.Need-same-length-3
 same-length-3 c = search needs
 
 returns-3 : tie.Need-returns-3
-returns-3 c = search needs
+returns-3 c = search (needs, noting)
 
 pub note-spec : {M : Type 1} → statement M
 note-spec =
     tie.close
-    (tie.spec outside-requires returns enter-requires same-length returns-2 enter-requires-2 same-length-2
-    same-length-3 returns-3)
+    (tie.spec outside-requires returns enter-requires same-length returns-2 enter-requires-2 hash-tail-requires
+    enter-requires-3 same-length-2 same-length-3 returns-3)

@@ -1,3 +1,4 @@
+use Rattle.repeat_search.specs.Hashes.{tailHash}
 use Rattle.repeat_search.specs.Tables.{keyHash}
 use borrow.Author.Needs.{needs}
 use Rattle.repeat_search.proofs.Filters.{passing, passing-more, Passing}
@@ -10,7 +11,7 @@ use Rattle.repeat_search.proofs.pass.Statement.{statement}
 use Rattle.repeat_search.proofs.pass.Tie as tie
 
 abbrev Inv-loop : tie.InvT-loop
-Inv-loop s table from n lo hi seed filter₀ suspects left₀ p₀ i₀ filter left p i = Passing (Chosen lo hi suspects) (keyHash table seed) table s from n filter p i × (length filter ≡ length filter₀)
+Inv-loop s table from n lo hi seed filter₀ suspects left₀ p₀ i₀ filter left p i = Passing (Chosen lo hi (keyHash table seed) (tailHash seed) suspects) (keyHash table seed) table s from n filter p i × (length filter ≡ length filter₀)
 
 abbrev μ-loop : tie.MeasureT-loop
 μ-loop s table from n lo hi seed filter₀ suspects left₀ p₀ i₀ filter left p i = n - i
