@@ -37,7 +37,7 @@ fn after_functions(s: &[u8], set: &Settings, r: Step, functions: u64, tape: &mut
     ensures { λ q. ⌜ Reader (fromSection (settingsOf (now (set .entry))) functions vob.externs) (now (s .entry)) r
         (now (tape .entry)) q (now (tape .exit)) ⌝ }
 {
-    let r1 = small_sections::externs(s, set, r, tape);
+    let r1 = externs::externs(s, set, r, tape);
     let r2 = small_sections::entry(s, r1, tape);
     let r3 = small_sections::island_init(s, r2, tape);
     artifacts_on(s, set, r3, functions, tape)
@@ -136,7 +136,7 @@ pub fn section(
         Section::Constants => constants::constants(s, set, r, tape),
         Section::Globals => small_sections::globals(s, set, r, tape),
         Section::Functions => functions::functions(s, set, r, tape),
-        Section::Externs => small_sections::externs(s, set, r, tape),
+        Section::Externs => externs::externs(s, set, r, tape),
         Section::Entry => small_sections::entry(s, r, tape),
         Section::IslandInit => small_sections::island_init(s, r, tape),
         Section::Artifacts => small_sections::artifacts(s, set, r, tape),

@@ -4,8 +4,7 @@ use Rattle.vob24.specs.Settings as of
 use Rattle.vob24.specs.Settings.{Settings}
 use Rattle.vob24.specs.Leaves.{u16, u32, optional}
 use Rattle.vob24.specs.Grammar as vob
-use Rattle.vob24.specs.Questions.{noHostCalls}
-use Rattle.fields.specs.Fields.{listCount, artifactCount}
+use Rattle.fields.specs.Fields.{artifactCount}
 
 abbrev pub itabMethods : Settings → Format
 itabMethods set = vob.list set of.U32 u32
@@ -33,9 +32,6 @@ globalFormat set = vob.global set
 
 abbrev pub globalList : Settings → Format
 globalList set = vob.list set of.GlobalDef (vob.global set)
-
-abbrev pub externList : Settings → Format
-externList set = seq (listCount set of.ExternDef) (λ n. vob.asking (noHostCalls (number n)))
 
 abbrev pub artifactFormat : Settings → Format
 artifactFormat set = vob.artifact set

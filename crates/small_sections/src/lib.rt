@@ -1,12 +1,11 @@
-// The tables of a module and its single ids: itabs, well-known ids, globals, externs, entry, island init, artifacts.
+// The tables of a module and its single ids: itabs, well-known ids, globals, entry, island init, artifacts.
 // Ports what Module::deserialize of serialize.rs reads into the records of bytecode.rs.
 ghost use Rattle.vob24.specs.Settings.{settingsOf};
 ghost use Rattle.vob24.specs.Leaves.{u32};
 ghost use Rattle.reader.specs.Contract.{Ready, Reader};
-ghost use Rattle.small_sections.specs.Tables.{itabMethods, itabFormat, itabList, fieldOffsets, errorFormat, objectFormat, wellKnown, globalFormat, globalList, externList, artifactFormat, artifactList};
+ghost use Rattle.small_sections.specs.Tables.{itabMethods, itabFormat, itabList, fieldOffsets, errorFormat, objectFormat, wellKnown, globalFormat, globalList, artifactFormat, artifactList};
 use reader::Number;
 use reader::Step;
-use reader::numbers;
 use reader::sizes;
 use vob24_data::Settings;
 
@@ -110,7 +109,7 @@ pub fn well_known(s: &[u8], r: Step, tape: &mut [u32]) -> Step
     object_interfaces(s, errors, tape)
 }
 
-// ---- globals, externs and single ids
+// ---- globals and single ids
 
 fn global(s: &[u8], set: &Settings, r: Step, tape: &mut [u32]) -> Step
     requires { ⌜ Ready (now s) r ⌝ }
@@ -146,25 +145,6 @@ pub fn globals(s: &[u8], set: &Settings, r: Step, tape: &mut [u32]) -> Step
         k -= 1;
     }
     here
-}
-
-// There is no extern: a pack that calls its host is refused, once its count is held against the bytes left and charged.
-pub fn externs(s: &[u8], set: &Settings, r: Step, tape: &mut [u32]) -> Step
-    requires { ⌜ Ready (now s) r ⌝ }
-    ensures { λ q. ⌜ Reader (externList (settingsOf (now (set .entry)))) (now (s .entry)) r (now (tape .entry)) q
-        (now (tape .exit)) ⌝ }
-{
-    let Step::Taken(c) = r else {
-        return r;
-    };
-    let q = fields::number_count(s, set, c, sizes::EXTERN_DEF, tape);
-    let Number::Got(n, d) = q else {
-        return reader::step_of(q);
-    };
-    if n != 0 {
-        return Step::Refused(reader::refuse(d, numbers::HOST_CALLS, n));
-    }
-    Step::Taken(d)
 }
 
 pub fn entry(s: &[u8], r: Step, tape: &mut [u32]) -> Step

@@ -1,8 +1,8 @@
 use Rattle.reader.proofs.Reading.{reading}
-use Rattle.small_sections.proofs.Laws.{externs-none, externs-some}
+use Rattle.externs.proofs.Laws.{externs-none, externs-some}
 use borrow.Author.Needs.{needs}
-use Rattle.small_sections.proofs.externs.Statement.{statement}
-use Rattle.small_sections.proofs.externs.Tie as tie
+use Rattle.externs.proofs.externs.Statement.{statement}
+use Rattle.externs.proofs.externs.Tie as tie
 
 enum-known-r : tie.Need-enum-known-r
 enum-known-r c = search needs
