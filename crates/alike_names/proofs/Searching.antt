@@ -20,9 +20,11 @@ use Rattle.vob24.specs.Grammar.{structField, interfaceMethod, runtimeMethod, me
 use Rattle.alike.specs.Decompositions.{alike}
 use Rattle.alike.specs.Alike.{Names, none, pair, orElse, nearest, pairAfter, pairIn, shown}
 use Rattle.alike.specs.Alike as alike
+use Rattle.alike_theorems.specs.Folds.{same-agree}
 use Rattle.alike_theorems.specs.FoldedBytes.{alike-bytes}
 use Rattle.alike_theorems.specs.NewNames.{AllNew, done, also}
-use Rattle.folding.specs.Bytes.{foldOf, foldBytes}
+use Rattle.folding.specs.Bytes.{foldOf, foldBytes, Without}
+use Rattle.folding.specs.FoldLaws.{fold-plain}
 use Rattle.folding.specs.Contract as folding
 use Rattle.in_place.specs.declared.Item.{Item}
 use Rattle.in_place.specs.declared.Item.the-variants.{Name, StructField, InterfaceMethod, RuntimeMethod, NamedMethod, RuntimeField}
@@ -38,10 +40,10 @@ use Rattle.repeat_search.specs.Keys.{repeatAt, FirstRepeat}
 use Rattle.repeat_search.specs.Tables.{exempt, repeats, keysAt, Standing}
 use Rattle.repeat_search.proofs.Tables.{repeats-at}
 use Rattle.alike_names.specs.Contract.{tableOf, TableAt, Walks, found, past, TableWalk}
-use Rattle.alike_names.specs.Search.{All, Unfolded, PlainItems, Repeats, nameAt, NearerIs, PartnerIs}
+use Rattle.alike_names.specs.Search.{All, ItemsWithout, Repeats, nameAt, NearerIs, PartnerIs}
 use Rattle.alike_names.specs.Search as search
 use Rattle.alike_names.specs.Tables.{PastItems}
-use Rattle.alike_names.specs.declared.search.Plain.{Plain}
+use Rattle.alike_names.specs.declared.search.Clear.{Clear}
 use Rattle.alike_names.specs.declared.Walk.{Walk}
 
 -- ---- all values of a list
@@ -375,7 +377,7 @@ module _ {i : Item} {n : ℕ} {s : List ℕ} {from : ℕ} where
       spans f g u v =
           rw (name-stands i (f .stands) .value, name-stands i (g .stands) .value, text-length (item-name i f) u, text-length (item-name i g) v)
 
--- ---- no name with a letter to decompose
+-- ---- names that folding keeps apart
 
 among-more : (z y : List ℕ) (seen : List (List ℕ)) → among z (y ∷ seen) ≡ false → (same z y ≡ false) × (among z seen ≡ false)
 unfolding among pick
@@ -385,72 +387,84 @@ among-more z y seen e = go (same z y) refl e
     go true j k = never (sym k)
     go false j k = (j, k)
 
--- names that stay as they are when folded
-record Stays (v : Value) : Type 0 where
-  plain : foldBytes (content v) ≡ content v
-  formed : Formed v
+-- bytes of this kind are the same where they fold to the same
+abbrev Apart : (List ℕ → Type 0) → Type 0
+Apart K = (x y : List ℕ) → K x → K y → foldBytes x ≡ foldBytes y → x ≡ y
 
-stays-alike : {x y : Value} → Stays x → Stays y → alike (content x) (content y) ≡ same (content y) (content x)
-stays-alike {x} {y} f g = alike-fold x y (f .formed) (g .formed) ∙ rw (f .plain, g .plain)
+-- those with no letter to decompose, which fold to themselves; `fold-injective` says it of those without a mark
+pub plain-apart : Apart (Without 0xc3 0xc5)
+plain-apart x y h k e = sym (fold-plain x h) ∙ e ∙ fold-plain y k
 
-other-than : (y : Value) (z : List ℕ) {xs : List Value} → Stays y → All Stays xs → All (λ x. same (content y) (content x) ≡ false) xs
-    → All (λ x. alike (content x) (content y) ≡ false) xs
-other-than y z g search.none search.none = search.none
-other-than y z g (search.also f r) (search.also e d) = search.also (stays-alike f g ∙ e) (other-than y z g r d)
+module _ {K : List ℕ → Type 0} (apart : Apart K) where
+  record Kept (v : Value) : Type 0 where
+    kind : K (content v)
+    formed : Formed v
 
-new-none : (before : List Value) (seen : List (List ℕ)) {ys : List Value} → All Stays before → All Stays ys
-    → ((z : List ℕ) → among z seen ≡ false → All (λ x. same z (content x) ≡ false) before) → AllNew seen ys
-    → pairAfter before ys ≡ none
-unfolding pairAfter
-new-none before seen b search.none c done = refl
-new-none before seen b (search.also {v = y} {vs = ys} g r) c (also e n) =
-    pair-later y before ys (nearest-none y (other-than y (content y) g b (c (content y) e)))
-    ∙ new-none (before ++ (y ∷ [])) (content y ∷ seen) (all-snoc b g) r
-    (λ z h. let m = among-more z (content y) seen h in all-snoc (c z (m .1)) (m .0)) n
+  kept-alike : {x y : Value} → Kept x → Kept y → alike (content x) (content y) ≡ same (content y) (content x)
+  kept-alike {x} {y} f g =
+      alike-fold x y (f .formed) (g .formed)
+      ∙ same-agree _ _ (content y) (content x) (apart _ _ (g .kind) (f .kind)) (ap foldBytes)
 
-both-stay : (i : Item) {vs : List Value} → All (Unfolded i) vs → All (λ v. Formed (nameOf i v)) vs → All (λ v. Stays (nameOf i v)) vs
-both-stay i search.none search.none = search.none
-both-stay i (search.also f r) (search.also g d) = search.also (record { plain = f; formed = g }) (both-stay i r d)
+  other-than : (y : Value) {xs : List Value} → Kept y → All Kept xs → All (λ x. same (content y) (content x) ≡ false) xs
+      → All (λ x. alike (content x) (content y) ≡ false) xs
+  other-than y g search.none search.none = search.none
+  other-than y g (search.also f r) (search.also e d) = search.also (kept-alike f g ∙ e) (other-than y g r d)
 
-pub table-plain : {i : Item} {n : ℕ} {s : List ℕ} {from end : ℕ} {q : Plain} → TableAt i n s from → PlainItems i n s from q
-    → q ≡ Plain.Past end
+  new-none : (before : List Value) (seen : List (List ℕ)) {ys : List Value} → All Kept before → All Kept ys
+      → ((z : List ℕ) → among z seen ≡ false → All (λ x. same z (content x) ≡ false) before) → AllNew seen ys
+      → pairAfter before ys ≡ none
+  unfolding pairAfter
+  new-none before seen b search.none c done = refl
+  new-none before seen b (search.also {v = y} {vs = ys} g r) c (also e n) =
+      pair-later y before ys (nearest-none y (other-than y g b (c (content y) e)))
+      ∙ new-none (before ++ (y ∷ [])) (content y ∷ seen) (all-snoc b g) r
+      (λ z h. let m = among-more z (content y) seen h in all-snoc (c z (m .1)) (m .0)) n
+
+  both-kept : (i : Item) {vs : List Value} → All (λ v. K (content (nameOf i v))) vs → All (λ v. Formed (nameOf i v)) vs
+      → All (λ v. Kept (nameOf i v)) vs
+  both-kept i search.none search.none = search.none
+  both-kept i (search.also f r) (search.also g d) = search.also (record { kind = f; formed = g }) (both-kept i r d)
+
+pub table-apart : {i : Item} {n low high : ℕ} {s : List ℕ} {from end : ℕ} {q : Clear} → Apart (Without low high)
+    → TableAt i n s from → ItemsWithout i n low high s from q → q ≡ Clear.Past end
     → TableWalk i n s from (Walk.Past end)
-table-plain {i} {n} {s} {from} {end} t w e =
+table-apart {i} {n} {s = s} {from = from} {end = end} a t w e =
     let x = w .all end e in
-    walk-none (new-none [] [] search.none (table-all i {P = Stays} (both-stay i (x .0) (items-formed i n s from (t .items .all)))) (λ z h. search.none) (t .new)) (x .1)
+    let k = both-kept a i (x .0) (items-formed i n s from (t .items .all)) in
+    walk-none (new-none a [] [] search.none (table-all i {P = Kept a} k) (λ z h. search.none) (t .new)) (x .1)
 
--- the loop of `plain_items`
-pub record Plains (i : Item) (s : List ℕ) (from n p k : ℕ) : Type 0 where
+-- the loop of `items_without`
+pub record Passing (i : Item) (low high : ℕ) (s : List ℕ) (from n p k : ℕ) : Type 0 where
   pub walk : Walking (formatOf i) s from n p k
-  pub all : All (Unfolded i) (itemsAt (formatOf i) k s from)
+  pub all : All (λ v. Without low high (content (nameOf i v))) (itemsAt (formatOf i) k s from)
 
-module _ {i : Item} {s : List ℕ} {from n : ℕ} where
-  pub plains-start : Items (formatOf i) n s from → Plains i s from n from 0
-  plains-start h = let z = items-nil (formatOf i) s from in record { walk = walking-start h; all = rw (z .0) search.none }
+module _ {i : Item} {low high : ℕ} {s : List ℕ} {from n : ℕ} where
+  pub passing-start : Items (formatOf i) n s from → Passing i low high s from n from 0
+  passing-start h = let z = items-nil (formatOf i) s from in record { walk = walking-start h; all = rw (z .0) search.none }
 
-  module _ {p k : ℕ} (l : Plains i s from n p k) where
-    pub plains-here : k < n → Placed (formatOf i) s p
-    plains-here h = walking-here h (l .walk)
+  module _ {p k : ℕ} (l : Passing i low high s from n p k) where
+    pub passing-here : k < n → Placed (formatOf i) s p
+    passing-here h = walking-here h (l .walk)
 
-    pub plains-text : k < n → TextAt s p
-    plains-text h = item-name i (plains-here h)
+    pub passing-text : k < n → TextAt s p
+    passing-text h = item-name i (passing-here h)
 
-    pub plains-more : {m z : ℕ} {b : Bool} → k < n → WordIs s p m → folding.PlainIs s (p + 4) m b → not b ≡ false
-        → Past (formatOf i) s p z → Plains i s from n z (k + 1)
-    plains-more {m} h e u v w =
+    pub passing-more : {m z : ℕ} {b : Bool} → k < n → WordIs s p m → folding.WithoutIs s (p + 4) m low high b → not b ≡ false
+        → Past (formatOf i) s p z → Passing i low high s from n z (k + 1)
+    passing-more {m} h e u v w =
         let f = formatOf i in
-        let x = name-stands i (plains-here h .stands) .value in
-        let y : Unfolded i (valueAt f s p) = rw (x, text-part (plains-text h) e) (u .is (not-false _ v)) in
+        let x = name-stands i (passing-here h .stands) .value in
+        let y : Without low high (content (nameOf i (valueAt f s p))) = rw (x, text-part (passing-text h) e) (u .is (not-false _ v)) in
         let b : itemsAt f (k + 1) s from ≡ itemsAt f k s from ++ (valueAt f s p ∷ []) = ap (λ j. itemsAt f j s from) (add-one k) ∙ items-snoc f k s from ∙ rw (← l .walk .here) in
         record { walk = walking-next h (l .walk) w; all = rw b (all-snoc (l .all) y) }
 
-    pub plains-done : n ≤ k → k ≤ n → PlainItems i n s from (Plain.Past p)
-    plains-done h j = let e : k ≡ n = omega arith in record { all = λ z r. let t : z ≡ p = cc in (rw e at (l .all), t ∙ rw e at (l .walk .here)) }
+    pub passing-done : n ≤ k → k ≤ n → ItemsWithout i n low high s from (Clear.Past p)
+    passing-done h j = let e : k ≡ n = omega arith in record { all = λ z r. let t : z ≡ p = cc in (rw e at (l .all), t ∙ rw e at (l .walk .here)) }
 
-  pub plains-not : PlainItems i n s from Plain.Not
-  plains-not = record { all = λ z r. let t : _≡_ {A = ℕ} 0 1 = cc in absurd (omega arith) }
+  pub passing-not : ItemsWithout i n low high s from Clear.Not
+  passing-not = record { all = λ z r. let t : _≡_ {A = ℕ} 0 1 = cc in absurd (omega arith) }
 
-pub ruleset plains = (plains-start, plains-here, plains-text, plains-more, plains-done, plains-not)
+pub ruleset passings = (passing-start, passing-here, passing-text, passing-more, passing-done, passing-not)
 
 -- ---- the loop of `partner`
 

@@ -7,7 +7,7 @@ use Rattle.format.specs.Trace.{pick}
 use Rattle.format.specs.Format.{Value, content}
 use Rattle.format.specs.Reading.{same}
 use Rattle.alike.specs.Alike.{pair, nearest}
-use Rattle.folding.specs.Bytes.{foldBytes}
+use Rattle.folding.specs.Bytes.{foldBytes, Without}
 use Rattle.in_place.specs.declared.Item.{Item}
 use Rattle.in_place.specs.declared.Table.the-variants.{Alike}
 use Rattle.in_place.specs.Walk.{valueAt, itemsAt, lastAt}
@@ -16,19 +16,18 @@ use Rattle.in_place.specs.Contract.{Placed}
 use Rattle.repeat_search.specs.Keys.{repeatAt}
 use Rattle.repeat_search.specs.Tables.{keysAt, Standing}
 use Rattle.alike_names.specs.Contract.{tableOf}
-use Rattle.alike_names.specs.declared.search.Plain.{Plain}
+use Rattle.alike_names.specs.declared.search.Clear.{Clear}
 
 -- All of them have this property.
 pub data All (P : Value → Type 0) : List Value → Type 0 where
   none : All P []
   also : {v : Value} {vs : List Value} → P v → All P vs → All P (v ∷ vs)
 
--- folding leaves the name as it is
-abbrev pub Unfolded : Item → Value → Type 0
-Unfolded i v = foldBytes (content (nameOf i v)) ≡ content (nameOf i v)
-
-pub record PlainItems (i : Item) (n : ℕ) (s : List ℕ) (from : ℕ) (q : Plain) : Type 0 where
-  pub all : (end : ℕ) → q ≡ Plain.Past end → All (Unfolded i) (itemsAt (formatOf i) n s from) × (end ≡ lastAt (formatOf i) n s from)
+-- If q is a place, it is the one past the items, and no name of theirs has a byte from low to high.
+pub record ItemsWithout (i : Item) (n low high : ℕ) (s : List ℕ) (from : ℕ) (q : Clear) : Type 0 where
+  pub all : (end : ℕ) → q ≡ Clear.Past end
+      → All (λ v. Without low high (content (nameOf i v))) (itemsAt (formatOf i) n s from)
+      × (end ≡ lastAt (formatOf i) n s from)
 
 -- Item k, which stands at p, repeats one before it by folded names.
 pub record Repeats (i : Item) (s : List ℕ) (from k p : ℕ) : Type 0 where

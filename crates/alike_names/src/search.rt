@@ -1,7 +1,7 @@
 // The pair of one table: the first item whose name is alike to one before it, found by the search for repeats over folded
 // names.
 ghost use Rattle.alike_names.specs.Contract.{TableAt, TableWalk};
-ghost use Rattle.alike_names.specs.Search.{PlainItems, Repeats, PartnerIs, NearerIs};
+ghost use Rattle.alike_names.specs.Search.{ItemsWithout, Repeats, PartnerIs, NearerIs};
 ghost use Rattle.in_place.specs.Items.{formatOf};
 ghost use Rattle.in_place.specs.Contract.{Items, TwoPlaced};
 use crate::Walk;
@@ -9,27 +9,27 @@ use crate::skips::past_items;
 use in_place::Item;
 use in_place::Table;
 
-// The place past the items, where no name has a letter that can be decomposed.
-enum Plain {
+// The place past the items, where no name has a byte of the range that was asked for.
+enum Clear {
     Past(usize),
     Not,
 }
 
-fn plain_items(s: &[u8], item: Item, from: usize, n: usize) -> Plain
+fn items_without(s: &[u8], item: Item, from: usize, n: usize, low: u8, high: u8) -> Clear
     requires { ⌜ Items (formatOf item) n (now s) from ⌝ }
-    ensures { λ q. ⌜ PlainItems item n (now (s .entry)) from q ⌝ }
+    ensures { λ q. ⌜ ItemsWithout item n low high (now (s .entry)) from q ⌝ }
 {
     let mut p = from;
     let mut i = 0;
     while i < n {
         let len = in_place::word_at(s, p);
-        if !folding::plain(s, p + 4, len) {
-            return Plain::Not;
+        if !folding::without(s, p + 4, len, low, high) {
+            return Clear::Not;
         }
         p = in_place::past(s, item, p);
         i += 1;
     }
-    Plain::Past(p)
+    Clear::Past(p)
 }
 
 // The last of the first i items from `from` on whose name is alike to that of item i, which stands at p.
@@ -59,13 +59,16 @@ fn nearer(s: &[u8], item: Item, p: usize, a: usize, best: usize) -> usize
     best
 }
 
-// The pair of the n items from `from` on. Where no name has a letter to decompose, names that were read as different are
-// not alike, and there is no search.
+// The pair of the n items from `from` on. Where no name has a byte that opens a letter to decompose, or none has one that
+// opens a mark, names that were read as different are not alike, and there is no search.
 pub(crate) fn table(s: &[u8], item: Item, from: usize, n: usize) -> Walk
     requires { ⌜ TableAt item n (now s) from ⌝ }
     ensures { λ q. ⌜ TableWalk item n (now (s .entry)) from q ⌝ }
 {
-    if let Plain::Past(end) = plain_items(s, item, from, n) {
+    if let Clear::Past(end) = items_without(s, item, from, n, 195, 197) {
+        return Walk::Past(end);
+    }
+    if let Clear::Past(end) = items_without(s, item, from, n, 204, 204) {
         return Walk::Past(end);
     }
     let i = repeat_search::first_alike(s, item, from, n);

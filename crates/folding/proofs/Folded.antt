@@ -15,8 +15,8 @@ use Rattle.format.specs.TraceTheorems.{part-length}
 use Rattle.vob24.specs.Utf8.{in?}
 use Rattle.vob24.specs.Ranges.{inside, below, above}
 use Rattle.folding.specs.Bytes.{folds, foldOf, headFold, foldBytes}
-use Rattle.folding.specs.FoldLaws.{fold-nil, fold-stays, fold-letter, head-plain, fold-plain}
-use Rattle.folding.specs.Contract.{span, FoldAt, heldBytes, ahead, moreOf, Held, Unread, NextIs, PrefixIs, SameFolded, PlainIs}
+use Rattle.folding.specs.FoldLaws.{fold-nil, fold-stays, fold-letter, head-plain}
+use Rattle.folding.specs.Contract.{span, FoldAt, heldBytes, ahead, moreOf, Held, Unread, NextIs, PrefixIs, SameFolded, WithoutIs}
 use Rattle.folding.specs.declared.Next.{Next}
 
 -- ---- the bytes from a place on
@@ -310,35 +310,44 @@ comparing-less v = omega (arith, ap length (v .is))
 
 pub ruleset comparing = (comparing-start, comparing-fore, comparing-back, comparing-end, comparing-short, comparing-other, comparing-more, comparing-less)
 
--- ---- the loop of `plain`
+-- ---- the loop of `without`
 
--- no byte from p on, up to `at`, opens a letter
-pub record Plain (s : List ℕ) (p n end at : ℕ) : Type 0 where
+-- no byte from p on, up to `at`, is of the range
+pub record Passing (s : List ℕ) (p n low high end at : ℕ) : Type 0 where
   pub is : end ≡ p + n
   pub room : p + n ≤ length s
   pub from : p ≤ at
   pub within : at ≤ end
-  pub none : (j : ℕ) → p ≤ j → j < at → in? 0xc3 0xc5 (getD s j 0) ≡ false
+  pub none : (j : ℕ) → p ≤ j → j < at → in? low high (getD s j 0) ≡ false
 
-pub not-plain : {s : List ℕ} {p n : ℕ} → PlainIs s p n false
-not-plain = record { is = λ e. let z : _≡_ {A = ℕ} 0 1 = cc in absurd (omega arith) }
+module _ {s : List ℕ} {p n low high : ℕ} where
+  pub passing-not : WithoutIs s p n low high false
+  passing-not = record { is = λ e. let z : _≡_ {A = ℕ} 0 1 = cc in absurd (omega arith) }
 
-module _ {s : List ℕ} {p n end : ℕ} where
-  pub plain-start : end ≡ p + n → p + n ≤ length s → Plain s p n end p
-  plain-start e h = record { is = e; room = h; from = omega arith; within = omega arith; none = λ j a b. absurd (omega arith) }
+  pub passing-start : {end : ℕ} → end ≡ p + n → p + n ≤ length s → Passing s p n low high end p
+  passing-start e h =
+      record { is = e; room = h; from = omega arith; within = omega arith; none = λ j a b. absurd (omega arith) }
 
-  module _ {at : ℕ} (l : Plain s p n end at) where
-    pub plain-more : {q : Bool} → at < end → q ≡ in? 0xc3 0xc5 (getD s at 0) → q ≡ false → Plain s p n end (at + 1)
-    plain-more {q} h i f = record { is = l .is; room = l .room; from = omega (arith, l .from); within = omega arith; none = λ j a b. go j a b (eqb j at) refl }
+  module _ {end at : ℕ} (l : Passing s p n low high end at) where
+    pub passing-more : {q : Bool} → at < end → q ≡ in? low high (getD s at 0) → q ≡ false
+        → Passing s p n low high end (at + 1)
+    passing-more h i f =
+        record {
+          is = l .is;
+          room = l .room;
+          from = omega (arith, l .from);
+          within = omega arith;
+          none = λ j a b. go j a b (eqb j at) refl;
+        }
       where
-        go : (j : ℕ) → p ≤ j → j < at + 1 → (t : Bool) → eqb j at ≡ t → in? 0xc3 0xc5 (getD s j 0) ≡ false
+        go : (j : ℕ) → p ≤ j → j < at + 1 → (t : Bool) → eqb j at ≡ t → in? low high (getD s j 0) ≡ false
         go j a b true z = let e : j ≡ at = eqb-true j at z in rw e (sym i ∙ f)
         go j a b false z = l .none j a (omega (arith, eqb-false j at z))
 
-    pub plain-done : end ≤ at → PlainIs s p n true
-    plain-done h = record { is = λ _. fold-plain (part s p n) (λ i k. go i (rw (part-length s p n (l .room)) at k)) }
+    pub passing-done : end ≤ at → WithoutIs s p n low high true
+    passing-done h = record { is = λ _ i k. go i (rw (part-length s p n (l .room)) at k) }
       where
-        go : (i : ℕ) → i < n → in? 0xc3 0xc5 (getD (part s p n) i 0) ≡ false
+        go : (i : ℕ) → i < n → in? low high (getD (part s p n) i 0) ≡ false
         go i k = rw (getD-take n (drop p s) i 0 k, getD-drop p s i 0) (l .none (p + i) (omega arith) (omega (arith, l .is)))
 
-pub ruleset plains = (not-plain, plain-start, plain-more, plain-done)
+pub ruleset passings = (passing-not, passing-start, passing-more, passing-done)

@@ -1,7 +1,9 @@
 -- The bytes of a name with its letters decomposed.
-use Prim.Native.Nat.{ℕ, _+_, _-_, _*_, _/_, _%_}
+use Prim.Native.Nat.{ℕ, _+_, _-_, _*_, _/_, _%_, _<_}
+use mathlib.Core.Path.{_≡_}
 use mathlib.Core.List.{List, [], _∷_}
-use lib.ListN.{getD}
+use mathlib.Core.Bool.{false}
+use lib.ListN.{length, getD}
 use lib.Dec.{eqb}
 use Rattle.format.specs.Trace.{pick}
 use Rattle.vob24.specs.Utf8.{in?}
@@ -39,3 +41,7 @@ foldBytes [] = []
 foldBytes (b ∷ []) = b ∷ []
 foldBytes (b ∷ c ∷ t) =
     pick (eqb (foldOf b c) 0) (b ∷ foldBytes (c ∷ t)) (foldOf b c / 256 ∷ 0xcc ∷ foldOf b c % 256 ∷ foldBytes t)
+
+-- no byte from low to high
+abbrev pub Without : ℕ → ℕ → List ℕ → Type 0
+Without low high x = (i : ℕ) → i < length x → in? low high (getD x i 0) ≡ false

@@ -7,7 +7,7 @@ use lib.ListN.{length}
 use lib.Dec.{eqb, ltb}
 use Rattle.format.specs.Trace.{pick}
 use Rattle.format.specs.Reading.{part, same}
-use Rattle.folding.specs.Bytes.{headFold, foldBytes}
+use Rattle.folding.specs.Bytes.{headFold, foldBytes, Without}
 use Rattle.folding.specs.declared.Next.{Next}
 
 -- the bytes from a place to an end
@@ -53,6 +53,5 @@ pub record PrefixIs (s : List ℕ) (a e b f q : ℕ) : Type 0 where
 pub record SameFolded (s : List ℕ) (a m b n : ℕ) (q : Bool) : Type 0 where
   pub is : q ≡ same (foldBytes (part s a m)) (foldBytes (part s b n))
 
--- if q, then folding leaves the bytes as they are
-pub record PlainIs (s : List ℕ) (p n : ℕ) (q : Bool) : Type 0 where
-  pub is : q ≡ true → foldBytes (part s p n) ≡ part s p n
+pub record WithoutIs (s : List ℕ) (p n low high : ℕ) (q : Bool) : Type 0 where
+  pub is : q ≡ true → Without low high (part s p n)

@@ -1,14 +1,13 @@
 -- How the bytes of a name are folded from their front, and which bytes stay.
-use Prim.Native.Nat.{ℕ, suc, _/_, _%_, _<_}
+use Prim.Native.Nat.{ℕ, suc, _/_, _%_}
 use mathlib.Core.Path.{_≡_, refl, ap, _∙_}
 use mathlib.Core.List.{List, [], _∷_}
 use mathlib.Core.Bool.{false}
 use native.Mathlib.Omega.{arith}
 use borrow.Author.Tests.{eq-eqb, ne-eqb}
-use lib.ListN.{length, getD}
 use Rattle.format.specs.Trace.{pick}
 use Rattle.vob24.specs.Utf8.{in?}
-use Rattle.folding.specs.Bytes.{foldOf, headFold, foldBytes}
+use Rattle.folding.specs.Bytes.{foldOf, headFold, foldBytes, Without}
 
 pub fold-nil : foldBytes [] ≡ []
 unfolding foldBytes
@@ -30,7 +29,7 @@ unfolding headFold foldOf pick
 head-plain b [] e = refl
 head-plain b (c ∷ t) e = rw e
 
-pub fold-plain : (x : List ℕ) → ((i : ℕ) → i < length x → in? 0xc3 0xc5 (getD x i 0) ≡ false) → foldBytes x ≡ x
+pub fold-plain : (x : List ℕ) → Without 0xc3 0xc5 x → foldBytes x ≡ x
 fold-plain [] h = fold-nil
 fold-plain (b ∷ t) h =
     fold-stays b t (head-plain b t (h 0 (omega arith))) ∙ ap (_∷_ b) (fold-plain t (λ i k. h (suc i) (omega arith)))

@@ -1,3 +1,4 @@
 pub mod Bytes
 pub mod FoldLaws
+pub mod Injective
 pub mod Contract

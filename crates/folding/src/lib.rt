@@ -4,7 +4,7 @@ ghost use mathlib.Core.Path.{_≡_};
 ghost use Prim.Native.Nat.{_+_, _-_, _*_, _≤_, _<_};
 ghost use lib.ListN.{length};
 ghost use Rattle.vob24.specs.Utf8.{in?};
-ghost use Rattle.folding.specs.Contract.{moreOf, FoldAt, Unread, NextIs, PrefixIs, SameFolded, PlainIs};
+ghost use Rattle.folding.specs.Contract.{moreOf, FoldAt, Unread, NextIs, PrefixIs, SameFolded, WithoutIs};
 
 // For each letter from U+00C0 to U+017F: 0 where it has none, else its base letter times 256 and the last byte of its
 // mark, whose first byte is CC.
@@ -209,14 +209,21 @@ fn wide(n: u16) -> u64
     n as u64
 }
 
+// Is b from low to high?
+fn within(b: u8, low: u8, high: u8) -> bool
+    ensures { λ q. ⌜ q ≡ in? low high b ⌝ }
+{
+    if b < low {
+        return false;
+    }
+    b <= high
+}
+
 // Does b open a letter from U+00C0 to U+017F?
 pub fn opens(b: u8) -> bool
     ensures { λ q. ⌜ q ≡ in? 195 197 b ⌝ }
 {
-    if b < 195 {
-        return false;
-    }
-    b <= 197
+    within(b, 195, 197)
 }
 
 fn index(lead: u8, last: u8) -> usize
@@ -360,15 +367,15 @@ pub fn same_folded(s: &[u8], a: usize, m: usize, b: usize, n: usize) -> bool
     !more(q, b_end, q_held)
 }
 
-// Have the n bytes at p no byte that opens such a letter?
-pub fn plain(s: &[u8], p: usize, n: usize) -> bool
+// Is none of the n bytes at p from low to high?
+pub fn without(s: &[u8], p: usize, n: usize, low: u8, high: u8) -> bool
     requires { ⌜ p + n ≤ length (now s) ⌝ }
-    ensures { λ q. ⌜ PlainIs (now (s .entry)) p n q ⌝ }
+    ensures { λ q. ⌜ WithoutIs (now (s .entry)) p n low high q ⌝ }
 {
     let end = p + n;
     let mut at = p;
     while at < end {
-        if opens(s[at]) {
+        if within(s[at], low, high) {
             return false;
         }
         at += 1;
