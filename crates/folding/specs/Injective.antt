@@ -1,35 +1,19 @@
 -- Folding keeps bytes without CC apart: each CC of what they fold to is of a letter that was replaced, since base letters
 -- are ASCII, and no two letters have the same base letter and mark.
-use Prim.Native.Nat.{ℕ, zero, suc, _+_, _-_, _*_, _/_, _%_, _≤_, _<_}
+use Prim.Native.Nat.{ℕ, zero, suc, _/_, _%_}
 use mathlib.Core.Path.{_≡_, refl, ap, sym, _∙_}
 use mathlib.Core.List.{List, [], _∷_}
 use mathlib.Core.Bool.{Bool, true, false, not, _&&_, _||_}
 use native.Mathlib.Omega.{arith}
-use borrow.Author.Tests.{eqb-false, ne-eqb, leb-true, ltb-true, not-true}
-use lib.Dec.{eqb, leb, ltb}
+use borrow.Author.Tests.{eqb-false, ne-eqb, not-true}
+use lib.Dec.{eqb}
 use lib.ListN.{getD}
 use Rattle.format.specs.Trace.{pick}
 use Rattle.vob24.specs.Utf8.{in?}
 use Rattle.folding.specs.Bytes.{folds, foldOf, foldBytes, Without}
+use Rattle.folding.specs.Letters.{both-true, letter-of}
 
-both-true : (a b : Bool) → (a && b) ≡ true → (a ≡ true) × (b ≡ true)
-both-true true b e = (refl, e)
-both-true false b e = (e, cc)
-
--- ---- two computed tests over U+00C0 to U+017F: base letters are ASCII, and no two entries other than 0 are the same
-
-abbrev ascii? : List ℕ → Bool
-ascii? [] = true
-ascii? (f ∷ fs) = ltb f 0x8000 && ascii? fs
-
-ascii : (fs : List ℕ) → ascii? fs ≡ true → (i : ℕ) → getD fs i 0 < 0x8000
-ascii [] t i = omega arith
-ascii (f ∷ fs) t zero = ltb-true f 0x8000 (both-true (ltb f 0x8000) (ascii? fs) t .0)
-ascii (f ∷ fs) t (suc i) = ascii fs (both-true (ltb f 0x8000) (ascii? fs) t .1) i
-
-folds-ascii : (i : ℕ) → getD folds i 0 < 0x8000
-unfolding folds
-folds-ascii = ascii folds refl
+-- ---- a computed test: no two entries other than 0 are the same
 
 abbrev absent? : ℕ → List ℕ → Bool
 absent? f [] = true
@@ -62,25 +46,8 @@ folds-distinct = distinct folds refl
 
 -- ---- a letter that is replaced
 
-record Letter (b c : ℕ) : Type 0 where
-  lead : (0xc3 ≤ b) × (b ≤ 0xc5)
-  last : (0x80 ≤ c) × (c ≤ 0xbf)
-  entry : foldOf b c ≡ getD folds ((b - 0xc3) * 64 + (c - 0x80)) 0
-
-between : (lo hi b : ℕ) → in? lo hi b ≡ true → (lo ≤ b) × (b ≤ hi)
-between lo hi b e = let x = both-true (leb lo b) (leb b hi) e in (leb-true lo b (x .0), leb-true b hi (x .1))
-
-letter-of : (b c : ℕ) → (foldOf b c ≡ 0 → ⊥) → Letter b c
-unfolding foldOf pick
-letter-of b c z = go (in? 0xc3 0xc5 b) (in? 0x80 0xbf c) refl refl
-  where
-    go : (t u : Bool) → in? 0xc3 0xc5 b ≡ t → in? 0x80 0xbf c ≡ u → Letter b c
-    go true true e f = record { lead = between 0xc3 0xc5 b e; last = between 0x80 0xbf c f; entry = rw (e, f) }
-    go true false e f = absurd (z (rw (e, f)))
-    go false u e f = absurd (z (rw e))
-
 base-no-mark : (b c : ℕ) → (foldOf b c ≡ 0 → ⊥) → foldOf b c / 256 ≡ 0xcc → ⊥
-base-no-mark b c z e = omega (arith, letter-of b c z .entry, folds-ascii ((b - 0xc3) * 64 + (c - 0x80)))
+base-no-mark b c z e = omega (arith, letter-of b c z .base)
 
 same-letter : (b c d e : ℕ) → (foldOf b c ≡ 0 → ⊥) → foldOf b c ≡ foldOf d e → (b ≡ d) × (c ≡ e)
 same-letter b c d e z q =

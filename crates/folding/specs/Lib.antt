@@ -1,4 +1,5 @@
 pub mod Bytes
 pub mod FoldLaws
+pub mod Letters
 pub mod Injective
 pub mod Contract

@@ -3,7 +3,6 @@ use Prim.Native.Nat.{ℕ, suc, zero, _+_, _-_, _*_, _/_, _%_, _≤_, _<_}
 use mathlib.Core.Path.{_≡_, refl, ap, sym, _∙_}
 use mathlib.Core.List.{List, [], _∷_, _++_}
 use mathlib.Core.Bool.{Bool, true, false}
-use mathlib.Core.Logic.{_⊎_, inl, inr}
 use native.Mathlib.Omega.{arith}
 use lib.Dec.{eqb, ltb}
 use lib.ListN.{length, getD}
@@ -11,9 +10,8 @@ use borrow.Author.Tests.{lt-ltb, le-ltb, ltb-true, ltb-false, eqb-true, eqb-fals
 use Rattle.format.specs.Trace.{pick}
 use Rattle.format.specs.Reading.{little, part}
 use Rattle.format.specs.TraceTheorems.{part-length}
-use Rattle.vob24.specs.Utf8.{in?}
-use Rattle.vob24.specs.Ranges.{below, lt-or-ge}
-use Rattle.folding.specs.Bytes.{folds, foldOf, foldBytes}
+use Rattle.folding.specs.Bytes.{foldOf, foldBytes}
+use Rattle.folding.specs.Letters.{letter-of}
 use Rattle.in_place.specs.declared.Table.{Table}
 use Rattle.in_place.specs.declared.Table.the-variants.{Fields, Methods, Identities, Alike}
 use Rattle.in_place.specs.Items.{textAt}
@@ -161,44 +159,6 @@ pub ruleset skipping = (skips-none, skips-lacks)
 
 -- ---- of folded bytes
 
--- the last byte of each mark is not ASCII
-marks : List ℕ → Bool
-marks [] = true
-marks (e ∷ es) = pick (eqb e 0) (marks es) (pick (ltb (e % 256) 128) false (marks es))
-
-mark-high : (es : List ℕ) (i : ℕ) → marks es ≡ true → (getD es i 0 ≡ 0 → ⊥) → 128 ≤ getD es i 0 % 256
-unfolding marks pick
-mark-high [] i e z = absurd (z refl)
-mark-high (x ∷ es) zero e z = go (eqb x 0) (ltb (x % 256) 128) refl refl e
-  where
-    go : (a b : Bool) → eqb x 0 ≡ a → ltb (x % 256) 128 ≡ b → pick a (marks es) (pick b false (marks es)) ≡ true → 128 ≤ x % 256
-    go true b f g r = absurd (z (eqb-true _ _ f))
-    go false true f g r = let y : _≡_ {A = ℕ} 0 1 = cc in absurd (omega arith)
-    go false false f g r = ltb-false _ _ g
-mark-high (x ∷ es) (suc i) e z = mark-high es i (go (eqb x 0) (ltb (x % 256) 128) e) z
-  where
-    go : (a b : Bool) → pick a (marks es) (pick b false (marks es)) ≡ true → marks es ≡ true
-    go true b r = r
-    go false true r = let y : _≡_ {A = ℕ} 0 1 = cc in absurd (omega arith)
-    go false false r = r
-
--- nor are the two bytes of a letter
-least : (lo hi b : ℕ) → in? lo hi b ≡ true → lo ≤ b
-least lo hi b e = go (lt-or-ge b lo)
-  where
-    go : (b < lo) ⊎ (lo ≤ b) → lo ≤ b
-    go (inl l) = let x = below lo hi b l in let y : _≡_ {A = ℕ} 0 1 = cc in absurd (omega arith)
-    go (inr l) = l
-
-letter-high : (b c : ℕ) → (foldOf b c ≡ 0 → ⊥) → (128 ≤ b) × (128 ≤ c) × (128 ≤ foldOf b c % 256)
-unfolding foldOf folds marks pick
-letter-high b c z = go (in? 0xc3 0xc5 b) (in? 0x80 0xbf c) refl refl
-  where
-    go : (x y : Bool) → in? 0xc3 0xc5 b ≡ x → in? 0x80 0xbf c ≡ y → (128 ≤ b) × (128 ≤ c) × (128 ≤ foldOf b c % 256)
-    go true true e f = (omega (arith, least 0xc3 0xc5 b e), least 0x80 0xbf c f, rw (e, f) (mark-high folds ((b - 0xc3) * 64 + (c - 0x80)) refl (λ k. z (rw (e, f) k))))
-    go true false e f = absurd (z (rw (e, f)))
-    go false y e f = absurd (z (rw e))
-
 either : (z : Bool) (y : ℕ) → pick z y y ≡ y
 unfolding pick
 either true y = refl
@@ -217,7 +177,7 @@ tail-folded k w (b ∷ c ∷ t) = go (eqb (foldOf b c) 0) refl (tail-folded (k +
         → tailFrom 0 0 (foldBytes t) ≡ tailFrom 0 0 t
         → tailFrom k w (foldBytes (b ∷ c ∷ t)) ≡ tailFrom k w (b ∷ c ∷ t)
     go true e f g h = rw (e, f, g)
-    go false e f g h = let o = letter-high b c (eqb-false _ _ e) in rw (e, le-ltb b 128 (o .0), le-ltb c 128 (o .1), le-ltb (foldOf b c % 256) 128 (o .2), h) (either (ltb (foldOf b c / 256) 128) _)
+    go false e f g h = let o = letter-of b c (eqb-false _ _ e) in rw (e, le-ltb b 128 (omega (arith, o .lead)), le-ltb c 128 (o .last .0), le-ltb (foldOf b c % 256) 128 (o .mark), h) (either (ltb (foldOf b c / 256) 128) _)
 
 key-tail : (t : Table) (s : List ℕ) (p : ℕ) → tailOf (keyText t s p) ≡ tailOf (textAt s p)
 key-tail Fields s p = refl
