@@ -77,6 +77,11 @@ impl Names {
         self.one(|names| &names.initials)
     }
 
+    /// So many letters with accents.
+    pub fn accents(&mut self, n: usize) -> String {
+        (0..n).map(|_| self.initial()).collect()
+    }
+
     fn given(&mut self) -> String {
         self.one(|names| &names.given)
     }
