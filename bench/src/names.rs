@@ -44,6 +44,8 @@ fn forms(name: &str) -> Forms {
 
 pub struct Names {
     seed: u64,
+    /// 2 where a name is composed or decomposed by chance, 1 where each is composed.
+    forms: usize,
     initials: Vec<Forms>,
     given: Vec<Forms>,
     family: Vec<Forms>,
@@ -53,10 +55,16 @@ impl Names {
     pub fn new(seed: u64) -> Names {
         Names {
             seed,
+            forms: 2,
             initials: letters().map(|(composed, letter)| [composed.to_string(), letter]).collect(),
             given: GIVEN.split(", ").map(forms).collect(),
             family: FAMILY.split(", ").map(forms).collect(),
         }
+    }
+
+    /// Names that are all composed.
+    pub fn composed(seed: u64) -> Names {
+        Names { forms: 1, ..Names::new(seed) }
     }
 
     /// The next number of SplitMix64, below n.
@@ -69,12 +77,17 @@ impl Names {
 
     fn one(&mut self, of: fn(&Names) -> &[Forms]) -> String {
         let name = self.below(of(self).len());
-        let form = self.below(2);
+        let form = self.below(self.forms);
         of(self)[name][form].clone()
     }
 
     fn initial(&mut self) -> String {
         self.one(|names| &names.initials)
+    }
+
+    /// So many letters with accents.
+    pub fn accents(&mut self, n: usize) -> String {
+        (0..n).map(|_| self.initial()).collect()
     }
 
     fn given(&mut self) -> String {

@@ -1,5 +1,6 @@
 //! Packs to measure with, written byte by byte: each is the bare pack with one section, or all of them, filled.
 
+use crate::alike;
 use crate::names::Names;
 use std::collections::HashMap;
 
@@ -388,13 +389,19 @@ pub fn names(n: usize) -> Vec<u8> {
 
 /// Names of people with accents that differ when they are decomposed.
 pub fn accented(n: usize) -> impl ExactSizeIterator<Item = Vec<u8>> {
-    let mut names = Names::new(SEED);
+    numbered(Names::new(SEED), n)
+}
+
+fn numbered(mut names: Names, n: usize) -> impl ExactSizeIterator<Item = Vec<u8>> {
     (0..n).map(move |i| format!("{} {i}", names.accented()).into_bytes())
 }
 
+/// A letter composed and decomposed.
+const LETTER: [&str; 2] = ["\u{e9}", "e\u{301}"];
+
 /// Names with one accent, every other one composed, that differ when they are decomposed: so short that a pack has room for 4,000,000.
 pub fn short_accented(n: usize) -> impl ExactSizeIterator<Item = Vec<u8>> {
-    (0..n).map(|i| format!("nam{}_{i}", ["\u{e9}", "e\u{301}"][i % 2]).into_bytes())
+    (0..n).map(|i| format!("nam{}_{i}", LETTER[i % 2]).into_bytes())
 }
 
 /// The first seed of the search for repeated names, and the factors that it gives for the four words of a block, two in each lane.
@@ -487,15 +494,9 @@ fn same_hash(factors: [u64; 2], hash: u64) -> ([[u64; 2]; 4], u64) {
     unreachable!("some blocks meet")
 }
 
-/// How names of one hash, the one of reading, end: in sixteen bytes, or in letters that are these sixteen when they are decomposed.
-pub const PLAIN: &str = "all end the same";
-pub const DECOMPOSED: &str = "each end alike\u{301}";
-pub const COMPOSED: &str = "each end alik\u{e9}";
-
-/// Names that differ and all have, when they are decomposed, 208 bytes and, as reading hashes bytes, the same hash under the first seed: one of four
-/// blocks at each of six places in two lanes, and then an end by the name's number. Folded names are hashed in another way, under which these are not known
-/// to collide.
-pub fn one_hash(n: usize, end: impl Fn(usize) -> &'static str) -> impl ExactSizeIterator<Item = Vec<u8>> {
+/// Names that differ and all have 208 bytes and, as reading hashes bytes, the same hash under the first seed: one of four blocks at each of six
+/// places in two lanes, and then sixteen bytes that all have.
+pub fn one_hash(n: usize) -> impl ExactSizeIterator<Item = Vec<u8>> {
     const LENGTH: u64 = 208;
     let lanes = FACTORS.map(|factors| {
         let mut hash = LENGTH * FIRST_SEED;
@@ -511,14 +512,85 @@ pub fn one_hash(n: usize, end: impl Fn(usize) -> &'static str) -> impl ExactSize
             let [one, other] = [0, 1].map(|lane| lanes[lane][k][i >> (4 * k + 2 * lane) & 3]);
             name.extend([one[0], other[0], one[1], other[1]].map(u64::to_le_bytes).concat());
         }
-        assert_eq!(name.len() as u64, LENGTH - 16);
-        name.extend(end(i).bytes());
+        name.extend(b"all end the same");
+        assert_eq!(name.len() as u64, LENGTH);
         name
     })
 }
 
+/// How the hash of folded names takes in a byte, under the first seed: x times the seed modulo M, where M is one less than the seed times 2^32, so
+/// that this product is 1 modulo M. No hash is above M, so that two that are the same modulo M are the same, or 0 and M.
+fn take_in(hash: u64, byte: u8) -> u64 {
+    let x = hash ^ u64::from(byte);
+    x % (1 << 32) * FIRST_SEED + (x >> 32)
+}
+
+/// The hash by which names that print alike are found, under the first seed.
+fn folded_hash(name: &str) -> u64 {
+    alike::folded(name).bytes().chain([0, 0]).fold(FIRST_SEED, take_in)
+}
+
+/// Numbers that leave no trace when eleven bytes add them to a hash, one each: the last times the seed, the one before it times the seed twice, and so
+/// on, come to 0 modulo M. Found by reducing the lattice of all that do (LLL), and so small that one letter in place of another adds them.
+const NO_TRACE: [i64; 11] = [-19, -4, -4, -22, 23, 7, 16, 5, 3, 1, -6];
+
+/// Extends the two forms of a block, whose hashes so far are these, letter by letter to one hash, and returns it. A letter adds (h XOR letter) - h to a
+/// hash h; that of the second form is to add what that of the first adds, and its number. Where no two letters do, those before are taken anew.
+fn to_one_hash(block: &mut Vec<[u8; 2]>, [one, other]: [u64; 2]) -> Option<u64> {
+    let Some(number) = NO_TRACE.get(block.len()) else {
+        return (one == other).then_some(one);
+    };
+    (b'A'..=b'z').find_map(|letter| {
+        let added = (one ^ u64::from(letter)).wrapping_sub(one).wrapping_add_signed(*number);
+        let forms = [letter, u8::try_from(other ^ other.wrapping_add(added)).ok()?];
+        if !forms.iter().all(u8::is_ascii_alphabetic) {
+            return None;
+        }
+        block.push(forms);
+        let hash = to_one_hash(block, [take_in(one, forms[0]), take_in(other, forms[1])]);
+        if hash.is_none() {
+            block.pop();
+        }
+        hash
+    })
+}
+
+/// Up to 262,144 names that differ when they are decomposed, and then all have 201 bytes and the same hash under the first seed: a letter, composed
+/// in every other name, and eighteen blocks, each in the form that a bit of the name's number says. The letter is first, since what stands in a block
+/// depends on the hash before it, which is the same for both forms of the letter.
+pub fn one_folded_hash(n: usize) -> impl ExactSizeIterator<Item = Vec<u8>> {
+    const BLOCKS: usize = 18;
+    assert!(n <= 1 << BLOCKS, "{n} names have no forms of their own");
+    let mut hash = LETTER[1].bytes().fold(FIRST_SEED, take_in);
+    let blocks = [(); BLOCKS].map(|()| {
+        let mut block = Vec::new();
+        hash = to_one_hash(&mut block, [hash; 2]).expect("two forms of letters");
+        block
+    });
+    let hash = take_in(take_in(hash, 0), 0);
+    (0..n).map(move |i| {
+        let mut name = LETTER[i % 2].to_string();
+        for (k, block) in blocks.iter().enumerate() {
+            name.extend(block.iter().map(|forms| char::from(forms[i >> k & 1])));
+        }
+        assert_eq!(folded_hash(&name), hash, "{name}");
+        name.into_bytes()
+    })
+}
+
+/// Long names of letters with accents and nothing else, composed or decomposed by chance, that differ when they are decomposed.
+pub fn long_accented(n: usize) -> impl ExactSizeIterator<Item = Vec<u8>> {
+    let mut names = Names::new(SEED);
+    (0..n).map(move |_| names.accents(80).into_bytes())
+}
+
 pub fn accented_table(table: Table, n: usize) -> Vec<u8> {
     in_table(table, accented(n))
+}
+
+/// The names of people that are all composed, as most packs have them.
+pub fn composed_names(n: usize) -> Vec<u8> {
+    in_table(Table::Fields, numbered(Names::composed(SEED), n))
 }
 
 pub fn short_accented_names(n: usize) -> Vec<u8> {
@@ -526,35 +598,41 @@ pub fn short_accented_names(n: usize) -> Vec<u8> {
 }
 
 pub fn colliding(n: usize) -> Vec<u8> {
-    in_table(Table::Fields, one_hash(n, |_| PLAIN))
+    in_table(Table::Fields, one_hash(n))
 }
 
-/// Names of one hash as they stand, but for the first, which is of that hash when it is decomposed: they collide in a reading, and the table has a
-/// letter to decompose.
-pub fn colliding_decomposed(n: usize) -> Vec<u8> {
-    in_table(Table::Fields, one_hash(n, |i| if i == 0 { COMPOSED } else { DECOMPOSED }))
+pub fn colliding_folded(n: usize) -> Vec<u8> {
+    in_table(Table::Fields, one_folded_hash(n))
 }
 
-/// Names whose bytes are of one hash when they are decomposed, which no reading does: long names that are all accented.
-pub fn colliding_composed(n: usize) -> Vec<u8> {
-    in_table(Table::Fields, one_hash(n, |_| COMPOSED))
+pub fn long_accented_names(n: usize) -> Vec<u8> {
+    in_table(Table::Fields, long_accented(n))
 }
 
-/// Names that differ, have sixteen bytes when they are decomposed and are then, by reading's hash, all of the first classes under the first seed, where
-/// names that are evenly spread have one in 21: the search for repeats looks at all of them at once. They end in a letter, of which the
-/// decomposed form is given too.
-pub fn one_class(n: usize, end: &'static str, decomposed: &'static str) -> impl ExactSizeIterator<Item = Vec<u8>> {
-    let mix = |hash: u64| (hash % (1 << 32)).wrapping_mul(FIRST_SEED).wrapping_add(hash >> 32);
+/// Is this hash of the first classes, where hashes that are evenly spread have one in 21? The search for repeats looks at names of one class at once.
+fn in_first_class(hash: u64) -> bool {
+    (hash >> 16) % 65_536 < 3_000
+}
+
+/// Names that differ, have sixteen bytes and are, by reading's hash, all of the first classes under the first seed.
+pub fn one_class(n: usize) -> impl ExactSizeIterator<Item = Vec<u8>> {
     let lane =
         |factors, bytes: &[u8]| fold(factors, 16 * FIRST_SEED, u64::from_le_bytes(bytes.try_into().expect("eight")));
-    let mut tried = 0u64;
-    (0..n).map(move |_| loop {
-        let digits = format!("{tried:0width$}", width = 16 - decomposed.len());
-        tried += 1;
-        let bytes = format!("{digits}{decomposed}").into_bytes();
-        let hash = mix(mix(lane(FACTORS[0], &bytes[..8]) ^ lane(FACTORS[1], &bytes[8..])));
-        if (hash >> 16) % 65_536 < 3_000 {
-            return (digits + end).into_bytes();
-        }
+    let hash = move |name: &[u8]| {
+        let joined = lane(FACTORS[0], &name[..8]) ^ lane(FACTORS[1], &name[8..]);
+        take_in(take_in(joined, 0), 0)
+    };
+    let mut names = (0u64..).map(|number| format!("{number:016}").into_bytes());
+    (0..n).map(move |_| names.find(|name| in_first_class(hash(name))).expect("a name"))
+}
+
+/// Names that differ when they are decomposed and are then, by the hash of folded names, all of the first classes under the first seed. They end in a
+/// letter, composed in every other name.
+pub fn one_folded_class(n: usize) -> impl ExactSizeIterator<Item = Vec<u8>> {
+    let mut tried = 0u64..;
+    (0..n).map(move |i| {
+        let end = LETTER[i % 2];
+        let mut names = tried.by_ref().map(|number| format!("{number:013}{end}"));
+        names.find(|name| in_first_class(folded_hash(name))).expect("a name").into_bytes()
     })
 }

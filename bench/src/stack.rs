@@ -1,8 +1,8 @@
 //! That a call needs no more stack than every caller has: each call of the archive on a thread with 256 KB, on tables of so many names that the
-//! search for repeats takes its largest filter, and with accents, so that the search for names that print alike does. A call that needed
-//! more would end the program.
+//! search for repeats takes its largest filter, and with accents, composed in every other name, so that the search for names that print alike
+//! does. A call that needed more would end the program.
 
-use crate::packs::{distinct, in_table, one_class, one_hash, short_accented, Table, COMPOSED, PLAIN};
+use crate::packs::{distinct, in_table, one_class, one_folded_class, one_folded_hash, one_hash, short_accented, Table};
 use std::thread;
 use vob::raw::{vob_alike_names, vob_charge_size, vob_find_artifact, vob_inline_sources, vob_read, Answer, SECTIONS};
 use vob::STARTING_BUDGET;
@@ -59,15 +59,15 @@ pub fn every_call() {
     for n in [20_000, 200_000] {
         for table in tables {
             run(table, &format!("{n} names"), in_table(table, distinct(n)));
-            run(table, &format!("{n} names of one hash"), in_table(table, one_hash(n, |_| PLAIN)));
+            run(table, &format!("{n} names of one hash"), in_table(table, one_hash(n)));
             run(table, &format!("{n} accented names"), in_table(table, short_accented(n)));
-            run(table, &format!("{n} accented names of one hash"), in_table(table, one_hash(n, |_| COMPOSED)));
+            run(table, &format!("{n} accented names of one hash"), in_table(table, one_folded_hash(n)));
         }
     }
     for table in [Table::Fields, Table::InterfaceNames] {
         run(table, "4000000 names", in_table(table, distinct(4_000_000)));
-        run(table, "4000000 names of one class", in_table(table, one_class(4_000_000, "", "")));
+        run(table, "4000000 names of one class", in_table(table, one_class(4_000_000)));
         run(table, "4000000 accented names", in_table(table, short_accented(4_000_000)));
-        run(table, "4000000 accented names of one class", in_table(table, one_class(4_000_000, "\u{e9}", "e\u{301}")));
+        run(table, "4000000 accented names of one class", in_table(table, one_folded_class(4_000_000)));
     }
 }
