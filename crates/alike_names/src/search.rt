@@ -71,7 +71,7 @@ pub(crate) fn table(s: &[u8], item: Item, from: usize, n: usize) -> Walk
     if let Clear::Past(end) = items_without(s, item, from, n, 204, 204) {
         return Walk::Past(end);
     }
-    let i = repeat_search::first_alike(s, item, from, n);
+    let i = repeat_search::first_repeat(s, Table::Alike(item), from, n);
     if n <= i {
         return Walk::Past(past_items(s, item, from, n));
     }

@@ -755,18 +755,3 @@ pub fn first_repeat(s: &[u8], table: Table, from: usize, n: usize) -> usize
     }
     searched(s, table, from, n, true)
 }
-
-// The same of folded names. A name's mark is a hash of it then, so that few names meet by their marks, and no pass is made
-// to see whether all marks differ.
-pub fn first_alike(s: &[u8], item: Item, from: usize, n: usize) -> usize
-    requires { ⌜ Items (formatOf item) n (now s) from ⌝ }
-    ensures { λ q. ⌜ FirstRepeat (keysAt (Table.Alike item) (now (s .entry)) from) n q ⌝ }
-{
-    if n < FEW {
-        return scan(s, Table::Alike(item), from, n);
-    }
-    if n < MIDDLING {
-        return searched(s, Table::Alike(item), from, n, false);
-    }
-    searched(s, Table::Alike(item), from, n, true)
-}
