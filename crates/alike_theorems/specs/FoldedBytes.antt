@@ -12,12 +12,12 @@ use lib.ListN.{length, getD}
 use Rattle.format.specs.Trace.{pick}
 use Rattle.format.specs.Reading.{same}
 use Rattle.format.specs.LayoutTheorems.{same-eq}
-use Rattle.vob24.specs.Utf8.{in?, wellFormed, encode, Encodes, none, more}
+use Rattle.vob24.specs.Utf8.{wellFormed, encode, Encodes, none, more}
 use Rattle.vob24.specs.Ranges.{inside, below, above, lt-or-ge}
 use Rattle.vob24_theorems.specs.Scalars.{well-formed-iff}
 use Rattle.alike.specs.Decompositions.{decompositions, replaced, decomposed, fold, scalars, alike}
 use Rattle.alike.specs.Table.{both, decomposed-outside}
-use Rattle.folding.specs.Bytes.{folds, foldOf, headFold, foldBytes}
+use Rattle.folding.specs.Bytes.{folds, foldOf, headFold, foldBytes, Without}
 use Rattle.folding.specs.FoldLaws.{fold-nil, fold-stays, fold-letter, head-plain, fold-plain}
 use Rattle.alike_theorems.specs.Characters.{encodeAll, encodeAll-append, Encoded, in1, in2, in3, in4, encoded, scalars-encode, scalars-encodeAll, decoded}
 use Rattle.alike_theorems.specs.Folds.{same-agree, folded-well-formed}
@@ -148,8 +148,6 @@ pub folded-bytes-well-formed : (x : List ℕ) → wellFormed x ≡ true → well
 folded-bytes-well-formed x h = rw (folded-bytes x h) (folded-well-formed x h)
 
 -- a name with no byte from C3 to C5 is its own fold
-pub plain-name-folds : (x : List ℕ) → wellFormed x ≡ true
-    → ((i : ℕ) → i < length x → in? 0xc3 0xc5 (getD x i 0) ≡ false)
-    → fold (scalars x) ≡ scalars x
+pub plain-name-folds : (x : List ℕ) → wellFormed x ≡ true → Without 0xc3 0xc5 x → fold (scalars x) ≡ scalars x
 plain-name-folds x h n =
     encodeAll-equal (fold (scalars x)) (scalars x) (sym (folded-bytes x h) ∙ fold-plain x n ∙ sym (decoded x h .back))

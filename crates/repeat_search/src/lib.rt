@@ -29,6 +29,10 @@ const MANY: usize = 24576;
 // How many items are searched for suspects at once: twelve to a word of the filter.
 const CLASS: usize = 196608;
 
+// How many comparisons with all items before find no repeat, in one pass, before another seed is tried. Evenly spread
+// hashes make some two; each that names are made to cause costs a walk over the table.
+const IN_VAIN: usize = 12;
+
 // An item repeats one before it; too many comparisons found no repeat; or go on, with the comparisons that are left.
 enum Probe {
     Repeat,
@@ -541,7 +545,7 @@ fn pass(
     ensures { λ q. ⌜ PassedOr (Chosen lo hi (keyHash table seed) (tailHash seed) (now (suspects .entry)))
         (keysAt table (now (s .entry)) from) n q ⌝ }
 {
-    let mut left: usize = 32;
+    let mut left = IN_VAIN;
     let mut p = from;
     let mut i = 0;
     while i < n {
