@@ -16,7 +16,7 @@ use Rattle.vob24.specs.Utf8.{in?}
 use Rattle.vob24.specs.Ranges.{inside, below, above}
 use Rattle.folding.specs.Bytes.{folds, foldOf, headFold, foldBytes}
 use Rattle.folding.specs.FoldLaws.{fold-nil, fold-stays, fold-letter, head-plain}
-use Rattle.folding.specs.Contract.{span, FoldAt, heldBytes, ahead, moreOf, Held, Unread, NextIs, PrefixIs, SameFolded, WithoutIs}
+use Rattle.folding.specs.Contract.{span, FoldAt, heldBytes, ahead, moreOf, Held, Unread, NextIs, PrefixIs, RunIs, SameFolded, WithoutIs}
 use Rattle.folding.specs.declared.Next.{Next}
 
 -- ---- the bytes from a place on
@@ -117,6 +117,9 @@ pub ruleset mores = (more-held, more-bytes)
 
 -- ---- the answers of `next_byte`
 
+none-held : Held 0
+none-held = record { least = λ e. absurd (e refl); small = omega arith }
+
 module _ {s : List ℕ} {at end held : ℕ} (u : Unread s at end held) where
   pub next-first : 512 ≤ held → NextIs s at end held (record { byte = 204; held = held - 256; at = at })
   unfolding pick
@@ -128,11 +131,12 @@ module _ {s : List ℕ} {at end held : ℕ} (u : Unread s at end held) where
       record {
         is = rw (ne-eqb held 0 a, le-ltb held 512 h, ne-eqb (held - 256) 0 b, lt-ltb (held - 256) 512 c, d);
         kept = record { least = λ e. omega arith; small = omega (arith, u .kept .small) };
+        within = λ l. l;
       }
 
   pub next-last : held < 512 → (held ≡ 0 → ⊥) → NextIs s at end held (record { byte = held - 256; held = 0; at = at })
   unfolding pick
-  next-last h a = record { is = rw (ne-eqb held 0 a, lt-ltb held 512 h); kept = record { least = λ e. absurd (e refl); small = omega arith } }
+  next-last h a = record { is = rw (ne-eqb held 0 a, lt-ltb held 512 h); kept = none-held; within = λ l. l }
 
   pub held-least : (held ≡ 0 → ⊥) → 256 ≤ held
   held-least = u .kept .least
@@ -149,7 +153,7 @@ module _ {s : List ℕ} {at end held : ℕ} (u : Unread s at end held) where
     module _ {f : ℕ} (w : FoldAt s at end f) where
       pub next-stays : {b : ℕ} → b ≡ getD s at 0 → f ≡ 0 → NextIs s at end held (record { byte = b; held = 0; at = at + 1 })
       unfolding pick
-      next-stays i z = record { is = bytes-only ∙ folded-stays s at end unread-some (u .room) w z ∙ rw (← i); kept = record { least = λ e. absurd (e refl); small = omega arith } }
+      next-stays i z = record { is = bytes-only ∙ folded-stays s at end unread-some (u .room) w z ∙ rw (← i); kept = none-held; within = λ l. omega (arith, unread-some) }
 
       pub next-letter : (f ≡ 0 → ⊥) → NextIs s at end held (record { byte = f / 256; held = 512 + f % 256; at = at + 2 })
       unfolding pick
@@ -160,6 +164,7 @@ module _ {s : List ℕ} {at end held : ℕ} (u : Unread s at end held) where
           record {
             is = bytes-only ∙ folded-letter s at end unread-some (u .room) w z ∙ rw (ne-eqb (512 + f % 256) 0 b, le-ltb (512 + f % 256) 512 c, d);
             kept = record { least = λ e. omega arith; small = omega arith };
+            within = λ l. omega (arith, letter-room s at end unread-some (u .room) w z);
           }
 
 pub ruleset nexts = (next-first, next-last, held-least, unread-some, next-stays, next-letter)
@@ -182,18 +187,19 @@ pub record Prefixing (s : List ℕ) (a e b f p q : ℕ) : Type 0 where
   pub within : p ≤ e
   pub other : q ≡ b + (p - a)
   pub back : q ≤ f
+  pub less : length (foldBytes (span s p e)) ≤ length (foldBytes (span s a e))
   pub leads : same (foldBytes (span s a e)) (foldBytes (span s b f)) ≡ same (foldBytes (span s p e)) (foldBytes (span s q f))
 
 module _ {s : List ℕ} {a e b f : ℕ} where
   pub prefix-start : a ≤ e → e ≤ length s → b ≤ f → f ≤ length s → Prefixing s a e b f a b
-  prefix-start h k i j = record { left = k; right = j; from = omega arith; within = h; other = omega arith; back = i; leads = refl }
+  prefix-start h k i j = record { left = k; right = j; from = omega arith; within = h; other = omega arith; back = i; less = omega arith; leads = refl }
 
   module _ {p q : ℕ} (l : Prefixing s a e b f p q) where
     pub prefix-done : PrefixIs s a e b f (p - a)
     prefix-done =
         let i : a + (p - a) ≡ p = omega (arith, l .from) in
         let j : b + (p - a) ≡ q = omega (arith, l .other) in
-        record { is = rw (i, j) (l .leads); fore = omega (arith, l .from, l .within); back = omega (arith, l .other, l .back) }
+        record { is = rw (i, j) (l .leads); fore = omega (arith, l .from, l .within); back = omega (arith, l .other, l .back); less = rw i (l .less) }
 
     pub prefix-more : {o : Bool} → p < e → q < f → getD s p 0 ≡ getD s q 0 → o ≡ in? 0xc3 0xc5 (getD s p 0) → o ≡ false
         → Prefixing s a e b f (p + 1) (q + 1)
@@ -205,6 +211,7 @@ module _ {s : List ℕ} {a e b f : ℕ} where
           within = omega arith;
           other = omega (arith, l .other, l .from);
           back = omega arith;
+          less = omega (arith, l .less, ap length (plain-first s p e h (l .left) (sym w ∙ z)));
           leads =
               l .leads
               ∙ rw (plain-first s p e h (l .left) (sym w ∙ z), plain-first s q f k (l .right) (sym (ap (in? 0xc3 0xc5) i) ∙ sym w ∙ z))
@@ -250,16 +257,30 @@ ahead-some s at end held k e = go (eqb held 0) refl
         held-some true = record { head = held - 256; tail = foldBytes (span s at end); is = refl }
         held-some false = record { head = 0xcc; tail = (held - 512) ∷ foldBytes (span s at end); is = refl }
 
+-- ---- the answers of `same_run`
+
+module _ {s : List ℕ} {a e h b f k : ℕ} where
+  pub run-none : a ≤ e → b ≤ f → RunIs s a e h b f k 0
+  run-none i j =
+      let x : a + 0 ≡ a = omega arith in
+      let y : b + 0 ≡ b = omega arith in
+      record { is = rw (x, y); fore = omega arith; back = omega arith; less = rw x (omega arith) }
+
+  pub run-prefix : {q : ℕ} → h ≡ 0 → k ≡ 0 → PrefixIs s a e b f q → RunIs s a e h b f k q
+  unfolding pick
+  run-prefix i j w = rw (i, j) (record { is = w .is; fore = w .fore; back = w .back; less = w .less })
+
+pub ruleset running = (run-none, run-prefix)
+
 -- a and m, b and n: where the two names start, and how many bytes they have; e and f: where they end
 pub record Comparing (s : List ℕ) (a m b n e f p h q k : ℕ) : Type 0 where
   pub left : e ≤ length s
   pub right : f ≤ length s
+  pub here : p ≤ e
+  pub there : q ≤ f
   pub fore : Held h
   pub back : Held k
   pub leads : same (foldBytes (part s a m)) (foldBytes (part s b n)) ≡ same (ahead s p e h) (ahead s q f k)
-
-none-held : Held 0
-none-held = record { least = λ e. absurd (e refl); small = omega arith }
 
 span-whole : (s : List ℕ) (a m e : ℕ) → e ≡ a + m → part s a m ≡ span s a e
 span-whole s a m e h = let i : e - a ≡ m = omega arith in rw i
@@ -272,7 +293,7 @@ module _ {s : List ℕ} {a m b n e f : ℕ} where
   pub comparing-start : {k : ℕ} → e ≡ a + m → f ≡ b + n → a + m ≤ length s → b + n ≤ length s → PrefixIs s a e b f k
       → Comparing s a m b n e f (a + k) 0 (b + k) 0
   unfolding pick
-  comparing-start i j k l w = record { left = omega arith; right = omega arith; fore = none-held; back = none-held; leads = rw (span-whole s a m e i, span-whole s b n f j) (w .is) }
+  comparing-start i j k l w = record { left = omega arith; right = omega arith; here = w .fore; there = w .back; fore = none-held; back = none-held; leads = rw (span-whole s a m e i, span-whole s b n f j) (w .is) }
 
   module _ {p h q k : ℕ} (l : Comparing s a m b n e f p h q k) where
     pub comparing-fore : {z : Bool} → z ≡ moreOf p e h → z ≡ true → Unread s p e h
@@ -300,15 +321,19 @@ module _ {s : List ℕ} {a m b n e f : ℕ} where
       pub comparing-other : (x .byte ≡ y .byte → ⊥) → SameFolded s a m b n false
       comparing-other d = record { is = sym (l .leads ∙ rw (v .is, w .is) (other-head _ _ _ _ d)) }
 
-      pub comparing-more : x .byte ≡ y .byte → Comparing s a m b n e f (x .at) (x .held) (y .at) (y .held)
-      comparing-more d = record { left = l .left; right = l .right; fore = v .kept; back = w .kept; leads = l .leads ∙ rw (v .is, w .is) (same-head _ _ _ d) }
+      pub comparing-run : (x .at ≤ e) × (e ≤ length s) × (y .at ≤ f) × (f ≤ length s)
+      comparing-run = (v .within (l .here), l .left, w .within (l .there), l .right)
+
+      pub comparing-more : {r : ℕ} → x .byte ≡ y .byte → RunIs s (x .at) e (x .held) (y .at) f (y .held) r
+          → Comparing s a m b n e f (x .at + r) (x .held) (y .at + r) (y .held)
+      comparing-more d g = record { left = l .left; right = l .right; here = g .fore; there = g .back; fore = v .kept; back = w .kept; leads = l .leads ∙ rw (v .is, w .is) (same-head _ _ _ d) ∙ g .is }
 
 -- each turn takes one byte
-pub comparing-less : {s : List ℕ} {p e h : ℕ} {x : Next} → NextIs s p e h x
-    → length (ahead s (x .at) e (x .held)) < length (ahead s p e h)
-comparing-less v = omega (arith, ap length (v .is))
+pub comparing-less : {s : List ℕ} {p e h q f k r : ℕ} {x : Next} → NextIs s p e h x
+    → RunIs s (x .at) e (x .held) q f k r → length (ahead s (x .at + r) e (x .held)) < length (ahead s p e h)
+comparing-less v g = omega (arith, ap length (v .is), g .less)
 
-pub ruleset comparing = (comparing-start, comparing-fore, comparing-back, comparing-end, comparing-short, comparing-other, comparing-more, comparing-less)
+pub ruleset comparing = (comparing-start, comparing-fore, comparing-back, comparing-end, comparing-short, comparing-other, comparing-run, comparing-more, comparing-less)
 
 -- ---- the loop of `without`
 

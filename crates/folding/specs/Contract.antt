@@ -43,12 +43,21 @@ pub record Unread (s : List ℕ) (at end held : ℕ) : Type 0 where
 pub record NextIs (s : List ℕ) (at end held : ℕ) (q : Next) : Type 0 where
   pub is : ahead s at end held ≡ q .byte ∷ ahead s (q .at) end (q .held)
   pub kept : Held (q .held)
+  pub within : at ≤ end → q .at ≤ end
 
 -- the first q bytes at a and at b, up to their ends, are the same and fold to themselves
 pub record PrefixIs (s : List ℕ) (a e b f q : ℕ) : Type 0 where
   pub is : same (foldBytes (span s a e)) (foldBytes (span s b f)) ≡ same (foldBytes (span s (a + q) e)) (foldBytes (span s (b + q) f))
   pub fore : a + q ≤ e
   pub back : b + q ≤ f
+  pub less : length (foldBytes (span s (a + q) e)) ≤ length (foldBytes (span s a e))
+
+-- the same of folded bytes that are still to come
+pub record RunIs (s : List ℕ) (a e h b f k q : ℕ) : Type 0 where
+  pub is : same (ahead s a e h) (ahead s b f k) ≡ same (ahead s (a + q) e h) (ahead s (b + q) f k)
+  pub fore : a + q ≤ e
+  pub back : b + q ≤ f
+  pub less : length (ahead s (a + q) e h) ≤ length (ahead s a e h)
 
 pub record SameFolded (s : List ℕ) (a m b n : ℕ) (q : Bool) : Type 0 where
   pub is : q ≡ same (foldBytes (part s a m)) (foldBytes (part s b n))

@@ -1,6 +1,6 @@
 use borrow.Author.Needs.{needs}
 use Rattle.folding.proofs.Folded.{comparing}
-use Rattle.folding.proofs.Folded.{Comparing, comparing-fore, comparing-back}
+use Rattle.folding.proofs.Folded.{Comparing, comparing-fore, comparing-back, comparing-run}
 use lib.ListN.{length}
 use Rattle.folding.specs.Contract.{ahead}
 use Rattle.folding.proofs.same_folded.Statement.{statement}
@@ -48,6 +48,15 @@ next-byte-requires-2 c κs = comparing-back ((c .before .before .before .before 
 returns-2 : tie.Need-returns-2 Inv-loop μ-loop
 returns-2 c = search (needs, comparing)
 
+same-run-requires : tie.Need-same-run-requires Inv-loop μ-loop
+same-run-requires c κs = comparing-run ((c .before .before .before .before .before .before .before .before .before .loop) .inv) ((c .before .before .before .before .next-byte) .ensures) ((c .before .before .before .next-byte2) .ensures)
+
+add-p-2 : tie.Need-add-p-2 Inv-loop μ-loop
+add-p-2 c = search (needs, (c .same-run) .ensures .fore, (c .before .before .before .before .before .before .before .before .before .before .loop) .inv .left, (c .before .before .before .before .before .before .before .before .before .before .before .before .before .good))
+
+add-q-2 : tie.Need-add-q-2 Inv-loop μ-loop
+add-q-2 c = search (needs, (c .same-run) .ensures .back, (c .before .before .before .before .before .before .before .before .before .before .loop) .inv .right, (c .before .before .before .before .before .before .before .before .before .before .before .before .before .good))
+
 loop-less : tie.Need-loop-less Inv-loop μ-loop
 loop-less c = search (needs, comparing)
 
@@ -64,5 +73,5 @@ pub same-folded-spec : {M : Type 1} → statement M
 same-folded-spec =
     tie.close
     (tie.spec Inv-loop μ-loop add-a-end add-b-end same-prefix-requires add-p add-q loop-holds more-requires
-    more-requires-2 returns next-byte-requires next-byte-requires-2 returns-2 loop-less loop-again more-requires-3
-    returns-3)
+    more-requires-2 returns next-byte-requires next-byte-requires-2 returns-2 same-run-requires add-p-2 add-q-2
+    loop-less loop-again more-requires-3 returns-3)
