@@ -2,16 +2,15 @@
 -- name.
 use Prim.Native.Nat.{ℕ, zero, suc, _+_, _-_, _/_, _%_, _≤_, _<_}
 use mathlib.Core.Path.{_≡_, refl, ap, sym, _∙_}
-use mathlib.Core.List.{List, [], _∷_, _++_, map, append-nil, append-assoc}
+use mathlib.Core.List.{List, [], _∷_, _++_, map}
 use mathlib.Core.Bool.{Bool, true, false, not}
 use native.Mathlib.Omega.{arith}
 use native.Mathlib.Numerals.{add-one}
-use lib.ListN.{length}
-use lib.Dec.{T, ltb, eqb}
-use borrow.Author.Tests.{eq-eqb, ne-eqb, not-false}
+use lib.Dec.{T, eqb}
+use borrow.Author.Tests.{eq-eqb, not-false}
 use Rattle.format.specs.Trace.{pick}
-use Rattle.format.specs.Format.{Value, text, start, content, first, Format, seq}
-use Rattle.format.specs.Reading.{little, part, same}
+use Rattle.format.specs.Format.{Value, content, first, Format, seq}
+use Rattle.format.specs.Reading.{same}
 use Rattle.format.specs.LayoutTheorems.{same-eq}
 use Rattle.vob24.specs.Utf8.{wellFormed}
 use Rattle.vob24.specs.Leaves.{str}
@@ -37,9 +36,9 @@ use Rattle.in_place.proofs.Texts.{text-part, text-length}
 use Rattle.in_place.proofs.Places.{name-stands, item-name}
 use Rattle.in_place.proofs.Walking.{Walking, walking-start, walking-here, walking-at, walking-next}
 use Rattle.repeat_search.specs.Keys.{repeatAt, FirstRepeat}
-use Rattle.repeat_search.specs.Tables.{exempt, repeats, keysAt, Standing}
+use Rattle.repeat_search.specs.Tables.{exempt, repeats, keysAt}
 use Rattle.repeat_search.proofs.Tables.{repeats-at}
-use Rattle.alike_names.specs.Contract.{tableOf, TableAt, Walks, found, past, TableWalk}
+use Rattle.alike_names.specs.Contract.{tableOf, TableAt, found, past, TableWalk}
 use Rattle.alike_names.specs.Search.{All, ItemsWithout, Repeats, nameAt, NearerIs, PartnerIs}
 use Rattle.alike_names.specs.Search as search
 use Rattle.alike_names.specs.Tables.{PastItems}

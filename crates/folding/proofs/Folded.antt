@@ -6,7 +6,7 @@ use mathlib.Core.Bool.{Bool, true, false, not}
 use native.Mathlib.Omega.{arith}
 use native.Mathlib.Numerals.{add-one}
 use lib.Dec.{eqb, ltb}
-use lib.ListN.{length, getD, take, drop}
+use lib.ListN.{length, getD, drop}
 use lib.Seq.{drop-cons, getD-take, getD-drop}
 use borrow.Author.Tests.{eq-eqb, ne-eqb, eqb-true, eqb-false, not-true, not-false, lt-ltb, le-ltb, ltb-true, ltb-false}
 use Rattle.format.specs.Trace.{pick}
@@ -16,7 +16,7 @@ use Rattle.vob24.specs.Utf8.{in?}
 use Rattle.vob24.specs.Ranges.{inside, below, above}
 use Rattle.folding.specs.Bytes.{folds, foldOf, headFold, foldBytes}
 use Rattle.folding.specs.FoldLaws.{fold-nil, fold-stays, fold-letter, head-plain}
-use Rattle.folding.specs.Contract.{span, FoldAt, heldBytes, ahead, moreOf, Held, Unread, NextIs, PrefixIs, RunIs, SameFolded, WithoutIs}
+use Rattle.folding.specs.Contract.{span, FoldAt, ahead, moreOf, Held, Unread, NextIs, PrefixIs, RunIs, SameFolded, WithoutIs}
 use Rattle.folding.specs.declared.Next.{Next}
 
 -- ---- the bytes from a place on

@@ -1,5 +1,5 @@
 -- The laws of marks, and the loop that compares the items whose mark is not new.
-use Prim.Native.Nat.{ℕ, suc, zero, _+_, _-_, _*_, _%_, _^_, _≤_, _<_}
+use Prim.Native.Nat.{ℕ, suc, zero, _+_, _-_, _*_, _≤_, _<_}
 use mathlib.Core.Path.{_≡_, refl, ap, sym, _∙_}
 use mathlib.Core.List.{List, [], _∷_}
 use mathlib.Core.Bool.{Bool, true, false, not}

@@ -1,15 +1,14 @@
 -- The laws of a name's last bytes: what the code reads is what the definition says, and folding leaves it.
 use Prim.Native.Nat.{ℕ, suc, zero, _+_, _-_, _*_, _/_, _%_, _≤_, _<_}
-use mathlib.Core.Path.{_≡_, refl, ap, sym, _∙_}
-use mathlib.Core.List.{List, [], _∷_, _++_}
+use mathlib.Core.Path.{_≡_, refl, sym, _∙_}
+use mathlib.Core.List.{List, [], _∷_}
 use mathlib.Core.Bool.{Bool, true, false}
 use native.Mathlib.Omega.{arith}
 use lib.Dec.{eqb, ltb}
 use lib.ListN.{length, getD}
-use borrow.Author.Tests.{lt-ltb, le-ltb, ltb-true, ltb-false, eqb-true, eqb-false}
+use borrow.Author.Tests.{lt-ltb, le-ltb, ltb-true, eqb-false}
 use Rattle.format.specs.Trace.{pick}
 use Rattle.format.specs.Reading.{little, part}
-use Rattle.format.specs.TraceTheorems.{part-length}
 use Rattle.folding.specs.Bytes.{foldOf, foldBytes}
 use Rattle.folding.specs.Letters.{letter-of}
 use Rattle.in_place.specs.declared.Table.{Table}
