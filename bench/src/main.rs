@@ -117,7 +117,6 @@ struct Case {
     name: &'static str,
     make: fn() -> Vec<u8>,
     call: Call,
-    /// Infinite where none is set.
     limit: f64,
 }
 
@@ -133,7 +132,7 @@ impl Case {
 
 const MEGABYTE: usize = 1_000_000;
 
-const CASES: [Case; 30] = [
+const CASES: [Case; 32] = [
     Case::read("bare", packs::bare, 0.5),
     Case::read("typical 1 MB", || packs::typical(MEGABYTE), 0.4),
     Case::read("typical 20 MB", || packs::typical(20 * MEGABYTE), 0.4),
@@ -153,13 +152,15 @@ const CASES: [Case; 30] = [
     Case::read("100,000 names", || packs::names(100_000), 0.5),
     Case::read("4,000,000 names", || packs::names(4_000_000), 2.5),
     Case::read("100,000 colliding names", || packs::colliding(100_000), 2.0),
+    Case::read("100,000 long names", || packs::long_names(100_000), 2.0),
     Case::alike("alike: typical 1 MB", || packs::typical(MEGABYTE), 2, 1.5),
     Case::alike("alike: typical 20 MB", || packs::typical(20 * MEGABYTE), 2, 1.5),
     Case::alike("alike: accented fields", || packs::accented_table(Table::Fields, 100_000), 1, 3.0),
     Case::alike("alike: accented methods", || packs::accented_table(Table::InterfaceNames, 100_000), 1, 3.0),
     Case::alike("alike: composed fields", || packs::composed_names(100_000), 1, 3.0),
-    Case::alike("alike: colliding", || packs::colliding_folded(100_000), 1, f64::INFINITY),
-    Case::alike("alike: long accented", || packs::long_accented_names(100_000), 1, f64::INFINITY),
+    Case::alike("alike: colliding", || packs::colliding_folded(100_000), 1, 3.0),
+    Case::alike("alike: long names", || packs::long_folded_names(100_000), 1, 3.0),
+    Case::alike("alike: long accented", || packs::long_accented_names(100_000), 1, 3.0),
     Case::alike("alike: accented structs", || packs::accented_structs(20_000, alike::folded), 1, 3.0),
     Case::alike("alike: small tables", || packs::small_tables(10_000), 1, 3.0),
     Case::alike("alike: 4,000,000 names", || packs::names(4_000_000), 1, 3.0),

@@ -601,6 +601,23 @@ pub fn colliding(n: usize) -> Vec<u8> {
     in_table(Table::Fields, one_hash(n))
 }
 
+/// Names of one hash made to differ in it: each has its number before its last 32 bytes. As long as before, they show what a collision costs.
+fn numbered_inside(names: impl ExactSizeIterator<Item = Vec<u8>>) -> impl ExactSizeIterator<Item = Vec<u8>> {
+    names.enumerate().map(|(i, mut name)| {
+        let end = name.len() - 32;
+        name[end - 8..end].copy_from_slice(format!("{i:08}").as_bytes());
+        name
+    })
+}
+
+pub fn long_names(n: usize) -> Vec<u8> {
+    in_table(Table::Fields, numbered_inside(one_hash(n)))
+}
+
+pub fn long_folded_names(n: usize) -> Vec<u8> {
+    in_table(Table::Fields, numbered_inside(one_folded_hash(n)))
+}
+
 pub fn colliding_folded(n: usize) -> Vec<u8> {
     in_table(Table::Fields, one_folded_hash(n))
 }
