@@ -38,6 +38,7 @@ all_fit? least (d ∷ ds) = fits? least d && all_fit? (suc (letter_of d)) ds
 
 pub both : (a b : Bool) → T (a && b) → T a × T b
 both true b t = (tt, t)
+both false b t = elim t [ ]
 
 either : (a b : Bool) → T (a || b) → T a ⊎ T b
 either true b t = inl tt
@@ -81,6 +82,7 @@ lower h f = record { above = omega arith; within = f.within; base = f.base; mark
 each_fits : {least : ℕ} {d : ℕ × ℕ × ℕ} {ds : List (ℕ × ℕ × ℕ)} → AllFit least ds → Memᴰ d ds → Fits least d
 each_fits (also f r) (Memᴰ.head e) = subst (Fits _) (sym e) f
 each_fits (also f r) (Memᴰ.tail m) = lower (omega arith) (each_fits r m)
+each_fits {d = d} (done {least = least}) x4 = elim x4 [ ]
 
 -- ---- what a character is replaced by
 
@@ -124,6 +126,7 @@ unique (also f r) (Memᴰ.head p) (Memᴰ.head q) h = p ∙ sym q
 unique (also f r) (Memᴰ.head p) (Memᴰ.tail m) h = absurd (omega (arith, ap letter_of p, (each_fits r m).above))
 unique (also f r) (Memᴰ.tail m) (Memᴰ.head q) h = absurd (omega (arith, ap letter_of q, (each_fits r m).above))
 unique (also f r) (Memᴰ.tail m) (Memᴰ.tail n) h = unique r m n h
+unique {d = d} {e = e} (done {least = least}) x10 _ h = elim x10 [ ]
 
 pub letter-decomposed : {c : ℕ} (r : RowOf decompositions c) → decomposed c ≡ base_of r.row ∷ mark_of r.row ∷ []
 letter-decomposed {c} r = go (decomposed-by-row c)

@@ -1,4 +1,6 @@
 // Names that print alike, found where they stand in a pack that was read.
+#![tactic(auto)]
+
 ghost use Rattle.vob24.specs.Settings.{settings_of};
 ghost use Rattle.vob24.specs.Grammar.{pack};
 ghost use Rattle.in_place.specs.Contract.{Placed};

@@ -1,5 +1,7 @@
 // The answers of the public calls as six numbers, for the calls over the C ABI.
 // The Rust has none of these.
+#![tactic(auto)]
+
 ghost use Rattle.std.specs.Prelude.{◌≡◌};
 ghost use Rattle.calls.specs.Contract.{answer_of};
 ghost use Rattle.lookup.specs.Look.{found_of};

@@ -1,6 +1,8 @@
 // What the public calls share: the questions before a first pass, the question of room after it, and their contracts.
 // A call reads twice by the same code: first with an empty tape, which counts the words, then, where there is room,
 // with the tape.
+#![tactic(auto)]
+
 ghost use Rattle.std.specs.Prelude.{◌≡◌, ◌≤◌, length};
 ghost use Rattle.std.proofs.Math.Seq.{paste};
 ghost use Rattle.calls.specs.Contract.{Opens, Since, StaysWithin, Ends, Closes, ended};

@@ -1,5 +1,7 @@
 // The constants of a module. A constant is answered as an enum, a text as its start and length in the pack.
 // Ports Constant of bytecode.rs and its reading by Module::deserialize of serialize.rs.
+#![tactic(auto)]
+
 ghost use Rattle.vob24.specs.Settings.{settings_of};
 ghost use Rattle.std.specs.Prelude.{◌≡◌};
 ghost use Rattle.vob24.specs.Leaves.{u64, bool, str};

@@ -1,6 +1,8 @@
 // The debug information: source files, the locations of each function's code, and the sources of inlined code.
 // Ports what Module::deserialize and read_inline_sources of serialize.rs read into the records of debug_info.rs and
 // debug_info/inline.rs.
+#![tactic(auto)]
+
 ghost use Rattle.std.specs.Prelude.{◌≡◌, ◌+◌, ◌*◌, ◌%◌, ◌≤◌, ◌<◌, min};
 ghost use Rattle.format.specs.Format.{times};
 ghost use Rattle.vob24.specs.Settings.{settings_of};

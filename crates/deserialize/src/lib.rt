@@ -1,5 +1,7 @@
 // The whole pack: magic, version and the seventeen sections, in file order.
 // Ports Module::deserialize of serialize.rs.
+#![tactic(auto)]
+
 ghost use Rattle.vob24.specs.Settings.{settings_of};
 ghost use Rattle.vob24.specs.Grammar as vob;
 ghost use Rattle.reader.specs.Contract.{step_of, Ready, Reader, ComesTo};

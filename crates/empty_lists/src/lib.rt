@@ -1,6 +1,8 @@
 // Fast path for zero bytes, which are lists without entries: a small pack has no types, or no code, or no artifacts and
 // debug information.
 // The Rust has none of these; it reads each by `read_vec` of serialize.rs.
+#![tactic(auto)]
+
 ghost use Rattle.std.specs.Prelude.{true, ◌≡◌, ◌≤◌};
 ghost use Rattle.reader.specs.Contract.{ReadyAt};
 ghost use Rattle.empty_lists.specs.Empty.{Zeros, PastEmpty};

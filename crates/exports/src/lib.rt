@@ -1,6 +1,8 @@
 // The calls for programs in C or Rust to link (rt staticlib exports): whole pack, sections, lookup, names alike, source
 // lines and the table of sizes, over the C ABI. The Rust has none of these; bindings/c/vob.h declares them. An answer is returned by value, so
 // a refusal changes no lent memory.
+#![tactic(auto)]
+
 ghost use Rattle.std.specs.Prelude.{◌≡◌};
 ghost use Rattle.vob24.specs.Settings.{settings, size_of};
 ghost use Rattle.vob24.specs.Grammar as vob;

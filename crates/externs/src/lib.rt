@@ -1,5 +1,7 @@
 // The externs of a module, the functions of its host that it calls: none so far.
 // Ports the extern list that Module::deserialize of serialize.rs reads, up to the list's charge.
+#![tactic(auto)]
+
 ghost use Rattle.vob24.specs.Settings.{settings_of};
 ghost use Rattle.reader.specs.Contract.{Ready, Reader};
 ghost use Rattle.externs.specs.Externs.{extern_list};

@@ -2,6 +2,8 @@
 // refusal up. `field_` readers take the answer so far and give the next; `number_` and `span_` readers start at a
 // cursor and also return the number, or the start and length, that they read. Ports the read_ functions of serialize.rs
 // on one field.
+#![tactic(auto)]
+
 ghost use Rattle.format.specs.Format.{number};
 ghost use Rattle.vob24.specs.Settings.{settings_of};
 ghost use Rattle.vob24.specs.Leaves.{u8, u16, u32, u64, optional_id, bool, slot_type, value_kind, direction, value_meta, value_rttid, source_u32, str, member_name, optional};

@@ -1,5 +1,7 @@
 // The bytes of a name as if its letters with a canonical decomposition were decomposed: one by one, without a copy of
 // the name.
+#![tactic(auto)]
+
 ghost use Rattle.std.specs.Prelude.{◌≡◌, ◌+◌, ◌-◌, ◌*◌, ◌≤◌, ◌<◌, length};
 ghost use Rattle.vob24.specs.Utf8.{in?};
 ghost use Rattle.folding.specs.Contract.{more_of, FoldAt, Unread, NextIs, PrefixIs, RunIs, SameFolded, WithoutIs};

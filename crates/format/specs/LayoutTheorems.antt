@@ -5,7 +5,7 @@ use Rattle.std.proofs.Math.Nat.{one-le-pow}
 use Rattle.std.proofs.Math.Seq.{take-append_seam, drop-append_seam}
 use Rattle.std.proofs.Math.Dec.{eqb_refl, not_T}
 use Rattle.format.specs.Trace.{Wrong, Trace, needs, guard, pick, out, Ends}
-use Rattle.format.specs.Format.{Value, none, number, content, first, second, Ask, pay, Leaf, fixed, mark, packed, string, payload, count, ask, Format, empty, leaf, seq}
+use Rattle.format.specs.Format.{Value, none, number, content, first, second, Ask, pay, Leaf, fixed, mark, packed, string, payload, count, ask, Format, empty, leaf, seq, deny}
 use Rattle.format.specs.Reading.{little, part, same, size, room, field, packed_step, trace_packed, trace_ask, trace_leaf, trace}
 use Rattle.format.specs.Layout.{digits, groups, Bytes, bytes_leaf, bytes, clear, ValidLeaf, Valid, ahead_leaf, ahead}
 use Rattle.format.specs.TraceTheorems.{Ends-guard, guard-true, bind-out, Passed, part_length, field-ends, leaf-ends, Stepped, last, more, stepped, seq-read, seq-ends}
@@ -63,6 +63,9 @@ same-eq (x ∷ xs) (y ∷ ys) h = go (eqb x y) (eqb→eq x y) (same-eq xs ys) h
   where
     go : (d : Bool) → (T d → x ≡ y) → (T (same xs ys) → xs ≡ ys) → T (pick d (same xs ys) false) → x ∷ xs ≡ y ∷ ys
     go true e i t = let a = e tt in let b = i t in cc
+    go false e i t = elim t [ ]
+same-eq [] (y ∷ ys) h = elim h [ ]
+same-eq (x ∷ xs) [] h = elim h [ ]
 
 pub same_refl : (xs : List ℕ) → T (same xs xs)
 unfolding same pick
@@ -71,6 +74,7 @@ same_refl (x ∷ xs) = go (eqb x x) (eqb_refl x) (same_refl xs)
   where
     go : (d : Bool) → T d → T (same xs xs) → T (pick d (same xs xs) false)
     go true e i = i
+    go false e i = elim e [ ]
 
 -- a fixed-width number and its bytes in the pack
 number-there : (s : List ℕ) (p k : ℕ) → Bytes s → p + k ≤ length s
@@ -99,6 +103,7 @@ ask-read : (l : List Ask) (p : ℕ) → T (clear l) → Ends (trace_ask l p) non
 unfolding trace_ask clear out
 ask-read [] p h = refl
 ask-read (pay c n ∷ l) p h = ask-read l p h
+ask-read (deny _ ∷ l) p h = elim h [ ]
 
 leaf-read : (l : Leaf) (s : List ℕ) (p : ℕ) (v : Value) (q : ℕ) → Passed l s p v q → Ends (trace_leaf l s p) v q
 unfolding trace_leaf out
@@ -124,6 +129,7 @@ groups-small k n h = go (ltb n 128) (lt→ltb n 128 h)
   where
     go : (d : Bool) → T d → pick d (n ∷ []) ((128 + n % 128) ∷ groups k (n / 128)) ≡ n ∷ []
     go true t = refl
+    go false t = elim t [ ]
 
 groups-large : (k n : ℕ) → 128 ≤ n → groups (suc k) n ≡ (128 + n % 128) ∷ groups k (n / 128)
 unfolding groups pick
@@ -185,11 +191,13 @@ byte_of s p c h = ap little h ∙ omega arith
 step-last : (d : Bool) (m b p : ℕ) (t : Trace ℕ) → T d → m ≤ b → Ends (packed_step d m b p t) b p
 unfolding packed_step out
 step-last true m b p t u h = guard_out _ _ _ _ (le→leb m b h)
+step-last false m b p t u h = elim u [ ]
 
 step-more : (d : Bool) (m b p : ℕ) (t : Trace ℕ) {x q : ℕ} → T (not d) → Ends t x q
     → Ends (packed_step d m b p t) (b - 128 + 128 * x) q
 unfolding packed_step out
 step-more false m b p t u h = (bind-out t _ h).0
+step-more true m b p t {q = q} u h = elim u [ ]
 
 groups-read : (k m : ℕ) (s : List ℕ) (p n : ℕ) → n < 16 * 128 ^ k → m ≤ n → At s p (groups k n)
     → p + length (groups k n) ≤ length s → Ends (trace_packed k m s p) n (p + length (groups k n))

@@ -14,6 +14,7 @@ settle-reached b (charge c n p t) h = go (leb n b) (le→leb n b (omega arith)) 
     go : (d : Bool) → T d → settle (b - n) t ≡ finish (b - n - total t) t
         → pick d (settle (b - n) t) (refused (spent c n b) p b) ≡ finish (b - (n + total t)) t
     go true x e = e ∙ ap (λ k. finish k t) (omega arith)
+    go false x e = elim x [ ]
 settle-reached b (needs n p t) h = settle-reached b t h
 
 pub covered-longest : (b : ℕ) (ns : List ℕ) → Longest b ns (covered b ns)

@@ -36,6 +36,7 @@ Ends-guard false w p t h = let z : ◌≡◌ {A = ℕ} 0 1 = cc in absurd (omega
 pub guard-true : {A : Type 0} (d : Bool) (w : Wrong) (p : ℕ) (t : Trace A) → T d → guard d w p t ≡ t
 unfolding guard
 guard-true true w p t h = refl
+guard-true {A = A} false w p t h = elim h [ ]
 
 abbrev pub Passed : Leaf → List ℕ → ℕ → Value → ℕ → Type 0
 Passed (fixed w r) s p v q = (p + size w ≤ length s) × T (r.test (little (part s p (size w)))) × (v ≡ num (little (part s p (size w)))) × (q ≡ p + size w)

@@ -1,6 +1,8 @@
 // The functions section: each function's head, returns, traits, slot types, code, captures and parameters.
 // Ports FunctionDef of bytecode.rs and its reading in serialize.rs. Transfer words are judged after their whole list,
 // the slot count last of all. The list also returns the number of functions, which limits the inline sources.
+#![tactic(auto)]
+
 ghost use Rattle.vob24.specs.Settings.{settings_of};
 ghost use Rattle.format.specs.Format.{counted};
 ghost use Rattle.reader.specs.Contract.{Ready, ReadyAt, Reader, NumberOf};

@@ -2,6 +2,8 @@
 // have the same key.
 // Ports the comparisons behind the maps and sets of serialize.rs. There is no heap: names are compared where they
 // stand.
+#![tactic(auto)]
+
 ghost use Rattle.std.specs.Prelude.{◌≡◌, ◌+◌, ◌≤◌, ◌<◌, length};
 ghost use Rattle.vob24.specs.Leaves.{str, optional};
 ghost use Rattle.vob24.specs.Grammar.{runtime_field};

@@ -1,5 +1,7 @@
 // Instructions: the code of a function.
 // Ports Instruction of instruction.rs and its reading by Module::deserialize of serialize.rs.
+#![tactic(auto)]
+
 ghost use Rattle.vob24.specs.Settings.{settings_of};
 ghost use Rattle.std.specs.Prelude.{◌≡◌, ◌+◌, ◌*◌, ◌≤◌, length};
 ghost use Rattle.std.proofs.lemmas.List.Edits.{sets};

@@ -1,5 +1,7 @@
 // The interface section: each interface's method names and methods, then a set of each list's names.
 // Ports what Module::deserialize of serialize.rs reads into InterfaceMeta and InterfaceMethodMeta of bytecode.rs.
+#![tactic(auto)]
+
 ghost use Rattle.vob24.specs.Settings.{settings_of};
 ghost use Rattle.reader.specs.Contract.{Ready, Reader};
 ghost use Rattle.reader.specs.Accepted.{Accepted};

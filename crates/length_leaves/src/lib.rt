@@ -1,6 +1,8 @@
 // Leaves with a length or a count: payloads, texts, and the counts of lists, each with the bytes left and the charge.
 // Ports read_bytes, read_string and, for the counts, what read_vec, read_debug_vec and their kin of `impl ByteReader`
 // in serialize.rs ask before the first item.
+#![tactic(auto)]
+
 ghost use Rattle.std.specs.Prelude.{◌≡◌, ◌+◌, ◌≤◌, length as length_of};
 ghost use Rattle.format.specs.Format.{Leaf};
 ghost use Rattle.vob24.specs.Refusals;

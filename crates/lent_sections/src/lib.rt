@@ -1,5 +1,7 @@
 // The section call that is lent its place and budget and advances them, over the section call by value.
 // The Rust has no such call; its ByteReader does the same with pos and allocation_remaining.
+#![tactic(auto)]
+
 ghost use Rattle.vob24_data.specs.Sections.{section_of, functions_of};
 ghost use Rattle.position.specs.Contract.{LentCall};
 

@@ -1,6 +1,8 @@
 // The items of lists of u16, u32 and slot types, after the count. As many as possible are read at once, as a run.
 // Ports the loops of `read_vec` in serialize.rs over them. A run stops before an item that is refused, or whose words
 // do not all fit the tape; the rest is read item by item.
+#![tactic(auto)]
+
 ghost use Rattle.std.specs.Prelude.{◌≡◌, false, [], ◌∷◌, ◌+◌, ◌-◌, ◌*◌, ◌≤◌, ◌<◌, length};
 ghost use Rattle.format.specs.Reading.{little, part};
 ghost use Rattle.vob24.specs.Leaves.{u16, u32, slot_type};

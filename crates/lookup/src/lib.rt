@@ -1,5 +1,7 @@
 // The artifact of a name: the first in the file whose name has exactly these bytes, found in the pack itself.
 // The Rust's Module::artifact is a binary search; document 01 asks for the first.
+#![tactic(auto)]
+
 ghost use Rattle.std.specs.Prelude.{◌+◌, ◌≤◌, length};
 ghost use Rattle.vob24.specs.Settings.{settings_of};
 ghost use Rattle.vob24.specs.Grammar.{artifact};

@@ -1,5 +1,7 @@
 // The named-type section: each named type's methods; a method's name is compared right after its record.
 // Ports what Module::deserialize of serialize.rs reads into NamedTypeMeta and MethodInfo of bytecode.rs.
+#![tactic(auto)]
+
 ghost use Rattle.vob24.specs.Settings.{settings_of};
 ghost use Rattle.reader.specs.Contract.{Ready, ReadyAt, Reader};
 ghost use Rattle.reader.specs.Accepted.{Accepted};

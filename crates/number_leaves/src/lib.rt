@@ -1,5 +1,7 @@
 // Leaves that judge a number by a rule, packed numbers, and the file's marks.
 // Ports the methods of `impl ByteReader` in serialize.rs that judge what they read.
+#![tactic(auto)]
+
 ghost use Rattle.format.specs.Format.{Leaf, Width};
 ghost use Rattle.vob24.specs.Leaves.{at_most, at_most_bare, packed_word, magic_mark, version_mark};
 ghost use Rattle.vob24.specs.Grammar.{metadata_tag};

@@ -1,6 +1,8 @@
 // The public calls on a whole pack: reading it under a budget, the lookup of an artifact, names that print alike, and the
 // source line of an address.
 // Port the callers' side of Module::deserialize and Module::artifact; the budget and the tape are added.
+#![tactic(auto)]
+
 ghost use Rattle.vob24.specs.Settings.{settings, settings_of};
 ghost use Rattle.vob24_data.specs.Sections.{section_of};
 ghost use Rattle.calls.specs.Contract.{Opens, ReadCall};

@@ -1,5 +1,7 @@
 // Answers for the pack on standard input, of at most 65,536 bytes, under the Rust's budget and with a tape of 16,384
 // words, in one line: `taken WORDS BYTES CHARGED LEFT` or `refused NUMBER C D1 D2 PLACE LEFT`.
+#![tactic(auto)]
+
 ghost use Rattle.std.specs.Prelude.{◌≤◌, length};
 
 use calls::Answer;

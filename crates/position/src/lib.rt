@@ -1,5 +1,7 @@
 // A place and a budget that the lent section call advances, and where an answer moves them.
 // The Rust's ByteReader does the same with pos and allocation_remaining.
+#![tactic(auto)]
+
 ghost use Rattle.position.specs.Moving.{Fits, Moves};
 
 use calls::Answer;

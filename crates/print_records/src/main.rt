@@ -1,6 +1,8 @@
 // Prints one record of each kind from its bytes: runtime types, instructions' metadata, select cases and constants. A
 // line has the enum's case with its fields; for a record, the start and count of its lists; then the place after it. A
 // constant's line ends with its words on the tape.
+#![tactic(auto)]
+
 ghost use Rattle.std.specs.Prelude.{◌≤◌, ◌≡◌, length};
 
 use constants::answers::{Constant, ConstantRead};

@@ -1,5 +1,7 @@
 // The whole pack section by section, and where one of the sections stands: what a later question about a pack starts
 // from. The Rust has none of this.
+#![tactic(auto)]
+
 ghost use Rattle.std.specs.Prelude.{◌≡◌, ◌+◌, ◌≤◌, ◌<◌};
 ghost use Rattle.vob24.specs.Settings.{settings_of};
 ghost use Rattle.vob24_data.specs.Sections.{section_of};

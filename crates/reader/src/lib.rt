@@ -1,6 +1,8 @@
 // The types that readers pass on, the contract that they share and its laws, numbers of fixed width, and charges.
 // Ports `struct ByteReader` of serialize.rs and its plainest methods: place and budget go in by value, as a Cursor, and
 // come back in the answer. No leaf writes to the tape; the field readers of crate fields do, by `keep`.
+#![tactic(auto)]
+
 ghost use Rattle.std.specs.Prelude.{◌+◌, ◌≡◌, set};
 ghost use Rattle.std.specs.Float.{binary64};
 ghost use Rattle.std.specs.Float.Ieee.{of_bits};

@@ -1,5 +1,7 @@
 // Runs document 01's marked cases through the leaves. A line says what was taken, for a text how many characters, or
 // the refusal's number; then the place.
+#![tactic(auto)]
+
 ghost use Rattle.std.specs.Prelude.{◌≡◌};
 
 use libc::STDOUT_FILENO;

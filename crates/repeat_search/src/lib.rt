@@ -1,6 +1,8 @@
 // The first item of a table that repeats one before it. A filter says which items are to be compared with all before
 // them.
 // Stands in for the HashMap and HashSet by which serialize.rs finds repeats.
+#![tactic(auto)]
+
 ghost use Rattle.std.specs.Prelude.{◌≡◌, ◌+◌, ◌≤◌, ◌<◌, length};
 ghost use Rattle.format.specs.Reading.{part};
 ghost use Rattle.vob24.specs.Grammar.{runtime_field};

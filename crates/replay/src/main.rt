@@ -1,5 +1,7 @@
 // Replays the lists of the oracle's answers that its arguments name: whole packs, section calls, lookups, texts alone, names
 // that print alike, and source lines. Prints each difference, and a line for each list.
+#![tactic(auto)]
+
 use alike_names::Alike;
 use lent_sections::Position;
 use lookup::Found;

@@ -1,6 +1,8 @@
 // The members of runtime types: the fields of a struct, no two with the same identity, and the methods of an interface,
 // no two with the same name.
 // Ports StructField and InterfaceMethod of runtime_type.rs and their reading by read_runtime_type of serialize.rs.
+#![tactic(auto)]
+
 ghost use Rattle.vob24.specs.Settings.{settings_of};
 ghost use Rattle.format.specs.Format.{counted};
 ghost use Rattle.reader.specs.Contract.{Ready, ReadyAt, Reader, NumberOf};

@@ -1,6 +1,8 @@
 // Runtime types, and the section that lists them.
 // Ports RuntimeType of runtime_type.rs and read_runtime_type of serialize.rs. A runtime type is answered as an enum
 // without lists, held in a record beside its lists' starts and counts.
+#![tactic(auto)]
+
 ghost use Rattle.vob24.specs.Settings.{settings_of};
 ghost use Rattle.std.specs.Prelude.{◌≡◌, ◌<◌};
 ghost use Rattle.format.specs.Format.{counted};

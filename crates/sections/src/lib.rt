@@ -1,5 +1,7 @@
 // The section call by value: one section of a pack alone, from a place and a budget, into a tape of its own.
 // The Rust has no such call; it reads what Module::deserialize reads of the section.
+#![tactic(auto)]
+
 ghost use Rattle.vob24.specs.Settings.{settings};
 ghost use Rattle.vob24_data.specs.Sections.{section_of, functions_of};
 ghost use Rattle.calls.specs.Contract.{SectionCall};

@@ -1,5 +1,7 @@
 // The cases of a select, which are the list of their metadata's record (crate metadata, SelectExecLayout).
 // Ports SelectCaseLayout of bytecode.rs and its reading in serialize.rs, read_instruction_metadata_for_version.
+#![tactic(auto)]
+
 ghost use Rattle.vob24.specs.Settings.{settings_of};
 ghost use Rattle.std.specs.Prelude.{◌≡◌};
 ghost use Rattle.format.specs.Format.{counted};

@@ -2,6 +2,8 @@
 // Ports `read_vec(read_slot_type)` of serialize.rs.
 // Most lists have one item or two: a list of at most four is tested whole, and then kept, without a loop. Where a test
 // fails, nothing is kept yet, and the answer is that of `number_any`, which reads any list and makes every refusal.
+#![tactic(auto)]
+
 ghost use Rattle.format.specs.Format.{counted};
 ghost use Rattle.vob24.specs.Settings.{settings_of};
 ghost use Rattle.vob24.specs.Grammar.{slot_types};

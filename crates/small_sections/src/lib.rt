@@ -1,5 +1,7 @@
 // The tables of a module and its single ids: itabs, well-known ids, globals, entry, island init, artifacts.
 // Ports what Module::deserialize of serialize.rs reads into the records of bytecode.rs.
+#![tactic(auto)]
+
 ghost use Rattle.vob24.specs.Settings.{settings_of};
 ghost use Rattle.vob24.specs.Leaves.{u32};
 ghost use Rattle.reader.specs.Contract.{Ready, Reader};

@@ -1,6 +1,8 @@
 // Which source line was that: the entry of a function's debug locations that an address belongs to, found where the
 // locations stand in a pack that was read. The Rust's DebugInfo::span_at is a binary search; here entries need not be
 // sorted.
+#![tactic(auto)]
+
 ghost use Rattle.std.specs.Prelude.{◌≡◌, ◌<◌};
 ghost use Rattle.vob24.specs.Settings.{settings_of};
 ghost use Rattle.vob24.specs.Grammar.{location};

@@ -1,5 +1,7 @@
 // The oracle's stored answers: reads a list's records one by one, and holds what a call answered against what a record
 // says. oracle/README.md has the format.
+#![tactic(auto)]
+
 ghost use Rattle.std.specs.Prelude.{◌<◌, ◌≤◌, length};
 
 use calls::Answer;

@@ -1,5 +1,7 @@
 // The struct section: each struct's slot types and fields, then the index of its fields.
 // Ports what Module::deserialize of serialize.rs reads into StructMeta and FieldMeta of bytecode.rs.
+#![tactic(auto)]
+
 ghost use Rattle.vob24.specs.Settings.{settings_of};
 ghost use Rattle.reader.specs.Contract.{Ready, Reader};
 ghost use Rattle.reader.specs.Accepted.{Accepted};

@@ -1,5 +1,7 @@
 // Questions on the transfer words of a function (20): is each a kind and an id?
 // Ports the checks of transfer types of serialize.rs.
+#![tactic(auto)]
+
 ghost use Rattle.std.specs.Prelude.{◌≡◌, ◌<◌, [], map};
 ghost use Rattle.vob24.specs.Leaves.{packed_ok};
 ghost use Rattle.vob24.specs.Questions.{function_wrong, transfer_words};

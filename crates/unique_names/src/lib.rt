@@ -1,6 +1,8 @@
 // Questions on the names of a list that was read: is each new among those before it, and what does its key cost?
 // Ports build_struct_field_index, validate_unique_interface_method_names, insert_named_method, and the check of runtime
 // struct fields of serialize.rs.
+#![tactic(auto)]
+
 ghost use Rattle.std.specs.Prelude.{◌≡◌, ◌≤◌, ◌<◌, [], map};
 ghost use Rattle.format.specs.Trace.{pick};
 ghost use Rattle.vob24.specs.Settings.{settings_of};

@@ -3,6 +3,8 @@
 // it. The plain scan goes character by character. A faster test holds each byte against the three before it, many at
 // once (crate `utf8_parts`). It only accepts: what it does not accept goes to the plain scan, so that every refusal
 // comes from there.
+#![tactic(auto)]
+
 ghost use Rattle.std.specs.Prelude.{◌≡◌, true, ◌+◌, ◌≤◌, ◌<◌, length, take, drop};
 ghost use Rattle.vob24.specs.Utf8 as Utf8;
 ghost use Rattle.utf8_parts.specs.Parts.{Ascii};

@@ -1,6 +1,8 @@
 // Many bytes of a text at once: may each follow the three before it, and how many of them are trailing bytes?
 // The rows of Table 3-7 of the Unicode Standard, seen from a byte and not from a character. A test only accepts: of
 // bytes that it does not accept nothing is said.
+#![tactic(auto)]
+
 ghost use Rattle.std.specs.Prelude.{◌≡◌, true, ℕ, ◌+◌, ◌-◌, ◌≤◌, ◌<◌, length};
 ghost use Rattle.utf8_parts.specs.Parts.{Ascii, Flipped, Pair, Near, Stands, is_trailing, Most, Tests, PartOf};
 

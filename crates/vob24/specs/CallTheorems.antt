@@ -63,6 +63,7 @@ module _ (f : Format) (a b : ℕ) (tape : List ℕ) where
       go : (d : Bool) → T d
           → pick {A = Outcome} d (record { answer = Taken (length ws) (p - a) (b - l) l; tape = ws ++ drop (length ws) tape }) (record { answer = Refused (no_room_for (length ws) (length tape)) p l; tape = tape }) ≡ record { answer = Taken (length ws) (p - a) (b - l) l; tape = ws ++ drop (length ws) tape }
       go true x = refl
+      go false x = elim x [ ]
 
   written-short : (ws : List ℕ) (p l : ℕ) → length tape < length ws
       → written a b tape ws p l ≡ record { answer = Refused (no_room_for (length ws) (length tape)) p l; tape = tape }

@@ -131,7 +131,7 @@ names-free seen (v ∷ vs) = refuse-free _ _ _ ∙ names-free (content v ∷ see
 pub identities-free : (seen xs : List Questions.Identity) → charges_ask (Questions.new_identities seen xs) ≡ 0
 unfolding Questions.new_identities charges_ask
 identities-free seen [] = refl
-identities-free seen (x ∷ xs) = refuse-free _ _ _ ∙ identities-free _ xs
+identities-free seen (x ∷ xs) = refuse-free _ _ _ ∙ identities-free (pick (Questions.blank x.1) seen (x ∷ seen)) xs
 
 pub transfers-free : (c i : ℕ) (xs : List (ℕ × ℕ)) → charges_ask (Questions.transfer_words c i xs) ≡ 0
 unfolding Questions.transfer_words charges_ask

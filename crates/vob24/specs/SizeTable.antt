@@ -18,6 +18,8 @@ all-within (n ∷ ns) t = go (leb 1 n) (leb n 4096) (leb→le 1 n) (leb→le n 4
     go : (a b : Bool) → (T a → 1 ≤ n) → (T b → n ≤ 4096) → (T (within? ns) → AllWithin ns)
         → T (pick a (pick b (within? ns) false) false) → AllWithin (n ∷ ns)
     go true true x y r t = also (x tt) (y tt) (r t)
+    go false b x y r t = elim t [ ]
+    go true false x y r t = elim t [ ]
 
 pub settings-licensed : Licensed settings
 unfolding pick

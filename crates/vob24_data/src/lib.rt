@@ -1,5 +1,7 @@
 // What the code shares of the VOB 24 rule pack: the list of sections, and the table of sizes and limits that every
 // charge reads. Ports the `size_of` terms and the limits of serialize.rs.
+#![tactic(auto)]
+
 ghost use Rattle.std.specs.Prelude.{◌≡◌, ◌≤◌, ◌<◌, get_or};
 ghost use Rattle.vob24.specs.Settings.{settings, settings_of, size_of};
 ghost use Rattle.vob24.specs.Grammar.{inline_sources};

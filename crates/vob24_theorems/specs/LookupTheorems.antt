@@ -35,6 +35,7 @@ pub data FirstNamed (name : List ℕ) (a : Value) : List Value → Type 0 where
 none_first : {name : List ℕ} {a : Value} {list : List Value} → NoneNamed name list → FirstNamed name a list → ⊥
 none_first (also d n) (here h) = d h
 none_first (also d n) (later d' f) = none_first n f
+none_first {name = name} {a = a} done x3 = elim x3 [ ]
 
 one-first : {name : List ℕ} {a b : Value} {list : List Value} → FirstNamed name a list → FirstNamed name b list → a ≡ b
 one-first (here h) (here k) = refl
@@ -57,6 +58,7 @@ differs name a e h = go (same (content (artifact_of a).name) name) e (rw h (same
   where
     go : (d : Bool) → d ≡ false → T d → ⊥
     go true x y = let no : ◌≡◌ {A = ℕ} 0 1 = cc in omega arith
+    go false x y = elim y [ ]
 
 look : (name : List ℕ) (list : List Value) (p l : ℕ) → Looked name list p l
 unfolding look_in pick

@@ -24,6 +24,7 @@ no-externs n h = go (eqb n 0) (eqb→eq n 0) h
   where
     go : (d : Bool) → (T d → n ≡ 0) → T (clear (Questions.refuse_unless d (wrong Refusals.host_calls n))) → n ≡ 0
     go true y h = y tt
+    go mathlib.Core.Bool.false y h = elim h [ ]
 
 module _ (set : Settings) where
   -- a named method takes 14 bytes at the least

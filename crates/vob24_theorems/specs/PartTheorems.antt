@@ -99,6 +99,7 @@ fore-stops s f g w x m b p e = settle-seq b f (λ _. g) s p ∙ ap (λ r. then_s
 pub pick_yes : {A : Type 0} (d : Bool) (x y : A) → T d → pick d x y ≡ x
 unfolding pick
 pick_yes true x y t = refl
+pick_yes {A = A} false x y t = elim t [ ]
 
 pub pick_no : {A : Type 0} (d : Bool) (x y : A) → (T d → ◌≡◌ {A = ℕ} 0 1) → pick d x y ≡ y
 unfolding pick

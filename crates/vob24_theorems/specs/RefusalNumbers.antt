@@ -181,7 +181,7 @@ asking-names seen (v ∷ vs) = asking-append (asking-if _ (listed refl refl)) (a
 asking-identities : (seen xs : List Questions.Identity) → Asking (Questions.new_identities seen xs)
 unfolding Questions.new_identities
 asking-identities seen [] = nothing
-asking-identities seen (x ∷ xs) = asking-append (asking-if _ (listed refl refl)) (asking-identities _ xs)
+asking-identities seen (x ∷ xs) = asking-append (asking-if _ (listed refl refl)) (asking-identities (pick (Questions.blank x.1) seen (x ∷ seen)) xs)
 
 asking-transfers : (c i : ℕ) (xs : List (ℕ × ℕ)) → Asking (Questions.transfer_words c i xs)
 unfolding Questions.transfer_words
