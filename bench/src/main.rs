@@ -6,26 +6,22 @@
 //!                                      times of nine runs in turns; rows that OLD does not have are left out
 //!        bench plot FILE               time against the pack's size, for both, as an SVG
 //!        bench names                   the rows' names, one a line
-//!        bench stack                   each call of the archive on a thread with 256 KB of stack, on tables of many names and
-//!                                      lists of many locations
+//!        bench stack                   each call of the archive on a thread with 256 KB of stack, on tables of many names
 //!        bench once NAME WHO           one call, for a count of instructions; WHO is ours, rust, or counting: our
 //!                                      reading without a tape
 //!        bench ours SECONDS NAME       our best time alone, in microseconds, for a comparison
 //!
 //! Both do all they need. In a reading the Rust builds its Module, and the timing leaves its drop out; ours fills the tape,
-//! which is allocated once and not cleared. In a later question about a pack the Rust builds its Module too, and then goes through
-//! it: for names that print alike with a map for each table, for a source line once through the function's locations.
+//! which is allocated once and not cleared. In a search for names that print alike the Rust builds its Module, and then a
+//! map for each table.
 
 mod alike;
-mod chance;
-mod lines;
 mod names;
 mod packs;
 mod plot;
 mod programs;
 mod stack;
 
-use lines::Asked;
 use original::bytecode::Module;
 use packs::Table;
 use std::hint::black_box;
@@ -83,7 +79,7 @@ fn best_of_ours(pack: &[u8], tape: &mut [u32], seconds: f64) -> f64 {
 }
 
 /// The best time of a call of the Rust's, in seconds. It takes its memory anew in each round.
-fn best_of_rust(pack: &[u8], seconds: f64, call: impl Fn(&[u8]) -> Module) -> f64 {
+fn best_of_rust(pack: &[u8], seconds: f64, call: fn(&[u8]) -> Module) -> f64 {
     let calls = calls(pack);
     let mut modules = Vec::with_capacity(calls);
     let fastest = fastest_of(seconds, || {
@@ -113,41 +109,8 @@ fn fastest_of(seconds: f64, mut round: impl FnMut() -> Duration) -> Duration {
 enum Call {
     /// A reading: our time over the Rust's.
     Read,
-    /// A later question about a pack: our time over that of so many readings of ours without a tape.
-    Ask { question: Question, readings: u32 },
-}
-
-/// A later question about a pack. Both sides see that the answer is right.
-#[derive(Clone, Copy)]
-enum Question {
-    /// Names that print alike; no pack has a pair.
-    Alike,
-    /// The source line of an address in a function.
-    Line(Asked),
-}
-
-impl Question {
-    /// The module of this program that has both sides.
-    fn module(self) -> &'static str {
-        match self {
-            Question::Alike => "alike",
-            Question::Line(_) => "lines",
-        }
-    }
-
-    fn ours(self, pack: &[u8]) -> u64 {
-        match self {
-            Question::Alike => alike::ours(pack),
-            Question::Line(asked) => lines::ours(pack, asked),
-        }
-    }
-
-    fn rust(self, pack: &[u8]) -> Module {
-        match self {
-            Question::Alike => alike::rust(pack),
-            Question::Line(asked) => lines::rust(pack, asked),
-        }
-    }
+    /// The search for names that print alike: our time over that of so many readings of ours without a tape.
+    Alike { readings: u32 },
 }
 
 struct Case {
@@ -162,23 +125,14 @@ impl Case {
         Case { name, make, call: Call::Read, limit }
     }
 
-    const fn ask(name: &'static str, make: fn() -> Vec<u8>, question: Question, readings: u32, limit: f64) -> Case {
-        Case { name, make, call: Call::Ask { question, readings }, limit }
-    }
-
     const fn alike(name: &'static str, make: fn() -> Vec<u8>, readings: u32, limit: f64) -> Case {
-        Case::ask(name, make, Question::Alike, readings, limit)
-    }
-
-    /// The last location of the last function: its address, and its number among the function's.
-    const fn line(name: &'static str, make: fn() -> Vec<u8>, function: u64, address: u32, entry: u64) -> Case {
-        Case::ask(name, make, Question::Line(Asked { function, address, entry }), 1, 2.2)
+        Case { name, make, call: Call::Alike { readings }, limit }
     }
 }
 
 const MEGABYTE: usize = 1_000_000;
 
-const CASES: [Case; 37] = [
+const CASES: [Case; 32] = [
     Case::read("bare", packs::bare, 0.5),
     Case::read("typical 1 MB", || packs::typical(MEGABYTE), 0.4),
     Case::read("typical 20 MB", || packs::typical(20 * MEGABYTE), 0.4),
@@ -211,11 +165,6 @@ const CASES: [Case; 37] = [
     Case::alike("alike: small tables", || packs::small_tables(10_000), 1, 3.0),
     Case::alike("alike: 4,000,000 names", || packs::names(4_000_000), 1, 3.0),
     Case::alike("alike: 4,000,000 accented", || packs::short_accented_names(4_000_000), 1, 3.0),
-    Case::line("line: typical 1 MB", || packs::typical(MEGABYTE), 933, 15, 15),
-    Case::line("line: typical 20 MB", || packs::typical(20 * MEGABYTE), 18_690, 15, 15),
-    Case::line("line: packed locations", || packs::packed_locations(20 * MEGABYTE), 0, 10, 3_636_362),
-    Case::line("line: one-byte locations", || packs::one_byte_locations(4_000_000), 0, 1, 3_999_999),
-    Case::line("line: short lists", || packs::short_lists(1_600_000), 1_599_999, 2, 2),
 ];
 
 fn case(name: &str) -> &'static Case {
@@ -238,16 +187,16 @@ fn tape() -> Vec<u32> {
     tape
 }
 
-/// The rows of readings, and those of later questions.
-fn by_call<'a>(cases: &[&'a Case]) -> (Vec<&'a Case>, Vec<(&'a Case, Question, u32)>) {
-    let (mut reads, mut questions) = (Vec::new(), Vec::new());
+/// The rows of readings, and those of searches for names that print alike.
+fn by_call<'a>(cases: &[&'a Case]) -> (Vec<&'a Case>, Vec<(&'a Case, u32)>) {
+    let (mut reads, mut searches) = (Vec::new(), Vec::new());
     for case in cases {
         match case.call {
             Call::Read => reads.push(*case),
-            Call::Ask { question, readings } => questions.push((*case, question, readings)),
+            Call::Alike { readings } => searches.push((*case, readings)),
         }
     }
-    (reads, questions)
+    (reads, searches)
 }
 
 /// A mark behind a row whose ratio is above its limit.
@@ -260,12 +209,12 @@ fn above(ratio: f64, limit: f64) -> &'static str {
 }
 
 fn table(seconds: f64, names: &[&str]) {
-    let (reads, questions) = by_call(&cases(names));
+    let (reads, searches) = by_call(&cases(names));
     if !reads.is_empty() {
         reading_table(seconds, &reads);
     }
-    if !questions.is_empty() {
-        question_table(seconds, &questions);
+    if !searches.is_empty() {
+        alike_table(seconds, &searches);
     }
 }
 
@@ -289,15 +238,15 @@ fn reading_table(seconds: f64, cases: &[&Case]) {
     }
 }
 
-fn question_table(seconds: f64, cases: &[(&Case, Question, u32)]) {
+fn alike_table(seconds: f64, cases: &[(&Case, u32)]) {
     println!(
         "{:<26} {:>11} {:>12} {:>12} {:>6} {:>9} {:>12} {:>6} {:>6}",
-        "question", "bytes", "ours, us", "Rust, us", "ratio", "readings", "us", "ratio", "limit"
+        "search", "bytes", "ours, us", "Rust, us", "ratio", "readings", "us", "ratio", "limit"
     );
-    for (case, question, readings) in cases {
+    for (case, readings) in cases {
         let pack = (case.make)();
-        let fastest = best_of(&pack, seconds / 3.0, |pack| question.ours(pack));
-        let fastest_rust = best_of_rust(&pack, seconds / 3.0, |pack| question.rust(pack));
+        let fastest = best_of(&pack, seconds / 3.0, alike::ours);
+        let fastest_rust = best_of_rust(&pack, seconds / 3.0, alike::rust);
         let of_readings = best_of(&pack, seconds / 3.0, counting) * f64::from(*readings);
         let ratio = fastest / of_readings;
         println!(
@@ -338,9 +287,9 @@ fn once(name: &str, who: &str) {
             let mut tape = vec![0; pack.len()];
             println!("{} words", ours(&pack, &mut tape));
         }
-        (Call::Ask { question, .. }, "ours") => println!("answer {}", question.ours(&pack)),
+        (Call::Alike { .. }, "ours") => println!("{} pairs", alike::ours(&pack)),
         (Call::Read, _) => println!("{} functions", rust(&pack).functions.len()),
-        (Call::Ask { question, .. }, _) => println!("{} functions", question.rust(&pack).functions.len()),
+        (Call::Alike { .. }, _) => println!("{} functions", alike::rust(&pack).functions.len()),
     }
 }
 
@@ -349,7 +298,7 @@ fn ours_alone(name: &str, seconds: f64) -> f64 {
     let pack = (case.make)();
     match case.call {
         Call::Read => best_of_ours(&pack, &mut tape(), seconds),
-        Call::Ask { question, .. } => best_of(&pack, seconds, |pack| question.ours(pack)),
+        Call::Alike { .. } => best_of(&pack, seconds, alike::ours),
     }
 }
 

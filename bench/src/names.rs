@@ -1,7 +1,5 @@
 //! Names of people as European leagues write them, from a seed: each with its accents composed or decomposed.
 
-use crate::chance::Chance;
-
 const GIVEN: &str = "Anna, Peter, Maria, Jan, Elena, Thomas, Zoë, José, João, Inês, Núria, Begoña, François, Noémie, \
     Siân, Ciarán, Jürgen, Käthe, Søren, Åsa, Håkon, Þór, Guðrún, Sigríður, Ágnes, György, Łukasz, Małgorzata, Václav, \
     Ondřej, Šimon, Žofia, Željko, Ștefan, Ilinca, Gülşen, İpek, Jūratė, Mārtiņš, Õnne";
@@ -45,7 +43,7 @@ fn forms(name: &str) -> Forms {
 }
 
 pub struct Names {
-    chance: Chance,
+    seed: u64,
     /// 2 where a name is composed or decomposed by chance, 1 where each is composed.
     forms: usize,
     initials: Vec<Forms>,
@@ -56,7 +54,7 @@ pub struct Names {
 impl Names {
     pub fn new(seed: u64) -> Names {
         Names {
-            chance: Chance::new(seed),
+            seed,
             forms: 2,
             initials: letters().map(|(composed, letter)| [composed.to_string(), letter]).collect(),
             given: GIVEN.split(", ").map(forms).collect(),
@@ -69,9 +67,17 @@ impl Names {
         Names { forms: 1, ..Names::new(seed) }
     }
 
+    /// The next number of SplitMix64, below n.
+    fn below(&mut self, n: usize) -> usize {
+        self.seed = self.seed.wrapping_add(0x9e37_79b9_7f4a_7c15);
+        let x = (self.seed ^ (self.seed >> 30)).wrapping_mul(0xbf58_476d_1ce4_e5b9);
+        let x = (x ^ (x >> 27)).wrapping_mul(0x94d0_49bb_1331_11eb);
+        ((x ^ (x >> 31)) % n as u64) as usize
+    }
+
     fn one(&mut self, of: fn(&Names) -> &[Forms]) -> String {
-        let many = of(self).len();
-        let (name, form) = (self.chance.below(many), self.chance.below(self.forms));
+        let name = self.below(of(self).len());
+        let form = self.below(self.forms);
         of(self)[name][form].clone()
     }
 
@@ -99,7 +105,7 @@ impl Names {
     /// A name with an accent, of 2 to 40 bytes.
     pub fn accented(&mut self) -> String {
         loop {
-            let name = match self.chance.below(8) {
+            let name = match self.below(8) {
                 0 => self.initial(),
                 1 => self.given(),
                 2 => self.family(),

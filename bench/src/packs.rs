@@ -1,7 +1,6 @@
 //! Packs to measure with, written byte by byte: each is the bare pack with one section, or all of them, filled.
 
 use crate::alike;
-use crate::chance::Chance;
 use crate::names::Names;
 use std::collections::HashMap;
 
@@ -231,10 +230,9 @@ fn files(n: usize) -> Bytes {
     })
 }
 
-/// Locations of n functions, so many of each as `many` says; one number in ten takes two bytes or more.
-fn locations(n: usize, mut many: impl FnMut(usize) -> usize) -> Bytes {
+/// Locations of n functions, m of each; one number in ten takes two bytes or more.
+fn locations(n: usize, m: usize) -> Bytes {
     list(n, |bytes, i| {
-        let m = many(i);
         bytes.u32(m as u32);
         for k in 0..m {
             let line = if k % 2 == 0 { k % 100 } else { 100 + i + k };
@@ -273,7 +271,7 @@ pub fn typical(size: usize) -> Vec<u8> {
         .with(Section::Functions, functions(n, 2, 32))
         .with(Section::Artifacts, artifacts(4, n))
         .with(Section::Files, files(n / 8))
-        .with(Section::Locations, locations(n, |_| 16))
+        .with(Section::Locations, locations(n, 16))
         .with(Section::Inline, inline(n, n / 2))
         .finish()
 }
@@ -377,28 +375,7 @@ pub fn heap_slots(size: usize) -> Vec<u8> {
 }
 
 pub fn packed_locations(size: usize) -> Vec<u8> {
-    Pack::bare().with(Section::Locations, locations(1, |_| size * 2 / 11)).finish()
-}
-
-/// One function with so many locations, all numbers of one byte, so that reading takes eight at once. Their addresses are 0 or 1 by chance, the
-/// last one's is 1: for the address 1 about every other location is the best so far, and no pattern tells which.
-pub fn one_byte_locations(n: usize) -> Vec<u8> {
-    let mut chance = Chance::new(SEED);
-    let locations = list(1, |bytes, _| {
-        bytes.u32(n as u32);
-        for k in 0..n {
-            let address = if k == n - 1 { 1 } else { chance.below(2) };
-            bytes.packed(address as u32).packed(1).packed((k % 100) as u32).packed(4).packed(9);
-        }
-    });
-    Pack::bare().with(Section::Locations, locations).finish()
-}
-
-/// So many functions of 0 to 3 locations by chance, the last of 3: it is the lists that take time, and not what they hold.
-pub fn short_lists(n: usize) -> Vec<u8> {
-    let mut chance = Chance::new(SEED);
-    let many = |i| if i == n - 1 { 3 } else { chance.below(4) };
-    Pack::bare().with(Section::Locations, locations(n, many)).finish()
+    Pack::bare().with(Section::Locations, locations(1, size * 2 / 11)).finish()
 }
 
 /// Names that differ.

@@ -21,7 +21,7 @@ fn printed(command: &mut Command) -> String {
 /// Instructions of one call. Our count is the same in each run; the Rust's is not quite, as its hashes are not.
 fn instructions(program: &Path, case: &Case, who: &str) -> f64 {
     let function = match case.call {
-        Call::Ask { question, .. } if who != "counting" => format!("bench::{}::{who}", question.module()),
+        Call::Alike { .. } if who != "counting" => format!("bench::alike::{who}"),
         _ => format!("bench::{who}"),
     };
     let mut valgrind = Command::new("valgrind");
@@ -33,7 +33,7 @@ fn instructions(program: &Path, case: &Case, who: &str) -> f64 {
 }
 
 pub fn count(cases: &[&Case]) {
-    let (reads, questions) = by_call(cases);
+    let (reads, searches) = by_call(cases);
     if !reads.is_empty() {
         println!("{:<24} {:>14} {:>14} {:>6}", "reading", "ours", "Rust", "ratio");
     }
@@ -41,13 +41,13 @@ pub fn count(cases: &[&Case]) {
         let [ours, rust] = ["ours", "rust"].map(|who| instructions(&this(), case, who));
         println!("{:<24} {ours:>14} {rust:>14} {:>6.2}", case.name, ours / rust);
     }
-    if !questions.is_empty() {
+    if !searches.is_empty() {
         println!(
             "{:<26} {:>14} {:>14} {:>6} {:>9} {:>14} {:>6} {:>6}",
-            "question", "ours", "Rust", "ratio", "readings", "instructions", "ratio", "limit"
+            "search", "ours", "Rust", "ratio", "readings", "instructions", "ratio", "limit"
         );
     }
-    for (case, _, readings) in questions {
+    for (case, readings) in searches {
         let [ours, rust, one] = ["ours", "rust", "counting"].map(|who| instructions(&this(), case, who));
         let counting = one * f64::from(readings);
         let ratio = ours / counting;

@@ -1,6 +1,6 @@
 /*
  * example FILE: the name of a rule pack, how many entries each of its lists has, its cost, and whether two names print alike; where
- * they do, what the arbiter should do about it; and the last source location of the first function that has one.
+ * they do, what the arbiter should do about it.
  *
  * The whole pack is read first: what it holds is valid, or the refusal says why not. The counts come from section calls, since
  * a section's words start at the tape's first word and a list opens with its count; on the whole pack's tape they would have to
@@ -74,42 +74,6 @@ static int print_alike(const uint8_t *pack, size_t length)
     return 0;
 }
 
-/* The location of the greatest address, of the first function that has locations: the answer for the greatest address that there can
- * be. The entry number leads to the location's words on the tape, and their file number to the file's name. */
-static int print_last_location(const uint8_t *pack, size_t length, uint64_t files, uint64_t locations, uint32_t *tape)
-{
-    const vob_answer functions = vob_function_locations(pack, length, locations, VOB_STARTING_BUDGET, tape, length);
-    if (functions.number != VOB_TAKEN)
-        return refused(functions);
-    /* A function is the count of its locations, then five words for each: one without locations is one word. */
-    uint32_t function = 0;
-    while (function < tape[0] && tape[1 + function] == 0)
-        function++;
-    vob_answer a = {VOB_TAKEN, 0, 0, 0, 0, 0};
-    if (function < tape[0])
-        a = vob_source_line(pack, length, function, UINT32_MAX);
-    if (a.number != VOB_TAKEN)
-        return refused(a);
-    if (!a.value1) {
-        printf("%-20s none\n", "last location");
-        return 0;
-    }
-    const uint32_t *const location = tape + 2 + function + 5 * a.value2;
-    const uint32_t file = location[1], line = location[2], column = location[3];
-    const vob_answer names = vob_files(pack, length, files, VOB_STARTING_BUDGET, tape, length);
-    if (names.number != VOB_TAKEN)
-        return refused(names);
-    printf("%-20s entry %" PRIu64 " of function %" PRIu32 ": line %" PRIu32 ", column %" PRIu32 " of ", "last location", a.value2,
-           function, line, column);
-    /* A location may have a file number that is not below the list's length. */
-    if (file < tape[0])
-        name(pack, tape[1 + 2 * file], tape[2 + 2 * file]);
-    else
-        printf("file %" PRIu32, file);
-    putchar('\n');
-    return 0;
-}
-
 static int print(const uint8_t *pack, size_t length, uint32_t *tape)
 {
     const vob_answer whole = vob_read(pack, length, VOB_STARTING_BUDGET, tape, length);
@@ -123,8 +87,6 @@ static int print(const uint8_t *pack, size_t length, uint32_t *tape)
     uint64_t place = VOB_FIRST_SECTION;
     uint64_t left = VOB_STARTING_BUDGET;
     uint64_t functions = 0;
-    uint64_t files = 0;
-    uint64_t locations = 0;
     for (size_t i = 0; i < sizeof sections / sizeof *sections; i++) {
         const vob_answer a = sections[i].call(pack, length, place, left, tape, length);
         if (a.number != VOB_TAKEN)
@@ -133,10 +95,6 @@ static int print(const uint8_t *pack, size_t length, uint32_t *tape)
             count(sections[i].label, tape[0]);
         if (sections[i].call == vob_functions)
             functions = tape[0];
-        if (sections[i].call == vob_files)
-            files = place;
-        if (sections[i].call == vob_function_locations)
-            locations = place;
         place += a.value2;
         left = a.value4;
     }
@@ -145,8 +103,7 @@ static int print(const uint8_t *pack, size_t length, uint32_t *tape)
         return refused(last);
     count("inline frames", tape[0]);
     printf("%-20s %" PRIu64 "\n", "cost", whole.value3);
-    const int status = print_alike(pack, length);
-    return status ? status : print_last_location(pack, length, files, locations, tape);
+    return print_alike(pack, length);
 }
 
 int main(int argc, char **argv)

@@ -1,5 +1,5 @@
 /* The calls of vob.h from C: document 01's worked examples, its limits of budget and tape, sections, lookup, names that print
- * alike, source lines, and sizes. */
+ * alike, and sizes. */
 #include "vob.h"
 
 #include <inttypes.h>
@@ -211,91 +211,6 @@ static void alike(void)
     EXPECT(vob_alike_names((const uint8_t *)"VOC", 3), VOB_INVALID_MAGIC, 0, 0, 0, 3, all);
 }
 
-/* The locations of three functions. A location is pc, file, line, column and length, each a packed number. */
-static const uint8_t three_functions[] = {
-    3, 0, 0, 0,
-    /* Not sorted: equal pcs, the least and the greatest that there are, and one of two bytes, 300. */
-    7, 0, 0, 0,
-    9, 0, 1, 8, 2,
-    4, 0, 2, 8, 2,
-    9, 0, 3, 8, 2,
-    0, 0, 4, 8, 2,
-    0xff, 0xff, 0xff, 0xff, 0x0f, 0, 5, 8, 2,
-    4, 0, 6, 8, 2,
-    0xac, 0x02, 0, 7, 8, 2,
-    /* None. */
-    0, 0, 0, 0,
-    /* Descending. */
-    3, 0, 0, 0,
-    30, 0, 1, 8, 2,
-    20, 0, 2, 8, 2,
-    10, 0, 3, 8, 2,
-};
-
-static const uint8_t one_function[] = {1, 0, 0, 0, 1, 0, 0, 0, 5, 0, 1, 8, 2};
-
-/* A bare pack with so many functions, each without a name, slots and code, and with function locations; without functions these
- * stand at byte 100. */
-static struct pack with_locations(uint32_t functions, const uint8_t *locations, size_t length)
-{
-    struct pack p = {.length = 0};
-    put(&p, "VOB\x18\0\0\0", 7);
-    put_zeros(&p, 69);
-    put_word(&p, functions);
-    put_zeros(&p, 56 * functions + 20);
-    put(&p, locations, length);
-    put_zeros(&p, 8);
-    return p;
-}
-
-static void lines(void)
-{
-    const uint64_t all = VOB_STARTING_BUDGET;
-    const struct pack p = with_locations(0, three_functions, sizeof three_functions);
-    EXPECT(vob_source_line(p.bytes, p.length, 0, 0), VOB_TAKEN, 1, 3, 0, 0, 0);
-    EXPECT(vob_source_line(p.bytes, p.length, 0, 3), VOB_TAKEN, 1, 3, 0, 0, 0);
-    EXPECT(vob_source_line(p.bytes, p.length, 0, 4), VOB_TAKEN, 1, 5, 0, 0, 0);
-    EXPECT(vob_source_line(p.bytes, p.length, 0, 8), VOB_TAKEN, 1, 5, 0, 0, 0);
-    EXPECT(vob_source_line(p.bytes, p.length, 0, 9), VOB_TAKEN, 1, 2, 0, 0, 0);
-    EXPECT(vob_source_line(p.bytes, p.length, 0, 299), VOB_TAKEN, 1, 2, 0, 0, 0);
-    EXPECT(vob_source_line(p.bytes, p.length, 0, 300), VOB_TAKEN, 1, 6, 0, 0, 0);
-    EXPECT(vob_source_line(p.bytes, p.length, 0, UINT32_MAX - 1), VOB_TAKEN, 1, 6, 0, 0, 0);
-    EXPECT(vob_source_line(p.bytes, p.length, 0, UINT32_MAX), VOB_TAKEN, 1, 4, 0, 0, 0);
-    EXPECT(vob_source_line(p.bytes, p.length, 1, 0), VOB_TAKEN, 0, 0, 0, 0, 0);
-    EXPECT(vob_source_line(p.bytes, p.length, 1, UINT32_MAX), VOB_TAKEN, 0, 0, 0, 0, 0);
-    EXPECT(vob_source_line(p.bytes, p.length, 2, 9), VOB_TAKEN, 0, 0, 0, 0, 0);
-    EXPECT(vob_source_line(p.bytes, p.length, 2, 10), VOB_TAKEN, 1, 2, 0, 0, 0);
-    EXPECT(vob_source_line(p.bytes, p.length, 2, 29), VOB_TAKEN, 1, 1, 0, 0, 0);
-    EXPECT(vob_source_line(p.bytes, p.length, 2, UINT32_MAX), VOB_TAKEN, 1, 0, 0, 0, 0);
-
-    /* 3 functions of 24 bytes, 10 locations of 20. */
-    const uint64_t left = all - 272;
-    EXPECT(vob_source_line(p.bytes, p.length, 3, 0), VOB_NO_SUCH_FUNCTION, 0, 3, 3, p.length, left);
-    EXPECT(vob_source_line(p.bytes, p.length, UINT64_C(1) << 32, 0), VOB_NO_SUCH_FUNCTION, 0, UINT64_C(1) << 32, 3, p.length, left);
-    EXPECT(vob_source_line(p.bytes, p.length, UINT64_MAX, 0), VOB_NO_SUCH_FUNCTION, 0, UINT64_MAX, 3, p.length, left);
-    const struct pack bare = named("");
-    EXPECT(vob_source_line(bare.bytes, BARE, 0, 0), VOB_NO_SUCH_FUNCTION, 0, 0, 0, BARE, all);
-    /* The list of function locations is shorter than that of the functions, of 240 bytes each. */
-    const struct pack q = with_locations(2, one_function, sizeof one_function);
-    EXPECT(vob_source_line(q.bytes, q.length, 0, 5), VOB_TAKEN, 1, 0, 0, 0, 0);
-    EXPECT(vob_source_line(q.bytes, q.length, 0, 4), VOB_TAKEN, 0, 0, 0, 0, 0);
-    EXPECT(vob_source_line(q.bytes, q.length, 1, 5), VOB_NO_SUCH_FUNCTION, 0, 1, 1, q.length, all - 524);
-
-    /* A pack that is refused shows its own refusal, also where the function is past the list. */
-    EXPECT(vob_source_line(p.bytes, p.length - 1, 0, 0), VOB_UNEXPECTED_EOF, 0, 0, 0, p.length - 4, left);
-    EXPECT(vob_source_line(p.bytes, p.length - 1, UINT64_MAX, 0), VOB_UNEXPECTED_EOF, 0, 0, 0, p.length - 4, left);
-    struct pack r = p;
-    put_zeros(&r, 1);
-    EXPECT(vob_source_line(r.bytes, r.length, 3, 0), VOB_TRAILING_BYTES, 0, 1, 0, p.length, left);
-    /* The first pc as 80 00, and not in its shortest form: 3 functions and 7 locations are charged by then. */
-    r = p;
-    r.bytes[108] = 0x80;
-    EXPECT(vob_source_line(r.bytes, r.length, 1, 0), VOB_INVALID_SOURCE_INTEGER, 0, 0, 0, 110, all - 212);
-    EXPECT(vob_source_line(p.bytes, 0, 0, 0), VOB_UNEXPECTED_EOF, 0, 0, 0, 0, all);
-    EXPECT(vob_source_line(vob_bytes(NULL), 0, UINT64_MAX, UINT32_MAX), VOB_UNEXPECTED_EOF, 0, 0, 0, 0, all);
-    EXPECT(vob_source_line((const uint8_t *)"VOC", 3, 0, 0), VOB_INVALID_MAGIC, 0, 0, 0, 3, all);
-}
-
 static void section_calls(void)
 {
     const struct pack a = named("A");
@@ -357,7 +272,6 @@ int main(void)
     budgets();
     lookups();
     alike();
-    lines();
     section_calls();
     sizes();
     printf("test.c: %s\n", failures ? "failed" : "ok");

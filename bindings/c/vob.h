@@ -5,8 +5,7 @@
  * bindings/c/example.c is a whole program, and ./bindings/run builds it.
  *
  * Every call ends, for every input, and answers as crates/vob24/specs/Calls.antt defines, vob_alike_names as
- * crates/alike/specs/Alike.antt, vob_source_line as crates/source/specs/Source.antt. None keeps a pointer, allocates or touches a
- * global, so that calls may run at the same time.
+ * crates/alike/specs/Alike.antt. None keeps a pointer, allocates or touches a global, so that calls may run at the same time.
  * What the calls ask of a caller is what C asks of any:
  *
  *   - a pointer and its length are memory that is there; the pointer is not null, also where the length is 0 (a caller whose
@@ -27,14 +26,13 @@ extern "C" {
 #endif
 
 /*
- * An answer. `number` is VOB_TAKEN or one of the 28 refusals below, which says what the values are:
+ * An answer. `number` is VOB_TAKEN or one of the 27 refusals below, which says what the values are:
  *
  *              value1     value2       value3    value4   value5
  *   taken      words      bytes taken  charged   left     0
  *   found      start      length       0         0        0        (vob_find_artifact)
  *   alike      1          start        length    start    length   (vob_alike_names: the earlier name, then the later)
- *   line       1          entry        0         0        0        (vob_source_line)
- *   none       0          0            0         0        0        (vob_alike_names, vob_source_line)
+ *   none       0          0            0         0        0        (vob_alike_names)
  *   refused    context    detail 1     detail 2  place    left
  *
  * words: how many words of the tape were written. charged and left: the cost of what was read, and the budget less it.
@@ -80,8 +78,7 @@ enum {
     VOB_HOST_CALLS = 25,                    /* d1 externs; left is after their charge. A count above the bytes left is 2, one
                                                whose charge can't be paid 5 */
     VOB_NO_ROOM = 26,                       /* d1 words needed, d2 words lent */
-    VOB_NO_SUCH_ARTIFACT = 27,
-    VOB_NO_SUCH_FUNCTION = 28               /* d1 function asked for, d2 functions in the list of function locations */
+    VOB_NO_SUCH_ARTIFACT = 27
 };
 
 /* The contexts of 5, 22 and 23: what a charge or a limit is for. */
@@ -102,7 +99,7 @@ enum {
     VOB_INLINE_ENTRIES = 14
 };
 
-/* The Rust reader's own starting budget, under which vob_find_artifact, vob_alike_names and vob_source_line read. */
+/* The Rust reader's own starting budget, under which vob_find_artifact and vob_alike_names read. */
 #define VOB_STARTING_BUDGET UINT64_C(536870912)
 
 /* The longest pack, in bytes. */
@@ -150,20 +147,6 @@ vob_answer vob_find_artifact(const uint8_t *pack, size_t pack_length, const uint
  * a table is refused.
  */
 vob_answer vob_alike_names(const uint8_t *pack, size_t pack_length);
-
-/*
- * Finds the source location of an address in a function: the number, from 0, of an entry among the function's debug locations, or
- * that there is none, or the refusal. Reads the whole pack under VOB_STARTING_BUDGET.
- *
- * Of the locations whose address (pc) is at or below the one given the answer is the one with the greatest, the last in the pack
- * among equals; they need not be sorted. On the tape of vob_function_locations a location is five words: pc, file, line, column,
- * length.
- *
- * The function is a place, from 0, in the list of function locations, which may be shorter or longer than the list of functions.
- * One that is not below the list's length is VOB_NO_SUCH_FUNCTION, with the pack's end as place and the budget left after reading:
- * the pack was taken. A pack that is refused shows its own refusal, whatever the function.
- */
-vob_answer vob_source_line(const uint8_t *pack, size_t pack_length, uint64_t function, uint32_t address);
 
 /*
  * Each reads one section alone, from its place in the pack and under its own budget, and writes its words from the tape's

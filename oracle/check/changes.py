@@ -30,7 +30,6 @@ EXTERN_DEF = 144
 NAMES = {
     "refused": ("number", "c", "d1", "d2", "place", "left"), "text": ("start", "length", "characters", "place", "left"),
     "lookup": ("start", "length"), "alike": ("pair", "start", "length", "later start", "later length"),
-    "line": ("found", "entry"),
     "whole": ("words", "bytes", "charged", "left")}
 NAMES["section"] = NAMES["whole"]
 

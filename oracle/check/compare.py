@@ -36,8 +36,6 @@ def answer(record, coverage):
         return reader.text(record.pack, record.place, record.budget, coverage)
     if record.kind == "alike":
         return reader.alike_names(record.pack, coverage)
-    if record.kind == "line":
-        return reader.source_line(record.pack, record.functions, record.place, coverage)
     return reader.lookup(record.pack, record.name, coverage)
 
 
@@ -69,13 +67,12 @@ def main(args):
     bad = 0
     coverage = (set(), set())
     for path in files:
-        numbers, count, pairs, lines = Counter(), 0, 0, 0
+        numbers, count, pairs = Counter(), 0, 0
         for index, record in enumerate(records(path)):
             count += 1
             difference = differs(record, answer(record, coverage))
             numbers[record.fields[0] if record.status else 0] += 1
             pairs += record.kind == "alike" and record.status == 0 and record.fields[0]
-            lines += record.kind == "line" and record.status == 0 and record.fields[0]
             if difference:
                 bad += 1
                 if bad <= 10:
@@ -84,8 +81,6 @@ def main(args):
         table = " ".join(f"{number}:{numbers[number]}" for number in sorted(numbers))
         if pairs:
             table += f"; {pairs} pairs, by Unicode {unicodedata.unidata_version}"
-        if lines:
-            table += f"; {lines} lines found"
         print(f"{os.path.basename(path)}: {count} compared; by number, 0 for taken: {table}")
     if with_coverage:
         asked, denied = coverage

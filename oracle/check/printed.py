@@ -1,5 +1,5 @@
 #!/usr/bin/env python3
-"""Compares what `oracle read`, `section`, `lookup`, `alike` and `line` print with the second reader: answer, charge list, section
+"""Compares what `oracle read`, `section`, `lookup` and `alike` print with the second reader: answer, charge list, section
 starts and tape. Packs: the stored ones of packcheck.bin, and large ones at the limits that no stored pack reaches.
 
 usage: printed.py ORACLE PACKCHECK.BIN
@@ -47,14 +47,6 @@ def alike_text(pack):
         return line(result) + "\n"
     found, *pair = result.fields
     return " ".join(["pair", *map(str, pair)] if found else ["none"]) + "\n"
-
-
-def line_text(pack, function, address):
-    result = reader.source_line(pack, function, address)
-    if result.status:
-        return line(result) + "\n"
-    found, *entry = result.fields
-    return " ".join(["entry", *map(str, entry)] if found else ["none"]) + "\n"
 
 
 def u32(*numbers):
@@ -133,17 +125,13 @@ def main(program, path):
                 check(f"record {index}", printed, read_text(record.pack, budget, record.tape))
     for label, pack in large_packs():
         check(label, oracle(program, "read", pack), read_text(pack, reader.RUST_BUDGET, NO_TAPE_LIMIT))
-        result = reader.whole(pack, reader.RUST_BUDGET, NO_TAPE_LIMIT)
-        print(f"{label}, {len(pack)} bytes: {line(result)}")
-        if result.status and result.fields[0] == 5:
-            check(f"a line of {label}", oracle(program, "line", pack, 0, 0), line_text(pack, 0, 0))
+        print(f"{label}, {len(pack)} bytes: {line(reader.whole(pack, reader.RUST_BUDGET, NO_TAPE_LIMIT))}")
     pack = bytes(reader.MAX_PACK + 1)
     for number in (1, 17):
         result = reader.section(pack, number, 5, 77, 0, NO_TAPE_LIMIT)
         check("section of too long a pack", oracle(program, "section", pack, number, 5, 77), line(result) + "\ntape:\n")
     check("lookup in too long a pack", oracle(program, "lookup", pack, "p"), line(reader.lookup(pack, b"p")) + "\n")
     check("names alike in too long a pack", oracle(program, "alike", pack), alike_text(pack))
-    check("a line of too long a pack", oracle(program, "line", pack, 0, 0), line_text(pack, 0, 0))
     pack = artifacts(2, 3)
     start, length = reader.lookup(pack, b"p").fields
     check("lookup", oracle(program, "lookup", pack, "p"), f"found {start} {length}\n")
@@ -151,13 +139,7 @@ def main(program, path):
         pack = subprocess.run([program, "pack", kind, "200000", "1"], stdout=subprocess.PIPE, check=True).stdout
         check(f"{kind} pack", oracle(program, "read", pack), read_text(pack, reader.RUST_BUDGET, NO_TAPE_LIMIT))
         check(f"names alike in a {kind} pack", oracle(program, "alike", pack), alike_text(pack))
-        result = reader.whole(pack, reader.RUST_BUDGET, NO_TAPE_LIMIT)
-        lists = len(result.addresses)
-        for function, address in ((0, 0), (lists // 2, 1 << 31), (lists - 1, 0xFFFF_FFFF), (lists, 0), ((1 << 64) - 1, 0)):
-            if function >= 0:
-                wanted = line_text(pack, function, address)
-                check(f"a line of a {kind} pack", oracle(program, "line", pack, function, address), wanted)
-        print(f"{kind}, {len(pack)} bytes: {line(result)}")
+        print(f"{kind}, {len(pack)} bytes: {line(reader.whole(pack, reader.RUST_BUDGET, NO_TAPE_LIMIT))}")
     print(f"{compared} printed readings compared: " + ("no difference" if not bad else f"{bad} differences"))
     return bad != 0
 

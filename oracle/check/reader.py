@@ -1,8 +1,7 @@
-"""A second reader of VOB 24 packs, written from documents 01 and 02 and serialize.rs and independent of the harness.
+"""A second reader of VOB 24 packs, written from document 01 and serialize.rs and independent of the harness.
 
-It computes whole answers: tape words, charge list, section starts, place, budget left, section calls, lookups, texts, names
-that print alike and source lines. For the coverage table it also notes at which place of the format each question was put and
-answered no.
+It computes whole answers: tape words, charge list, section starts, place, budget left, section calls, lookups, texts and
+names that print alike. For the coverage table it also notes at which place of the format each question was put and answered no.
 """
 
 import unicodedata
@@ -88,8 +87,6 @@ class Reader:
         self.words, self.charges = [], []
         # Start and bytes of the names of each table in which two may print alike.
         self.tables = []
-        # The addresses of each function's debug locations.
-        self.addresses = []
         self.asked, self.denied = coverage if coverage is not None else (set(), set())
 
     # Questions and charges.
@@ -179,7 +176,6 @@ class Reader:
             if byte < 0x80:
                 break
         self.put(value)
-        return value
 
     def span(self, where, context, limit):
         length = self.number(where, 4)
@@ -515,12 +511,10 @@ class Reader:
 
     def locations(self):
         def entry():
-            pc = self.packed_number("locations.entries.pc")
-            for field in ("file_id", "line", "col", "len"):
+            for field in ("pc", "file_id", "line", "col", "len"):
                 self.packed_number("locations.entries." + field)
-            return pc
-        self.addresses = self.list("locations", FUNC_DEBUG,
-                                   lambda: self.list("locations.entries", DEBUG_LOC, entry))
+        self.list("locations", FUNC_DEBUG,
+                  lambda: self.list("locations.entries", DEBUG_LOC, entry))
 
     def inline(self, functions):
         def frame():
@@ -552,7 +546,6 @@ class Result:
         self.words = reader.words if reader and status == 0 else []
         self.charges = reader.charges if reader else []
         self.tables = reader.tables if reader and status == 0 else []
-        self.addresses = reader.addresses if reader and status == 0 else []
         self.sections, self.artifacts = sections, artifacts
 
 
@@ -646,25 +639,3 @@ def alike_names(pack, coverage=None):
                     best = rank, (1, other[0], len(other[1]), start, len(name))
             earlier.append((start, name))
     return Result(0, best[1] if best else (0,))
-
-
-def source_line(pack, function, address, coverage=None):
-    """Status 0 with 1 and the number of a function's debug location, or with 0 where none is at or below the address; or a
-    refusal."""
-    result = whole(pack, RUST_BUDGET, NO_END, coverage)
-    if result.status == 1:
-        return result
-    question = (28, "source line", "")
-    if coverage is not None:
-        coverage[0].add(question)
-    if function >= len(result.addresses):
-        if coverage is not None:
-            coverage[1].add(question)
-        _, taken, _, left = result.fields
-        return Result(1, (28, 0, function, len(result.addresses), taken, left))
-    best = None
-    for number, other in enumerate(result.addresses[function]):
-        # An equal one further down takes the place of the one so far.
-        if other <= address and (best is None or other >= best[1]):
-            best = number, other
-    return Result(0, (1, best[0]) if best else (0,))

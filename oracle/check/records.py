@@ -9,7 +9,7 @@ import sys
 from collections import namedtuple
 
 HEADER = struct.Struct("<12I3Q7Q")
-KINDS = {1: "whole", 2: "section", 3: "lookup", 4: "text", 5: "alike", 6: "line"}
+KINDS = {1: "whole", 2: "section", 3: "lookup", 4: "text", 5: "alike"}
 
 Record = namedtuple("Record", "kind pack section place budget functions tape name status fields words count sum")
 

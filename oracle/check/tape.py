@@ -128,7 +128,7 @@ class Document:
                 raise Wrong(f"{title}: a table of unknown columns {header}")
         with open(os.path.join(ROOT, "bindings", "c", "vob.h"), encoding="utf-8") as header:
             calls = re.findall(r"^(?:VOB_SECTION\(|vob_answer )vob_(\w+)", header.read(), re.MULTILINE)
-        calls = [call for call in calls if call not in ("read", "find_artifact", "alike_names", "source_line")]
+        calls = [call for call in calls if call not in ("read", "find_artifact", "alike_names")]
         must(self.sections == [f"{number} {call}" for number, call in enumerate(calls, 1)], f"the sections are {calls}")
         linked = self.links | set(self.sections)
         must(linked == set(self.records), f"linked or a table, but not both: {linked ^ set(self.records)}")

@@ -5,7 +5,7 @@ use std::ops::Range;
 /// A refusal: why, and where. Its text is for the person who has to find the mistake in the file.
 #[derive(Clone, Copy, Debug, PartialEq, Eq, Hash)]
 pub struct Error {
-    /// Why the pack, the section or the question about a pack was refused.
+    /// Why the pack, the section or the lookup was refused.
     pub reason: Reason,
     /// The offset in the pack after the last byte that was taken.
     pub place: usize,
@@ -13,7 +13,7 @@ pub struct Error {
     pub left: u64,
 }
 
-/// Why a call was refused: document 01's 27 cases and one of document 02, in the order of their numbers.
+/// Why a reading was refused: document 01's 27 cases, in the order of their numbers.
 #[derive(Clone, Copy, Debug, PartialEq, Eq, Hash)]
 #[non_exhaustive]
 pub enum Reason {
@@ -154,13 +154,6 @@ pub enum Reason {
     },
     /// 27: no artifact has the name.
     NoSuchArtifact,
-    /// 28: no function of the debug list has the number; the pack itself was taken.
-    NoSuchFunction {
-        /// The number asked for.
-        function: u64,
-        /// How many functions the debug list has.
-        length: u64,
-    },
 }
 
 /// What a charge or a limit is for: document 01's contexts, numbered from 1.
@@ -285,7 +278,7 @@ impl FunctionMetadata {
 }
 
 impl Reason {
-    /// The reason from a refusal's number, context and details; `None` for 0, which is no refusal.
+    /// The reason from document 01's number, context and details; `None` for 0, which is no refusal.
     pub(crate) fn new(number: u64, context: u64, detail1: u64, detail2: u64) -> Option<Reason> {
         let (byte, word) = (detail1 as u8, detail1 as u32);
         let (start, length) = (detail1, detail2);
@@ -324,13 +317,12 @@ impl Reason {
             25 => Reason::HostCalls { externs: detail1 },
             26 => Reason::NoRoom { needed: detail1, length: detail2 },
             27 => Reason::NoSuchArtifact,
-            28 => Reason::NoSuchFunction { function: detail1, length: detail2 },
-            // Proved: crates/vob24_theorems/specs/RefusalNumbers.antt.
+            // Proved: crates/vob24/specs/Numbered.antt.
             _ => unreachable!("no refusal has the number {number}"),
         })
     }
 
-    /// A refusal's number, c, d1 and d2.
+    /// Document 01's number, c, d1 and d2.
     fn numbers(self) -> [u64; 4] {
         let limit = |number, context, length, maximum| [number, context as u64, length, maximum];
         match self {
@@ -364,7 +356,6 @@ impl Reason {
             Reason::HostCalls { externs } => [25, 0, externs, 0],
             Reason::NoRoom { needed, length } => [26, 0, needed, length],
             Reason::NoSuchArtifact => [27, 0, 0, 0],
-            Reason::NoSuchFunction { function, length } => [28, 0, function, length],
         }
     }
 
@@ -383,7 +374,7 @@ impl Reason {
 }
 
 impl Error {
-    /// The six numbers of a refusal, as document 01 has them: number, c, d1, d2, place, left.
+    /// Document 01's six numbers of a refusal: number, c, d1, d2, place, left.
     pub fn numbers(&self) -> [u64; 6] {
         let [number, context, detail1, detail2] = self.reason.numbers();
         [number, context, detail1, detail2, self.place as u64, self.left]
@@ -489,15 +480,6 @@ impl fmt::Display for Reason {
             }
             Reason::NoRoom { needed, length } => write!(f, "the tape has {length} words, and {needed} are needed"),
             Reason::NoSuchArtifact => f.write_str("the pack has no artifact of this name"),
-            Reason::NoSuchFunction { length: 0, .. } => f.write_str(
-                "the pack has no debug locations, so that no source line can be told: ask its author for the pack with them",
-            ),
-            Reason::NoSuchFunction { function, length } => write!(
-                f,
-                "the pack has debug locations for {length} functions, numbered from 0, and none of them has the number \
-                 {function}: the number may come from another pack; ask the author for the pack that the crash report came \
-                 from, or for a number below {length}"
-            ),
         }
     }
 }

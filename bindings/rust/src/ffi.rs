@@ -40,14 +40,6 @@ impl Answer {
             }
         }
     }
-
-    fn line(self) -> Result<Option<usize>, Error> {
-        match (self.refusal(), self.values) {
-            (Some(error), _) => Err(error),
-            (None, [0, ..]) => Ok(None),
-            (None, [_, entry, ..]) => Ok(Some(entry as usize)),
-        }
-    }
 }
 
 fn span(start: u64, length: u64) -> Range<usize> {
@@ -68,11 +60,6 @@ pub(crate) fn find_artifact(pack: &[u8], name: &[u8]) -> Result<Range<usize>, Er
 pub(crate) fn alike_names(pack: &[u8]) -> Result<Option<AlikeNames>, Error> {
     // SAFETY: as in `read`; nothing is written.
     unsafe { raw::vob_alike_names(pack.as_ptr(), pack.len()) }.alike()
-}
-
-pub(crate) fn source_line(pack: &[u8], function: u64, address: u32) -> Result<Option<usize>, Error> {
-    // SAFETY: as in `read`; nothing is written.
-    unsafe { raw::vob_source_line(pack.as_ptr(), pack.len(), function, address) }.line()
 }
 
 pub(crate) fn read_section(

@@ -59,7 +59,7 @@ pub use alike::AlikeNames;
 pub use error::{Context, Error, FunctionMetadata, Reason};
 pub use section::Section;
 
-/// The budget that the Rust reader starts with, and that [`find_artifact`], [`alike_names`] and [`source_line`] read under.
+/// The budget that the Rust reader starts with, and that [`find_artifact`] and [`alike_names`] read under.
 pub const STARTING_BUDGET: u64 = 536_870_912;
 
 /// The longest pack, in bytes.
@@ -148,40 +148,6 @@ pub fn find_artifact<'a>(pack: &'a [u8], name: &[u8]) -> Result<&'a [u8], Error>
 /// ```
 pub fn alike_names(pack: &[u8]) -> Result<Option<AlikeNames>, Error> {
     ffi::alike_names(pack)
-}
-
-/// The source location of an address in a function: the number, from 0, of an entry among the function's debug locations, or `None`
-/// exactly if no location is at or below the address. Reads the whole pack under [`STARTING_BUDGET`].
-///
-/// Of the locations whose address is at or below the one given the answer is the one with the greatest, the last in the pack among
-/// equals; they need not be sorted. On the tape of [`Section::FunctionLocations`] a location is five words: its address, file,
-/// line, column and length.
-///
-/// The function is a place, from 0, in the list of that section, which may be shorter or longer than the list of functions. One that
-/// is not below the list's length is [`Reason::NoSuchFunction`], where the pack itself was taken; the refusal's place is then the
-/// pack's end.
-///
-/// ```
-/// use vob::Reason;
-///
-/// // Locations of one function: its addresses 4, 9 and 4 come from lines 10, 12 and 11.
-/// let mut pack = b"VOB\x18\0\0\0".to_vec();
-/// pack.resize(100, 0);
-/// pack.extend([1, 0, 0, 0, 3, 0, 0, 0]);
-/// for (address, line) in [(4, 10), (9, 12), (4, 11)] {
-///     pack.extend([address, 0, line, 1, 1]);
-/// }
-/// pack.extend([0; 8]);
-///
-/// assert_eq!(vob::source_line(&pack, 0, 8)?, Some(2));
-/// assert_eq!(vob::source_line(&pack, 0, 9)?, Some(1));
-/// assert_eq!(vob::source_line(&pack, 0, 3)?, None);
-/// let refusal = vob::source_line(&pack, 1, 8).unwrap_err();
-/// assert_eq!(refusal.reason, Reason::NoSuchFunction { function: 1, length: 1 });
-/// # Ok::<(), vob::Error>(())
-/// ```
-pub fn source_line(pack: &[u8], function: u64, address: u32) -> Result<Option<usize>, Error> {
-    ffi::source_line(pack, function, address)
 }
 
 /// The size in bytes that an entry is charged, by its number in document 01's table of sizes, 1 to 33.

@@ -63,12 +63,6 @@ unsafe extern "C" {
     /// As for [`vob_read`].
     pub fn vob_alike_names(pack: *const u8, pack_length: usize) -> Answer;
 
-    /// Finds the source location of an address in a function.
-    ///
-    /// # Safety
-    /// As for [`vob_read`].
-    pub fn vob_source_line(pack: *const u8, pack_length: usize, function: u64, address: u32) -> Answer;
-
     /// Reads the inline sources alone, bounded by the number of functions.
     ///
     /// # Safety

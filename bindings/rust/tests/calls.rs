@@ -1,4 +1,4 @@
-//! Document 01's worked examples, the limits of budget and tape, names that print alike, and source lines, through the safe calls.
+//! Document 01's worked examples, the limits of budget and tape, and names that print alike, through the safe calls.
 
 use vob::{
     AlikeNames, Context, Error, FIRST_SECTION, FunctionMetadata, MAX_PACK_BYTES, Reading, Reason, STARTING_BUDGET,
@@ -95,40 +95,6 @@ fn pair(table: Table, tables: &[&[&str]]) -> Option<(usize, usize)> {
         assert_eq!((&pack[earlier], &pack[later]), (names[first].as_bytes(), names[second].as_bytes()));
         (first, second)
     })
-}
-
-fn packed(pack: &mut Vec<u8>, mut number: u32) {
-    while number >= 0x80 {
-        pack.push(number as u8 | 0x80);
-        number >>= 7;
-    }
-    pack.push(number as u8);
-}
-
-/// The bare pack with so many functions, each without a name, slots and code, and with a debug list: of each function in it the
-/// addresses of its locations. File, line, column and length of a location are `other`.
-fn with_locations(functions: u32, debug_list: &[&[u32]], other: [u32; 4]) -> Vec<u8> {
-    let mut pack = named(b"");
-    pack.truncate(76);
-    pack.extend(functions.to_le_bytes());
-    pack.resize(pack.len() + 56 * functions as usize + 20, 0);
-    pack.extend((debug_list.len() as u32).to_le_bytes());
-    for addresses in debug_list {
-        pack.extend((addresses.len() as u32).to_le_bytes());
-        for address in *addresses {
-            packed(&mut pack, *address);
-            for number in other {
-                packed(&mut pack, number);
-            }
-        }
-    }
-    pack.resize(pack.len() + 8, 0);
-    pack
-}
-
-/// The entry for an address, in a pack whose one function has locations of these addresses.
-fn entry(addresses: &[u32], address: u32) -> Option<usize> {
-    vob::source_line(&with_locations(0, &[addresses], [0; 4]), 0, address).unwrap()
 }
 
 /// Reads a pack that must be refused, and sees that the tape is as it was.
@@ -344,162 +310,6 @@ fn text_of_a_pair() {
 }
 
 #[test]
-fn a_source_line_from_bytes() {
-    let mut pack = b"VOB\x18\0\0\0".to_vec();
-    pack.extend([0; 93]);
-    pack.extend(b"\x02\0\0\0");
-    // 300, 5 and 4,294,967,295; the second function has 7.
-    pack.extend(b"\x03\0\0\0\xac\x02\0\x0a\x01\x01\x05\0\x0b\x01\x01\xff\xff\xff\xff\x0f\0\x0c\x01\x01");
-    pack.extend(b"\x01\0\0\0\x07\0\x0a\x01\x01");
-    pack.extend([0; 8]);
-    let line = |function, address| vob::source_line(&pack, function, address);
-    assert_eq!(line(0, 4), Ok(None));
-    assert_eq!(line(0, 5), Ok(Some(1)));
-    assert_eq!(line(0, 299), Ok(Some(1)));
-    assert_eq!(line(0, 300), Ok(Some(0)));
-    assert_eq!(line(0, u32::MAX - 1), Ok(Some(0)));
-    assert_eq!(line(0, u32::MAX), Ok(Some(2)));
-    assert_eq!(line(1, 6), Ok(None));
-    assert_eq!(line(1, 7), Ok(Some(0)));
-    let (reason, left) = (Reason::NoSuchFunction { function: 2, length: 2 }, STARTING_BUDGET - (2 * 24 + 4 * 20));
-    assert_eq!(line(2, 7), Err(Error { reason, place: 145, left }));
-    assert_eq!(line(2, 7).unwrap_err().numbers(), [28, 0, 2, 2, 145, left]);
-}
-
-#[test]
-fn the_greatest_address_at_or_below() {
-    let unsorted = [9, 4, 9, 0, u32::MAX, 4, 300];
-    for (address, expected) in
-        [(0, 3), (3, 3), (4, 5), (5, 5), (8, 5), (9, 2), (10, 2), (299, 2), (300, 6), (u32::MAX - 1, 6), (u32::MAX, 4)]
-    {
-        assert_eq!(entry(&unsorted, address), Some(expected), "{address}");
-    }
-    let descending = [30, 20, 10];
-    for (address, expected) in [
-        (0, None),
-        (9, None),
-        (10, Some(2)),
-        (11, Some(2)),
-        (19, Some(2)),
-        (20, Some(1)),
-        (29, Some(1)),
-        (30, Some(0)),
-        (u32::MAX, Some(0)),
-    ] {
-        assert_eq!(entry(&descending, address), expected, "{address}");
-    }
-    for address in [0, 1, u32::MAX] {
-        assert_eq!(entry(&[], address), None);
-        assert_eq!(entry(&[0; 40], address), Some(39));
-    }
-    assert_eq!(entry(&[u32::MAX; 40], u32::MAX - 1), None);
-    assert_eq!(entry(&[u32::MAX; 40], u32::MAX), Some(39));
-}
-
-#[test]
-fn addresses_of_each_width() {
-    for width in [7, 14, 21, 28, 31] {
-        let address = 1 << width;
-        // The numbers beside the address are as wide, or of one byte each.
-        for other in [[address; 4], [address - 1, 0, 1, address], [0; 4]] {
-            let pack = with_locations(0, &[&[address, address + 1, address - 1]], other);
-            let line = |address| vob::source_line(&pack, 0, address).unwrap();
-            assert_eq!(line(address - 2), None, "{width}");
-            assert_eq!(line(address - 1), Some(2), "{width}");
-            assert_eq!(line(address), Some(0), "{width}");
-            assert_eq!(line(address + 1), Some(1), "{width}");
-            assert_eq!(line(u32::MAX), Some(1), "{width}");
-        }
-    }
-}
-
-#[test]
-fn each_function_has_its_own_locations() {
-    // Lists of 0 to 36 locations, whose addresses repeat and have one or two bytes.
-    let lists: Vec<Vec<u32>> = (0..37).map(|n: u32| (0..n).map(|k| (k * 89 + n * 31) % 23 * 13).collect()).collect();
-    let lists: Vec<&[u32]> = lists.iter().map(Vec::as_slice).collect();
-    let pack = with_locations(0, &lists, [0, 1000, 3, 70_000]);
-    for (function, addresses) in lists.iter().enumerate() {
-        for address in 0..300 {
-            let at_or_below = addresses.iter().enumerate().filter(|(_, of)| **of <= address);
-            let expected = at_or_below.max_by_key(|(_, of)| **of).map(|(entry, _)| entry);
-            assert_eq!(vob::source_line(&pack, function as u64, address), Ok(expected), "{function}, {address}");
-        }
-    }
-}
-
-#[test]
-fn functions_past_the_debug_list() {
-    // A debug list that is shorter than the list of functions, as long, and longer; a function is charged 240.
-    for functions in [0, 2, 3, 4] {
-        let pack = with_locations(functions, &[&[1], &[], &[2, 3]], [1; 4]);
-        let left = STARTING_BUDGET - (240 * u64::from(functions) + 3 * 24 + 3 * 20);
-        assert_eq!(vob::source_line(&pack, 1, u32::MAX), Ok(None));
-        assert_eq!(vob::source_line(&pack, 2, u32::MAX), Ok(Some(1)));
-        for function in [3, 4, u32::MAX.into(), 1 << 32, (1 << 32) + 2, u64::MAX - 1, u64::MAX] {
-            let reason = Reason::NoSuchFunction { function, length: 3 };
-            let refusal = Error { reason, place: pack.len(), left };
-            assert_eq!(vob::source_line(&pack, function, u32::MAX), Err(refusal));
-            assert_eq!(vob::source_line(&pack, function, 0), Err(refusal));
-            assert_eq!(refusal.numbers(), [28, 0, function, 3, pack.len() as u64, left]);
-        }
-    }
-    for function in [0, 1, u64::MAX] {
-        let reason = Reason::NoSuchFunction { function, length: 0 };
-        assert_eq!(
-            vob::source_line(&named(b"A"), function, 0),
-            Err(Error { reason, place: 113, left: STARTING_BUDGET - 1 })
-        );
-    }
-}
-
-#[test]
-fn source_lines_of_a_refused_pack() {
-    let mut pack = with_locations(0, &[&[1], &[2, 3]], [1; 4]);
-    let length = pack.len();
-    // Two functions of 24 bytes and three locations of 20; one location is not yet read.
-    let left = STARTING_BUDGET - (2 * 24 + 3 * 20);
-    for function in [0, 1, 2, u64::MAX] {
-        let line = |pack: &[u8]| vob::source_line(pack, function, 1);
-        let reason = Reason::UnexpectedEof;
-        assert_eq!(line(&pack[..length - 1]), Err(Error { reason, place: length - 4, left }));
-        assert_eq!(line(&pack[..length - 9]), Err(Error { reason, place: length - 9, left }));
-        assert_eq!(line(&[]), Err(Error { reason, place: 0, left: STARTING_BUDGET }));
-        let reason = Reason::InvalidMagic;
-        assert_eq!(line(b"VOC"), Err(Error { reason, place: 3, left: STARTING_BUDGET }));
-    }
-    pack.push(0);
-    let reason = Reason::TrailingBytes { bytes: 1 };
-    assert_eq!(vob::source_line(&pack, 2, 1), Err(Error { reason, place: length, left }));
-    let (length, maximum) = (MAX_PACK_BYTES as u64 + 1, MAX_PACK_BYTES as u64);
-    let reason = Reason::InputTooLarge { length, maximum };
-    assert_eq!(
-        vob::source_line(&vec![0; MAX_PACK_BYTES + 1], 0, 0),
-        Err(Error { reason, place: 0, left: STARTING_BUDGET })
-    );
-}
-
-#[test]
-fn source_lines_under_the_starting_budget() {
-    let one_function = |locations: u64| {
-        let mut pack = named(b"");
-        pack.truncate(100);
-        pack.extend(1u32.to_le_bytes());
-        pack.extend((locations as u32).to_le_bytes());
-        pack.resize(pack.len() + locations as usize, 0);
-        pack
-    };
-    let left = STARTING_BUDGET - 24;
-    let most = left / 20;
-    let reason = Reason::AllocationBudgetExceeded { context: Context::Vector, asked: 20 * (most + 1), left };
-    assert_eq!(vob::source_line(&one_function(most + 1), 0, 0), Err(Error { reason, place: 108, left }));
-    // That many are paid, and their bytes end early.
-    let pack = one_function(most);
-    let left = left - 20 * most;
-    assert_eq!(vob::source_line(&pack, 0, 0), Err(Error { reason: Reason::UnexpectedEof, place: pack.len(), left }));
-}
-
-#[test]
 fn charge_sizes() {
     assert_eq!(vob::charge_size(0), None);
     assert_eq!(vob::charge_size(1), Some(96));
@@ -536,16 +346,6 @@ fn texts_of_refusals() {
     assert_eq!(
         refusal(&named(b"\xed\xa0\x80"), 3, 40).to_string(),
         "refused at byte 14: the text that ends here is not well-formed UTF-8"
-    );
-    assert_eq!(
-        vob::source_line(&with_locations(0, &[&[1], &[]], [0; 4]), 7, 1).unwrap_err().to_string(),
-        "refused at byte 125: the pack has debug locations for 2 functions, numbered from 0, and none of them has the number 7: the \
-         number may come from another pack; ask the author for the pack that the crash report came from, or for a number below 2"
-    );
-    assert_eq!(
-        vob::source_line(&named(b""), 7, 1).unwrap_err().to_string(),
-        "refused at byte 112: the pack has no debug locations, so that no source line can be told: ask its author for the pack \
-         with them"
     );
     let what = FunctionMetadata::ParameterRttid { index: 2, word: 0xffff_ff18 };
     assert_eq!(

@@ -61,14 +61,6 @@ fn alike(answer: Result<Option<AlikeNames>, Error>) -> (bool, [u64; 6]) {
     }
 }
 
-fn line(answer: Result<Option<usize>, Error>) -> (bool, [u64; 6]) {
-    match answer {
-        Ok(None) => (false, [0; 6]),
-        Ok(Some(entry)) => (false, [1, entry as u64, 0, 0, 0, 0]),
-        Err(refusal) => (true, refusal.numbers()),
-    }
-}
-
 fn sum(words: &[u32]) -> u32 {
     words.iter().fold(0, |sum: u32, word| sum.wrapping_mul(31).wrapping_add(*word))
 }
@@ -84,7 +76,6 @@ fn replay(record: &Record, unwritten: &[u32]) {
         }
         stored::LOOKUP => found(pack, vob::find_artifact(pack, &record.name)),
         stored::ALIKE => alike(vob::alike_names(pack)),
-        stored::LINE => line(vob::source_line(pack, record.functions, record.place.try_into().unwrap())),
         kind => panic!("no call has the kind {kind}"),
     };
     assert_eq!(answer, (record.refused, record.fields));
@@ -131,11 +122,6 @@ fn lookups() {
 #[test]
 fn alike_names() {
     replay_list("alike.bin");
-}
-
-#[test]
-fn source_lines() {
-    replay_list("lines.bin");
 }
 
 #[test]

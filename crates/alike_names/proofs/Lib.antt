@@ -1,3 +1,4 @@
+pub mod Lists
 pub mod Sizes
 pub mod NewNames
 pub mod Pairs

@@ -29,7 +29,7 @@ use Rattle.alike_names.specs.Contract.{table_of, TableAt, Walks, past, TableWalk
 use Rattle.alike_names.specs.Tables.{variant, OtherAt, struct_tables, named_tables, WalksAt}
 use Rattle.alike_names.specs.declared.Walk.{Walk}
 use Rattle.alike_names.specs.declared.Walk.TheVariants.{Found, Past}
-use Rattle.in_place.proofs.Lists.{behind, ListStands, list-stands, asked-stands}
+use Rattle.alike_names.proofs.Lists.{behind, ListStands, list-stands, asked-stands}
 use Rattle.alike_names.proofs.Sizes.{sized-number, sized-list}
 use Rattle.alike_names.proofs.NewNames.{methods-stand}
 use Rattle.alike_names.proofs.Pairs.{walks-found, walks-then}

@@ -18,7 +18,7 @@ use Rattle.alike_names.specs.Tables.{struct_tables, named_tables, tables_in, Wal
 use Rattle.alike_names.specs.declared.Alike.{Alike}
 use Rattle.alike_names.specs.declared.Walk.{Walk}
 use Rattle.alike_names.specs.declared.Walk.TheVariants.{Found, Past}
-use Rattle.in_place.proofs.Lists.{behind}
+use Rattle.alike_names.proofs.Lists.{behind}
 use Rattle.alike_names.proofs.Pairs.{pair-first, pair-append}
 
 -- ---- the tables of the sections from one of them on, by the value of these sections

@@ -13,7 +13,7 @@ use Rattle.alike_names.specs.Contract.{Walks, found, past}
 use Rattle.alike_names.specs.Tables.{tables_in, WalksAt}
 use Rattle.alike_names.specs.declared.Walk.{Walk}
 use Rattle.alike_names.specs.declared.Walk.TheVariants.{Found, Past}
-use Rattle.in_place.proofs.Lists.{ListStands, Leaving, leaving-list, leaving-here, leaving-more, leaving-done}
+use Rattle.alike_names.proofs.Lists.{ListStands, Leaving, leaving-list, leaving-here, leaving-more, leaving-done}
 
 -- ---- tables one after the other
 

@@ -11,7 +11,7 @@ use Rattle.vob24.specs.Settings.{max_pack_bytes}
 use Rattle.in_place.specs.Walk.{Stands, next_at, last_at, AllStand, parts, passed}
 use Rattle.in_place.specs.Contract.{Past}
 use Rattle.alike_names.specs.Tables.{WordsAt, WordsEnd}
-use Rattle.in_place.proofs.Lists.{next-within, ListStands}
+use Rattle.alike_names.proofs.Lists.{next-within, ListStands}
 
 -- f has k bytes
 pub record Sized (f : Format) (k : ℕ) : Type 0 where

@@ -14,7 +14,7 @@ use Rattle.in_place.specs.Walk.{Stands, next_at, parts, passed}
 use Rattle.in_place.specs.Items.{format_of}
 use Rattle.in_place.specs.Contract.{WordIs, Placed, Past, Items}
 use Rattle.alike_names.specs.Tables.{PastItems, WordsAt, WordsEnd, variant, OtherAt}
-use Rattle.in_place.proofs.Lists.{Behind, behind, ListStands, list-stands, AskedStands, asked-stands}
+use Rattle.alike_names.proofs.Lists.{Behind, behind, ListStands, list-stands, AskedStands, asked-stands}
 use Rattle.alike_names.proofs.Sizes.{Sized, sized-none, sized-number, sized-both, SizedList, sized-list, words-at, words-past}
 
 -- the fields of a runtime struct, and the question on them

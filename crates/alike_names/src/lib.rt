@@ -18,7 +18,7 @@ mod sections;
 mod skips;
 
 // Start and length of the earlier name and of the later.
-#[derive(Drop)]
+#[derive(Clone, Copy)]
 pub enum Alike {
     Pair(usize, usize, usize, usize),
     None,
@@ -26,7 +26,7 @@ pub enum Alike {
 }
 
 // The pair of a table, or the place past it.
-#[derive(Drop)]
+#[derive(Clone, Copy)]
 enum Walk {
     Found(usize, usize, usize, usize),
     Past(usize),

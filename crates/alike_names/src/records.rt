@@ -1,6 +1,6 @@
 // The tables of one record.
 ghost use Rattle.vob24.specs.Settings.{settings_of};
-ghost use Rattle.vob24.specs.Grammar.{ #[derive(Drop)]struct as struct_of, interface as interface_of, named_type, runtime_type};
+ghost use Rattle.vob24.specs.Grammar.{struct as struct_of, interface as interface_of, named_type, runtime_type};
 ghost use Rattle.alike.specs.Alike.{interface_tables, runtime_tables};
 ghost use Rattle.in_place.specs.Contract.{Placed};
 ghost use Rattle.alike_names.specs.Tables.{struct_tables, named_tables, WalksAt};

@@ -10,7 +10,7 @@ use crate::skips::past_items;
 use in_place::{Item, Table};
 
 // The place past the items, where no name has a byte of the range that was asked for.
-#[derive(Drop)]
+#[derive(Clone, Copy)]
 enum Clear {
     Past(usize),
     Not,

@@ -9,9 +9,7 @@ use Rattle.lookup.specs.Look.{found_of}
 use Rattle.lookup.specs.declared.Found.{Found}
 use Rattle.alike_names.specs.Contract as alike
 use Rattle.alike_names.specs.declared.Alike.{Alike}
-use Rattle.source_lines.specs.Contract as lines
-use Rattle.source_lines.specs.declared.SourceLine.{SourceLine}
-use Rattle.c_answers.specs.Numbers.{numbers_of, found_numbers, alike_numbers, line_numbers}
+use Rattle.c_answers.specs.Numbers.{numbers_of, found_numbers, alike_numbers}
 use Rattle.c_answers.specs.declared.VobAnswer.{VobAnswer}
 
 pub taken-numbers : {a : Answer} {w n c l : ℕ} → a ≡ Answer.Taken w n c l
@@ -41,17 +39,4 @@ module _ {a : Alike} where
       → q ≡ alike_numbers (alike.answer_of a)
   alike-numbers e h = rw e h
 
-module _ {a : SourceLine} where
-  pub entry-numbers : {i : ℕ} → a ≡ SourceLine.Entry i
-      → line_numbers (lines.answer_of (SourceLine.Entry i)) ≡ line_numbers (lines.answer_of a)
-  entry-numbers e = rw e
-
-  pub nowhere-numbers : a ≡ SourceLine.None
-      → line_numbers (lines.answer_of SourceLine.None) ≡ line_numbers (lines.answer_of a)
-  nowhere-numbers e = rw e
-
-  pub line-numbers : {x : Refusal} {q : VobAnswer} → a ≡ SourceLine.Not x → q ≡ numbers_of (answer_of (Answer.Refused x))
-      → q ≡ line_numbers (lines.answer_of a)
-  line-numbers e h = rw e h
-
-pub ruleset numbers = (taken-numbers, refused-numbers, at-numbers, not-numbers, pair-numbers, none-numbers, alike-numbers, entry-numbers, nowhere-numbers, line-numbers)
+pub ruleset numbers = (taken-numbers, refused-numbers, at-numbers, not-numbers, pair-numbers, none-numbers, alike-numbers)

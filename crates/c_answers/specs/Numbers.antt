@@ -5,8 +5,6 @@ use Rattle.format.specs.Trace.{Wrong}
 use Rattle.vob24.specs.Calls as vob
 use Rattle.alike.specs.Alike as alike
 use Rattle.alike_theorems.specs.Answers.{Alikes, some, none, missed}
-use Rattle.source.specs.Source as source
-use Rattle.source.specs.SourceTheorems.{Lined, entry, nowhere, unread, past}
 use Rattle.vob24_theorems.specs.RefusalNumbers.{Answered, taken, refused, Looked, found}
 use Rattle.vob24_theorems.specs.RefusalNumbers as looked
 use Rattle.c_answers.specs.declared.VobAnswer.{VobAnswer}
@@ -30,12 +28,6 @@ alike_numbers (alike.Pair a m b n) = record { number = 0; value1 = 1; value2 = a
 alike_numbers alike.None = record { number = 0; value1 = 0; value2 = 0; value3 = 0; value4 = 0; value5 = 0 }
 alike_numbers (alike.Not w p l) = refused_numbers w p l
 
--- "value1 1 or 0 (found or none), value2 the entry"
-abbrev pub line_numbers : source.Answer → VobAnswer
-line_numbers (source.Entry i) = record { number = 0; value1 = 1; value2 = i; value3 = 0; value4 = 0; value5 = 0 }
-line_numbers source.None = record { number = 0; value1 = 0; value2 = 0; value3 = 0; value4 = 0; value5 = 0 }
-line_numbers (source.Not w p l) = refused_numbers w p l
-
 -- THE contract of an exported call that is lent a tape: the numbers returned and the tape at exit are those of its
 -- outcome.
 pub record Shows (o : vob.Outcome) (q : VobAnswer) (t' : List ℕ) : Type 0 where
@@ -57,10 +49,3 @@ pub zero-alike : {a : alike.Answer} → Alikes a → (alike_numbers a).number �
 zero-alike (some {a = s} {m = m} {b = t} {n = n}) e = inr (s, m, t, n, refl)
 zero-alike none e = inl refl
 zero-alike (missed h) e = absurd (omega (arith, h.least, e))
-
-pub zero-line : {a : source.Answer} → Lined a → (line_numbers a).number ≡ 0
-    → (a ≡ source.None) ⊎ ((i : ℕ) × (a ≡ source.Entry i))
-zero-line (entry {i = i}) e = inr (i, refl)
-zero-line nowhere e = inl refl
-zero-line (unread h) e = absurd (omega (arith, h.least, e))
-zero-line (past h) e = absurd (omega (arith, h, e))

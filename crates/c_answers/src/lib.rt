@@ -6,20 +6,17 @@ ghost use Rattle.std.specs.Prelude.{◌≡◌};
 ghost use Rattle.calls.specs.Contract.{answer_of};
 ghost use Rattle.lookup.specs.Look.{found_of};
 ghost use Rattle.alike_names.specs.Contract as alike;
-ghost use Rattle.source_lines.specs.Contract as lines;
-ghost use Rattle.c_answers.specs.Numbers.{numbers_of, found_numbers, alike_numbers, line_numbers};
+ghost use Rattle.c_answers.specs.Numbers.{numbers_of, found_numbers, alike_numbers};
 
 use alike_names::Alike;
 use calls::Answer;
 use lookup::Found;
 use reader::Refusal;
-use source_lines::SourceLine;
 
 // Taken: number 0, then words, bytes taken, charged, left, 0; found: 0, start, length, and zeros; a pair of names alike:
-// 0, 1, start and length of the earlier, of the later; an entry: 0, 1, its number, and zeros; no pair, no entry: zeros.
-// Refused: the number, then c, d1, d2, place, left.
+// 0, 1, start and length of the earlier, of the later; none: zeros. Refused: the number, then c, d1, d2, place, left.
 #[repr(C)]
-#[derive(Drop)]
+#[derive(Clone, Copy)]
 pub struct VobAnswer {
     pub number: u64,
     pub value1: u64,
@@ -99,30 +96,6 @@ pub fn shown_alike(answer: Alike) -> VobAnswer
             value3: earlier_length as u64,
             value4: later as u64,
             value5: later_length as u64,
-        },
-    }
-}
-
-pub fn shown_line(answer: SourceLine) -> VobAnswer
-    ensures { result ≡ line_numbers (lines.answer_of answer) }
-{
-    match answer {
-        SourceLine::Not(x) => refused(x),
-        SourceLine::None => VobAnswer {
-            number: 0,
-            value1: 0,
-            value2: 0,
-            value3: 0,
-            value4: 0,
-            value5: 0,
-        },
-        SourceLine::Entry(entry) => VobAnswer {
-            number: 0,
-            value1: 1,
-            value2: entry as u64,
-            value3: 0,
-            value4: 0,
-            value5: 0,
         },
     }
 }

@@ -11,7 +11,7 @@ use reader::{Cursor, Refusal, Step, numbers};
 
 const MAX_PACK_BYTES: usize = 134_217_728;
 
-#[derive(Drop)]
+#[derive(Clone, Copy)]
 pub enum Answer {
     Taken {
         words: usize,

@@ -1,7 +1,7 @@
 // The answer for a constant, and the answer of its reader.
 use reader::{Cursor, Refusal};
 
-#[derive(Drop)]
+#[derive(Clone, Copy)]
 pub enum Constant {
     Nil,
     Bool(bool),
@@ -10,7 +10,7 @@ pub enum Constant {
     Text { start: usize, length: usize },
 }
 
-#[derive(Drop)]
+#[derive(Clone, Copy)]
 pub enum ConstantRead {
     Got(Constant, Cursor),
     Not(Refusal),

@@ -43,7 +43,7 @@ pub fn files(s: &[u8], set: &Settings, r: Step, tape: &mut [u32]) -> Step
 // ---- packed numbers
 
 // A packed number and its length; length 0: not one of 1 to 4 bytes.
-#[derive(Drop)]
+#[derive(Clone, Copy)]
 struct Short {
     value: u32,
     bytes: usize,

@@ -1,20 +1,30 @@
--- The laws of the parts of a pack: lists without entries, the number of functions, one section by its name.
-use Prim.Native.Nat.{ℕ, min}
+-- Reading on to a section of what a whole reading has taken.
+use Prim.Native.Nat.{ℕ, suc, zero, min, ◌+◌, ◌<◌}
 use mathlib.Core.Path.{◌≡◌, refl}
-use mathlib.Core.List.{List}
+use mathlib.Core.List.{List, [], ◌∷◌}
 use mathlib.Core.Bool.{Bool, true}
 use native.Mathlib.Omega.{arith}
+use native.Mathlib.Numerals.{add-one}
+use lib.ListN.{length, get_or, drop}
 use lib.Dec.{leb}
 use borrow.Author.Tests.{le-leb}
-use Rattle.format.specs.Format.{Value, Format, seq}
+use Rattle.format.specs.Format.{Value, first, second, number, Rule, count, Format, leaf, seq, times, entries}
+use Rattle.format.specs.Reading.{trace}
+use Rattle.format.specs.SettleTheorems.{settle-taken}
+use Rattle.format.specs.TraceTheorems.{seq-ends}
 use Rattle.vob24.specs.Settings as of
 use Rattle.vob24.specs.Settings.{Settings}
 use Rattle.vob24.specs.Leaves.{str}
 use Rattle.vob24.specs.Grammar as vob
-use Rattle.vob24.specs.Grammar.{section, list, struct, interface, named_type, itab, runtime_type, constant, global, function, artifact, location, frame, inline_function, still_left, inline_frames, inline_functions}
+use Rattle.vob24.specs.Grammar.{inline_sources, section, after_functions, sections, magic, version, pack, list, struct, interface, named_type, itab, runtime_type, constant, global, function, artifact, location, frame, inline_function, still_left, inline_frames, inline_functions}
+use Rattle.vob24_data.specs.Sections.{section_of, functions_of}
+use Rattle.vob24.specs.Fields.{after}
+use Rattle.vob24.specs.Cost.{all_sections}
 use Rattle.vob24_data.specs.declared.Section.{Section}
-use Rattle.reader.specs.Contract.{step_of, number_of, Ready, ReadyAt, Refuses, Reads, refuses, skips, Reader, ComesTo, ReadsOf, got, lost, NumberOf}
+use Rattle.in_place.specs.Walk.{list-off}
+use Rattle.reader.specs.Contract.{step_of, number_of, Ready, ReadyAt, Refuses, Reads, refuses, skips, Reader, ComesTo, ReadsOf, got, lost, NumberOf, On}
 use Rattle.reader.specs.Accepted.{Accepted}
+use Rattle.reader.proofs.Accepting.{accepted-next, accepted-on, on-accepted, on-next}
 use Rattle.reader.proofs.Laws.{seq-refuses, then_reads, field_then, at-refused, comes-not, comes_then, comes-next, comes-last}
 use Rattle.reader.specs.declared.Cursor.{Cursor}
 use Rattle.reader.specs.declared.Number.{Number}
@@ -22,9 +32,10 @@ use Rattle.reader.specs.declared.Number.TheVariants.{Got, Not}
 use Rattle.reader.specs.declared.Refusal.{Refusal}
 use Rattle.reader.specs.declared.Step.{Step}
 use Rattle.reader.specs.declared.Step.TheVariants.{Taken, Refused}
-use Rattle.empty_lists.specs.Empty.{Zeros, PastEmpty}
+use Rattle.empty_lists.specs.Empty.{Zeros, PastEmpty, tape_after}
 use Rattle.empty_lists.proofs.Laws.{empty_read, empty_chain, empty_comes}
-use Rattle.deserialize.specs.Parts.{format_of, from_section, count_of}
+use Rattle.deserialize.specs.Parts.{format_of, functions_by, in_order, from_number, from_section, functions_before, count_of}
+use Rattle.deserialize.specs.Reach.{Reaches, ListStands}
 
 -- an empty list is within any limit
 within-any : (n : ℕ) → leb 0 n ≡ true
@@ -87,3 +98,61 @@ module _ (set : Settings) {x : Section} (y : Section) (e : x ≡ y) {s : List �
 
   pub accepted-section : {b : Bool} → Accepted b (format_of set x) s r → Accepted b (format_of set y) s r
   accepted-section g = rw e at g
+
+-- ---- the road
+
+-- a section that is not the last, and the rest
+section-first : (set : Settings) (n : ℕ) (xs : List vob.Section) (i : ℕ) → suc i < length xs
+    → in_order set n (drop i xs) ≡ seq (section set 0 (get_or xs i inline_sources)) (λ v. in_order set (functions_by n (get_or xs i inline_sources) v) (drop (suc i) xs))
+section-first set n [] i h = absurd (omega arith)
+section-first set n (x ∷ []) i h = absurd (omega arith)
+section-first set n (x ∷ y ∷ xs) zero h = refl
+section-first set n (x ∷ y ∷ xs) (suc i) h = section-first set n (y ∷ xs) i (omega arith)
+
+after-second : (i : ℕ) (v : Value) → second (after i v) ≡ after (suc i) v
+after-second zero v = refl
+after-second (suc i) v = after-second i (second v)
+
+-- THE invariant of the road: from r, where the sections begin, i of them have been read
+pub record Along (set : Settings) (i : ℕ) (s : List ℕ) (r r' : Step) : Type 0 where
+  pub on : (v : Value) (q l : ℕ) → On (sections set) s v q l r
+      → On (from_number set (functions_before i v) i) s (after i v) q l r'
+  pub accepted : Accepted true (sections set) s r
+  pub ready : Ready s r'
+
+module _ {set : Settings} {s : List ℕ} {r : Step} where
+  pub along-start : Accepted true (sections set) s r → Ready s r → Along set 0 s r r
+  unfolding sections after_functions section
+  along-start g h = record { on = λ v q l o. o; accepted = g; ready = h }
+
+  module _ {i : ℕ} {r₁ : Step} (x : Section) (h : i < 16) (a : Along set i s r r₁) (e : (section_of x ≡ get_or all_sections i inline_sources) × (functions_of x ≡ 0)) where
+    here : (v : Value) (q l : ℕ) → On (sections set) s v q l r
+        → On (seq (format_of set x) (λ w. from_number set (functions_by (functions_before i v) (get_or all_sections i inline_sources) w) (suc i))) s (after i v) q l r₁
+    here v q l o = rw (e.1, e.0, ← (section-first set (functions_before i v) all_sections i (omega arith))) (a.on v q l o)
+
+    pub along-accepted : Accepted true (format_of set x) s r₁
+    along-accepted = let o = accepted-on a.accepted in on-accepted (here o.0 o.1 o.2 o.3)
+
+    pub along-more : {r₂ : Step} {t t' : List ℕ} → Reader (format_of set x) s r₁ t r₂ t' → Along set (i + 1) s r r₂
+    along-more k = rw (add-one i) (record { on = λ v q l o. rw (← (after-second i v)) (on-next (here v q l o) k); accepted = a.accepted; ready = k.ready })
+
+module _ (set : Settings) {s : List ℕ} {r r₁ r₂ : Step} {t t₁ t₂ : List ℕ} (a : Reader magic s r t r₁ t₁) (b : Reader version s r₁ t₁ r₂ t₂) where
+  pub opened-accepted : Accepted true (pack set) s r → Accepted true (sections set) s r₂
+  unfolding pack
+  opened-accepted g = accepted-next b (accepted-next a g)
+
+  pub along-reaches : {i k : ℕ} {r₃ : Step} → i ≡ k → Along set i s r₂ r₃ → Reaches set k s r r₃
+  unfolding pack
+  along-reaches e k = rw (← e) (record { on = λ v q l o. k.on (after 2 v) q l (on-next (on-next o a) b); ready = k.ready })
+
+-- a list that stands first: its entries are what stands there
+pub on_list : {ρ : Rule} {m k z : ℕ} {f : Format} {g : Value → Format} {s : List ℕ} {v : Value} {q l : ℕ} {r : Step}
+    → On (seq (seq (leaf (count ρ m k z)) (λ v. times f (number v))) g) s v q l r → Ready s r
+    → ListStands f (entries (first v)) s r
+on_list {ρ} {m} {k} {z} {f} {g} {s} {v} {q} {l} {r} o y =
+    let c = o.cursor in
+    let e = ((settle-taken c.left (trace (seq (seq (leaf (count ρ m k z)) (λ v. times f (number v))) g) s c.place) v q l).0 o.settles).0 in
+    let b = seq-ends (seq (leaf (count ρ m k z)) (λ v. times f (number v))) g s c.place e in
+    let k = list-off ρ m k z f s c.place b.fore in
+    let w : ReadyAt s c = rw o.is at y in
+    record { cursor = c; is = o.is; count = k.0; items = record { small = w.small; all = k.2 }; entries = k.1 }

@@ -1,9 +1,9 @@
 -- The sections from one of them on, as parts of the pack's format.
-use Rattle.std.specs.Prelude.{ℕ, List, [], ◌∷◌, drop}
-use Rattle.format.specs.Format.{Value, Format, empty, seq, counted}
+use Rattle.std.specs.Prelude.{ℕ, suc, zero, List, [], ◌∷◌, get_or, drop}
+use Rattle.format.specs.Format.{Value, first, Format, empty, seq, counted}
 use Rattle.vob24.specs.Settings.{Settings}
 use Rattle.vob24.specs.Grammar as vob
-use Rattle.vob24.specs.Grammar.{section}
+use Rattle.vob24.specs.Grammar.{inline_sources, section}
 use Rattle.vob24_data.specs.Sections.{section_of, functions_of, number_of}
 use Rattle.vob24.specs.Fields.{after}
 use Rattle.vob24.specs.Cost.{all_sections}
@@ -32,6 +32,11 @@ from_number set n i = in_order set n (drop i all_sections)
 
 abbrev pub from_section : Settings → ℕ → vob.Section → Format
 from_section set n x = from_number set n (number_of x)
+
+-- The number of functions that was read before it, of the sections' value.
+abbrev pub functions_before : ℕ → Value → ℕ
+functions_before zero v = 0
+functions_before (suc i) v = functions_by (functions_before i v) (get_or all_sections i inline_sources) (first (after i v))
 
 -- The number of functions of an answer: what the sections after them go by.
 abbrev pub count_of : Number → ℕ

@@ -2,11 +2,14 @@
 // Ports Module::deserialize of serialize.rs.
 #![tactic(auto)]
 
+ghost use Rattle.std.specs.Prelude.{true};
 ghost use Rattle.vob24.specs.Settings.{settings_of};
 ghost use Rattle.vob24.specs.Grammar as vob;
+ghost use Rattle.vob24_data.specs.Sections.{section_of, number_of};
 ghost use Rattle.reader.specs.Contract.{step_of, Ready, Reader, ComesTo};
 ghost use Rattle.reader.specs.Accepted.{Accepted};
 ghost use Rattle.deserialize.specs.Parts.{format_of, from_section, count_of};
+ghost use Rattle.deserialize.specs.Reach.{Reaches};
 
 use reader::{Number, Step};
 use vob24_data::{Section, Settings};
@@ -142,4 +145,21 @@ pub fn section(
         Section::FunctionLocations => debug_info::function_locations(s, set, r, tape),
         Section::InlineSources(n) => debug_info::inline_sources(s, set, r, n, tape),
     }
+}
+
+// On to a section of a pack that is taken. The count that comes with the inline sources says nothing here.
+pub fn to_section(s: &[u8], set: &Settings, to: Section, r: Step, tape: &mut [u32]) -> Step
+    requires { (Ready s.now r) × (Accepted true (vob.pack (settings_of set.now)) s.now r) }
+    ensures { Reaches (settings_of set.now) (number_of (section_of to)) s.now r result }
+{
+    let r1 = fields::field_magic(s, r, tape);
+    let mut here = fields::field_version(s, r1, tape);
+    let last = vob24_data::section_number(to);
+    let mut i = 0;
+    while i < last {
+        let x = vob24_data::section_at(i);
+        here = section(s, set, x, here, true, tape);
+        i += 1;
+    }
+    here
 }

@@ -12,10 +12,7 @@ use Rattle.lookup.specs.declared.Found.{Found}
 use Rattle.alike.specs.Alike.{alike_outcome}
 use Rattle.alike_names.specs.Contract as alike
 use Rattle.alike_names.specs.declared.Alike.{Alike}
-use Rattle.source.specs.Source.{source_outcome}
-use Rattle.source_lines.specs.Contract as lines
-use Rattle.source_lines.specs.declared.SourceLine.{SourceLine}
-use Rattle.c_answers.specs.Numbers.{numbers_of, found_numbers, alike_numbers, line_numbers, Shows}
+use Rattle.c_answers.specs.Numbers.{numbers_of, found_numbers, alike_numbers, Shows}
 use Rattle.c_answers.specs.declared.VobAnswer.{VobAnswer}
 
 shows : {o : vob.Outcome} (a : Answer) {q : VobAnswer} {t' : List ℕ} → o ≡ record { answer = answer_of a; tape = t' }
@@ -38,7 +35,3 @@ shows-found call h = h ∙ ap found_numbers call.is
 pub shows_alike : {s : List ℕ} {a : Alike} {q : VobAnswer} → alike.AlikeCall settings s a
     → q ≡ alike_numbers (alike.answer_of a) → q ≡ alike_numbers (alike_outcome settings s)
 shows_alike call h = h ∙ ap alike_numbers call.is
-
-pub shows-line : {s : List ℕ} {f n : ℕ} {a : SourceLine} {q : VobAnswer} → lines.SourceCall settings s f n a
-    → q ≡ line_numbers (lines.answer_of a) → q ≡ line_numbers (source_outcome settings s f n)
-shows-line call h = h ∙ ap line_numbers call.is

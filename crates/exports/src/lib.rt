@@ -1,5 +1,5 @@
-// The calls for programs in C or Rust to link (rt staticlib exports): whole pack, sections, lookup, names alike, source
-// lines and the table of sizes, over the C ABI. The Rust has none of these; bindings/c/vob.h declares them. An answer is returned by value, so
+// The calls for programs in C or Rust to link (rt staticlib exports): whole pack, sections, lookup, names alike and the
+// table of sizes, over the C ABI. The Rust has none of these; bindings/c/vob.h declares them. An answer is returned by value, so
 // a refusal changes no lent memory.
 #![tactic(auto)]
 
@@ -8,8 +8,7 @@ ghost use Rattle.vob24.specs.Settings.{settings, size_of};
 ghost use Rattle.vob24.specs.Grammar as vob;
 ghost use Rattle.vob24.specs.Calls.{read_outcome, section_outcome, find_outcome};
 ghost use Rattle.alike.specs.Alike.{alike_outcome};
-ghost use Rattle.source.specs.Source.{source_outcome};
-ghost use Rattle.c_answers.specs.Numbers.{found_numbers, alike_numbers, line_numbers, Shows};
+ghost use Rattle.c_answers.specs.Numbers.{found_numbers, alike_numbers, Shows};
 
 pub use c_answers::VobAnswer;
 use vob24_data::Section;
@@ -34,13 +33,6 @@ pub extern "C" fn vob_alike_names(pack: &[u8]) -> VobAnswer
     ensures { result ≡ alike_numbers (alike_outcome settings pack.now) }
 {
     c_answers::shown_alike(pack::alike_names(pack))
-}
-
-#[unsafe(no_mangle)]
-pub extern "C" fn vob_source_line(pack: &[u8], function: u64, address: u32) -> VobAnswer
-    ensures { result ≡ line_numbers (source_outcome settings pack.now function address) }
-{
-    c_answers::shown_line(pack::source_line(pack, function, address))
 }
 
 // The size numbered i in the table of sizes, from 1 to 33; 0 where there is none.

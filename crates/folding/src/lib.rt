@@ -90,7 +90,7 @@ fn byte(b: u8) -> u64
 
 // The next folded byte, and what comes after it: the bytes of a mark that are still to come, then those from `at` on.
 // `held` is 0, or 256 and the last byte of a mark, or 512 and that byte where the first is to come too.
-#[derive(Drop)]
+#[derive(Clone, Copy)]
 struct Next {
     byte: u64,
     held: u64,

@@ -1,7 +1,6 @@
 pub mod Texts
 pub mod Places
 pub mod Walking
-pub mod Lists
 pub mod Keys
 pub mod Asking
 pub mod Following

@@ -12,7 +12,7 @@ ghost use Rattle.in_place.specs.Tables.{item_of, format_in};
 ghost use Rattle.in_place.specs.Contract.{TextAt, WordIs, EndIs, SameBytes, SameText, SameFolded, SameName, BlankIs, Placed, Past, PackageIs, After, TwoPlaced, SamePackage, SameKey, Seen};
 
 // The items that have a name; it is the first field of each.
-#[derive(Drop)]
+#[derive(Clone, Copy)]
 pub enum Item {
     Name,
     StructField,
@@ -24,7 +24,7 @@ pub enum Item {
 
 // The items of a table have keys: names; packages and names in `Identities`; names with their letters decomposed in
 // `Alike`. "_" is exempt in `Fields`, `Identities` and among the struct fields of `Alike`.
-#[derive(Drop)]
+#[derive(Clone, Copy)]
 pub enum Table {
     Fields,
     Methods(Item),

@@ -10,7 +10,7 @@ pub use position::Position;
 use vob24_data::Section;
 
 // An answer, and the position after it.
-#[derive(Drop)]
+#[derive(Clone, Copy)]
 pub struct Lent {
     pub answer: Answer,
     pub next: Position,

@@ -18,7 +18,7 @@ const SHORT: u64 = 16;
 const PART: usize = 4096;
 
 // What a run leaves of a list: how many items, and the cursor before them.
-#[derive(Drop)]
+#[derive(Clone, Copy)]
 pub struct Rest {
     pub items: u64,
     pub at: Cursor,

@@ -12,7 +12,7 @@ use reader::{Cursor, Refusal, numbers};
 use vob24_data::Settings;
 
 // start, length
-#[derive(Drop)]
+#[derive(Clone, Copy)]
 pub enum Found {
     At(usize, usize),
     Not(Refusal),

@@ -22,7 +22,7 @@ const NONE: u8 = 0;
 const CALL_LAYOUT: u8 = 11;
 
 // What belongs to an instruction, without its lists.
-#[derive(Drop)]
+#[derive(Clone, Copy)]
 pub enum Metadata {
     None,
     ElemLayout {
@@ -58,14 +58,14 @@ pub enum Metadata {
 }
 
 // A metadata and its lists in file order; absent lists are empty.
-#[derive(Drop)]
+#[derive(Clone, Copy)]
 pub struct MetadataRecord {
     pub kind: Metadata,
     pub first: ListAt,
     pub second: ListAt,
 }
 
-#[derive(Drop)]
+#[derive(Clone, Copy)]
 pub enum MetadataRead {
     Got(MetadataRecord, Cursor),
     Not(Refusal),

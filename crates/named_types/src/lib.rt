@@ -23,7 +23,7 @@ fn method(s: &[u8], r: Step, tape: &mut [u32]) -> Step
 }
 
 // How many methods were read, and the answer past them.
-#[derive(Drop)]
+#[derive(Clone, Copy)]
 struct Run {
     pub count: usize,
     pub step: Step,

@@ -1,7 +1,8 @@
--- The laws of later questions about a pack: the lookup, source lines, names alike.
+-- The lookup, and names alike, in a pack that a whole reading has taken.
 use Prim.Native.Nat.{ℕ, ◌+◌, ◌-◌}
-use mathlib.Core.Path.{◌≡◌, ap, sym, ◌∙◌}
+use mathlib.Core.Path.{◌≡◌, ◌∙◌}
 use mathlib.Core.List.{List, []}
+use mathlib.Core.Bool.{Bool}
 use native.Mathlib.Omega.{arith}
 use lib.ListN.{length}
 use Rattle.format.specs.Trace.{refused, taken, settle}
@@ -10,95 +11,78 @@ use Rattle.format.specs.Format.{Value, entries}
 use Rattle.format.specs.Reading.{part, trace}
 use Rattle.vob24.specs.Settings.{Settings, starting_budget}
 use Rattle.vob24.specs.Calls.{whole_trace, find_outcome}
-use Rattle.vob24.specs.Grammar.{Section, artifacts, function_locations, section, pack}
+use Rattle.vob24.specs.Grammar.{artifacts, section, pack, artifact}
+use Rattle.vob24_data.specs.Sections.{number_of}
+use Rattle.vob24.specs.Cost.{part_of}
 use Rattle.calls.specs.Contract.{from, Opens, Ends}
 use Rattle.calls.proofs.Laws.{Passed, passed, denied, read-passed}
 use Rattle.lookup.specs.Look.{ArtifactsAt, LooksFrom, LocateCall, FindCall}
 use Rattle.lookup.specs.declared.Found.{Found}
 use Rattle.alike.specs.Alike.{alike_outcome}
-use Rattle.source.specs.Source.{source_outcome}
 use Rattle.in_place.specs.Walk.{value_at, stand}
 use Rattle.in_place.specs.Contract.{Placed}
-use Rattle.in_place.proofs.Lists.{list-stands}
 use Rattle.alike_names.specs.Contract.{AlikeCall, AlikeIn}
 use Rattle.alike_names.specs.declared.Alike.{Alike}
-use Rattle.source_lines.specs.Contract.{SourceCall, FunctionsAt, LineFrom}
-use Rattle.source_lines.specs.declared.SourceLine.{SourceLine}
+use Rattle.reader.specs.Accepted.{Accepted}
+use Rattle.reader.proofs.Accepting.{taken-accepted}
 use Rattle.reader.specs.Contract.{wrong_of, Ready, Reader, On}
 use Rattle.reader.specs.declared.Cursor.{Cursor}
 use Rattle.reader.specs.declared.Refusal.{Refusal}
 use Rattle.reader.specs.declared.Step.{Step}
 use Rattle.reader.specs.declared.Step.TheVariants.{Taken, Refused}
-use Rattle.reach.specs.Reach.{Reaches}
-use Rattle.reach.specs.declared.Reached.{Reached}
-use Rattle.pack.specs.Reread.{Rereads}
+use Rattle.deserialize.specs.Reach.{Reaches, ListStands}
+use Rattle.deserialize.proofs.Laws.{on_list}
+use Rattle.pack.specs.Find.{Whole, Located}
 
--- ---- a pack that was read whole
+-- what a whole reading has taken is not refused when it is read again
+pub whole-accepted : {set : Settings} {b : Bool} {s : List ℕ} {r : Step} {c : Cursor} → Whole set s r c
+    → Accepted b (pack set) s r
+whole-accepted w = taken-accepted w.on.is w.on.settles
 
--- Taken: its value, that its reading goes on from r, and that it stands in the file.
-record Whole (set : Settings) (s : List ℕ) (b : ℕ) (r : Step) (c : Cursor) : Type 0 where
-  value : Value
-  settles : settle b (whole_trace set s) ≡ taken value c.place c.left
-  on : On (pack set) s value c.place c.left r
-  placed : Placed (pack set) s 0
-  is : value_at (pack set) s 0 ≡ value
+module _ {set : Settings} {s : List ℕ} {r r' : Step} {c : Cursor} (w : Whole set s r c) (h : Reaches set (number_of artifacts) s r r') where
+  at-artifacts : (v : Value) → On (pack set) s v c.place c.left r
+      → ListStands (artifact set) (entries (part_of artifacts v)) s r'
+  unfolding section part_of
+  at-artifacts v o = on_list (h.on v c.place c.left o) h.ready
 
-whole_of : (set : Settings) {s : List ℕ} {r : Step} {b : ℕ} {c : Cursor} {r' : Step} → Passed (pack set) (whole_trace set s) s 0 b r r'
-    → r' ≡ Taken c → Ready s r → Whole set s b r c
-whole_of set {s} {r} {b} {c} (passed {v = v} {c = d} o i k m) e y =
-    let x : d ≡ c = cc in
-    let k' : settle b (trace (pack set) s 0) ≡ taken v c.place c.left = rw x at k in
-    let a = stand ((settle-taken b (trace (pack set) s 0) v c.place c.left).0 k').0 in
-    let z : Ready s (Taken (from 0 b)) = rw o at y in
-    record {
-      value = v;
-      settles = rw x at i;
-      on = record { cursor = from 0 b; is = o; settles = k' };
-      placed = record { small = z.small; stands = a.stands };
-      is = a.value;
-    }
-whole_of set (denied i) e y = let no : ◌≡◌ {A = ℕ} 0 1 = cc in absurd (omega arith)
+  -- a pack that was taken is not refused on the way
+  pub located-refused : {name : List ℕ} {x : Refusal} {q : Found} → r' ≡ Refused x → Located set s r name c q
+  located-refused e = let k = at-artifacts w.value w.on in let no : ◌≡◌ {A = ℕ} 0 1 = cc k.is in absurd (omega arith)
 
-denied-of : (set : Settings) {s : List ℕ} {r : Step} {b : ℕ} {x : Refusal} {r' : Step} → Passed (pack set) (whole_trace set s) s 0 b r r'
-    → r' ≡ Refused x → settle b (whole_trace set s) ≡ refused (wrong_of x) x.place x.left
-denied-of set (denied {x = y} i) e = i ∙ cc
-denied-of set (passed o i k m) e = let no : ◌≡◌ {A = ℕ} 0 1 = cc in absurd (omega arith)
+  module _ {a : Cursor} (e : r' ≡ Taken a) where
+    pub located-counted : ArtifactsAt set s a.place
+    located-counted = let k = at-artifacts w.value w.on in let i : k.cursor ≡ a = cc k.is in rw (← i) (record { count = k.count; items = k.items })
 
--- ---- later questions
+    pub located-look : {name : List ℕ} {q : Found} → LooksFrom set s a.place name c q → Located set s r name c q
+    located-look l = record { is = λ v o. let k = at-artifacts v o in let i : k.cursor ≡ a = cc k.is in l.looks.is ∙ rw (k.entries, i); room = l.looks.room }
 
--- the place of a section, and the end
-pub reread-whole : (set : Settings) (x : Section) {s : List ℕ} {r₀ r' : Step} {q : Reached} {t e : List ℕ} → Opens s 0 starting_budget r₀
-    → Reaches set x s r₀ t q e → Ends (length s) q.end r' → Rereads set x s (record { section = q.section; end = r' })
-reread-whole set x o k g =
-    let p = read-passed set o k.reader g in
-    record {
-      stood = λ c e.
-          let w = whole_of set p e o.ready in
-          record { value = w.value; settles = w.settles; small = w.placed.small; stands = k.stands w.value c.place c.left w.on };
-      denied = λ w e. denied-of set p e;
-    }
+module _ (set : Settings) {s : List ℕ} {r : Step} where
+  whole_of : {b : ℕ} {c : Cursor} {r' : Step} → Passed (pack set) (whole_trace set s) s 0 b r r' → r' ≡ Taken c
+      → Ready s r → (w : Whole set s r c) × (settle b (whole_trace set s) ≡ taken w.value c.place c.left)
+  whole_of {b} {c} (passed {v = v} {c = d} o i k m) e y =
+      let x : d ≡ c = cc in
+      let k' : settle b (trace (pack set) s 0) ≡ taken v c.place c.left = rw x at k in
+      let i' : settle b (whole_trace set s) ≡ taken v c.place c.left = rw x at i in
+      (record { value = v; on = record { cursor = from 0 b; is = o; settles = k' }; ready = y }, i')
+  whole_of (denied i) e y = let no : ◌≡◌ {A = ℕ} 0 1 = cc in absurd (omega arith)
 
--- ---- the lookup
+  denied-of : {b : ℕ} {x : Refusal} {r' : Step} → Passed (pack set) (whole_trace set s) s 0 b r r' → r' ≡ Refused x
+      → settle b (whole_trace set s) ≡ refused (wrong_of x) x.place x.left
+  denied-of (denied {x = y} i) e = i ∙ cc
+  denied-of (passed o i k m) e = let no : ◌≡◌ {A = ℕ} 0 1 = cc in absurd (omega arith)
 
-module _ (set : Settings) {s : List ℕ} {q : Reached} (h : Rereads set artifacts s q) where
-  pub locate-refused : {name : List ℕ} {x : Refusal} → q.end ≡ Refused x → LocateCall set s name (Found.Not x)
+module _ (set : Settings) {s : List ℕ} {r₀ r r' : Step} {t e : List ℕ} (o : Opens s 0 starting_budget r₀) (k : Reader (pack set) s r₀ t r e) (g : Ends (length s) r r') where
+  pub locate-whole : {c : Cursor} → r' ≡ Taken c → Whole set s r₀ c
+  locate-whole i = (whole_of set (read-passed set o k g) i o.ready).0
+
+  pub locate-found : {name : List ℕ} {c : Cursor} {q : Found} → r' ≡ Taken c → Located set s r₀ name c q
+      → LocateCall set s name q
   unfolding find_outcome
-  locate-refused i = record { is = rw (h.denied _ i); room = record { fits = λ p n j. let no : ◌≡◌ {A = ℕ} 0 1 = cc in absurd (omega arith) } }
+  locate-found i l = let w = whole_of set (read-passed set o k g) i o.ready in record { is = l.is w.0.value w.0.on ∙ rw w.1; room = l.room }
 
-  module _ {c : Cursor} (i : q.end ≡ Taken c) where
-    pub locate-counted : ArtifactsAt set s q.section
-    unfolding section
-    locate-counted =
-        let w = h.stood c i in
-        let l = list-stands w.stands.stands in
-        record { count = l.room; items = record { small = w.small; all = l.all } }
-
-    pub locate-found : {name : List ℕ} {f : Found} → LooksFrom set s q.section name c f → LocateCall set s name f
-    unfolding find_outcome section
-    locate-found l =
-        let w = h.stood c i in
-        let e = ap entries (sym w.stands.value) ∙ (list-stands w.stands.stands).value in
-        record { is = l.looks.is ∙ rw (w.settles, e); room = l.looks.room }
+  pub locate-refused : {name : List ℕ} {x : Refusal} → r' ≡ Refused x → LocateCall set s name (Found.Not x)
+  unfolding find_outcome
+  locate-refused i = record { is = rw (denied-of set (read-passed set o k g) i); room = record { fits = λ p n j. let no : ◌≡◌ {A = ℕ} 0 1 = cc in absurd (omega arith) } }
 
 module _ {set : Settings} {s name : List ℕ} {q : Found} (l : LocateCall set s name q) where
   pub find-part : {p n : ℕ} → q ≡ Found.At p n → FindCall set s name (part s p (p + n - p))
@@ -107,37 +91,31 @@ module _ {set : Settings} {s name : List ℕ} {q : Found} (l : LocateCall set s 
   pub find_none : {x : Refusal} → q ≡ Found.Not x → FindCall set s name []
   find_none e = record { is = rw (← l.is, e) }
 
--- ---- source lines
-
-module _ (set : Settings) {s : List ℕ} {q : Reached} (h : Rereads set function_locations s q) where
-  pub line_refused : {f a : ℕ} {x : Refusal} → q.end ≡ Refused x → SourceCall set s f a (SourceLine.Not x)
-  unfolding source_outcome
-  line_refused i = record { is = rw (h.denied _ i) }
-
-  module _ {c : Cursor} (i : q.end ≡ Taken c) where
-    pub line-counted : FunctionsAt set s q.section
-    unfolding section
-    line-counted =
-        let w = h.stood c i in
-        let l = list-stands w.stands.stands in
-        record { count = l.room; lists = record { small = w.small; all = l.all } }
-
-    pub line-found : {f a : ℕ} {r : SourceLine} → LineFrom set s q.section f a c r → SourceCall set s f a r
-    unfolding source_outcome section
-    line-found l =
-        let w = h.stood c i in
-        let e = ap entries (sym w.stands.value) ∙ (list-stands w.stands.stands).value in
-        record { is = l.is ∙ rw (w.settles, e) }
-
 -- ---- names alike
+
+-- A pack that was taken: its value, and that it stands in the file.
+record Stood (set : Settings) (s : List ℕ) (b : ℕ) (c : Cursor) : Type 0 where
+  value : Value
+  settles : settle b (whole_trace set s) ≡ taken value c.place c.left
+  placed : Placed (pack set) s 0
+  is : value_at (pack set) s 0 ≡ value
+
+stood : (set : Settings) {s : List ℕ} {r : Step} {b : ℕ} {c : Cursor} {r' : Step} → Passed (pack set) (whole_trace set s) s 0 b r r'
+    → r' ≡ Taken c → Ready s r → Stood set s b c
+stood set {s} {r} {b} {c} (passed {v = v} {c = d} o i k m) e y =
+    let x : d ≡ c = cc in
+    let a = stand ((settle-taken b (trace (pack set) s 0) v d.place d.left).0 k).0 in
+    let z : Ready s (Taken (from 0 b)) = rw o at y in
+    record { value = v; settles = rw x at i; placed = record { small = z.small; stands = a.stands }; is = a.value }
+stood set (denied i) e y = let no : ◌≡◌ {A = ℕ} 0 1 = cc in absurd (omega arith)
 
 module _ (set : Settings) {s : List ℕ} {r₀ r r' : Step} {t e : List ℕ} (o : Opens s 0 starting_budget r₀) (k : Reader (pack set) s r₀ t r e) (g : Ends (length s) r r') where
   pub alike-placed : {c : Cursor} → r' ≡ Taken c → Placed (pack set) s 0
-  alike-placed i = (whole_of set (read-passed set o k g) i o.ready).placed
+  alike-placed i = (stood set (read-passed set o k g) i o.ready).placed
 
   pub alike-found : {c : Cursor} {q : Alike} → r' ≡ Taken c → AlikeIn set s q → AlikeCall set s q
   unfolding alike_outcome
-  alike-found i l = let w = whole_of set (read-passed set o k g) i o.ready in record { is = l.is ∙ rw (w.is, w.settles) }
+  alike-found i l = let w = stood set (read-passed set o k g) i o.ready in record { is = l.is ∙ rw (w.is, w.settles) }
 
   pub alike-refused : {x : Refusal} → r' ≡ Refused x → AlikeCall set s (Alike.Not x)
   unfolding alike_outcome

@@ -1,1 +1,1 @@
-pub mod Reread
+pub mod Find

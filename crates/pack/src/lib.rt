@@ -1,25 +1,20 @@
-// The public calls on a whole pack: reading it under a budget, the lookup of an artifact, names that print alike, and the
-// source line of an address.
+// The public calls on a whole pack: reading it under a budget, the lookup of an artifact, and names that print alike.
 // Port the callers' side of Module::deserialize and Module::artifact; the budget and the tape are added.
 #![tactic(auto)]
 
 ghost use Rattle.vob24.specs.Settings.{settings, settings_of};
-ghost use Rattle.vob24_data.specs.Sections.{section_of};
 ghost use Rattle.calls.specs.Contract.{Opens, ReadCall};
 ghost use Rattle.lookup.specs.Look.{LocateCall, FindCall};
 ghost use Rattle.alike_names.specs.Contract.{AlikeCall};
-ghost use Rattle.source_lines.specs.Contract.{SourceCall};
-ghost use Rattle.pack.specs.Reread.{Rereads};
+ghost use Rattle.pack.specs.Find.{Whole, Located};
 
 use alike_names::Alike;
 use calls::Answer;
 use lookup::Found;
-use reach::Reached;
 use reader::{Cursor, Step};
-use source_lines::SourceLine;
 use vob24_data::{Section, Settings};
 
-// The Rust's own, under which every later question about a pack reads it.
+// The Rust's own, under which the lookup and names alike read.
 pub const STARTING_BUDGET: u64 = 536_870_912;
 
 // A pack of at most SMALL bytes is read once, into a local tape of OWN words that is then copied. A pack without entries
@@ -71,19 +66,16 @@ pub fn read(pack: &[u8], budget: u64, tape: &mut [u32]) -> Answer
     answer
 }
 
-// What a later question about a pack starts from: how the pack ends under the Rust's budget and, where it is taken, the
-// place of a section.
-fn reread(pack: &[u8], set: &Settings, section: Section) -> Reached
-    ensures { Rereads (settings_of set.now) (section_of section) pack.now result }
+// The artifact of this name in a pack that was taken from r on, up to `end`.
+fn located(s: &[u8], set: &Settings, r: Step, name: &[u8], end: Cursor) -> Found
+    requires { Whole (settings_of set.now) s.now r end }
+    ensures { Located (settings_of set.now) s.now r name.now end result }
 {
     let mut none = [0u32; 1];
-    let start = calls::opening_whole(pack, STARTING_BUDGET);
-    let whole = reach::reach_section(pack, set, section, start, &mut none[..0]);
-    let read = whole.end;
-    let end = calls::ended(read, pack.len());
-    Reached {
-        section: whole.section,
-        end: end,
+    let at = deserialize::to_section(s, set, Section::Artifacts, r, &mut none[..0]);
+    match at {
+        Step::Refused(x) => Found::Not(x),
+        Step::Taken(a) => lookup::look_from(s, set, a.place, name, end),
     }
 }
 
@@ -92,14 +84,13 @@ pub fn locate_artifact(pack: &[u8], name: &[u8]) -> Found
     ensures { LocateCall settings pack.now name.now result }
 {
     let set = &vob24_data::MEASURED;
-    let whole = reread(pack, set, Section::Artifacts);
-    let end = whole.end;
+    let mut none = [0u32; 1];
+    let start = calls::opening_whole(pack, STARTING_BUDGET);
+    let first = deserialize::deserialize(pack, set, start, false, &mut none[..0]);
+    let end = calls::ended(first, pack.len());
     match end {
         Step::Refused(x) => Found::Not(x),
-        Step::Taken(c) => {
-            let artifacts = whole.section;
-            lookup::look_from(pack, set, artifacts, name, c)
-        }
+        Step::Taken(c) => located(pack, set, start, name, c),
     }
 }
 
@@ -130,23 +121,5 @@ pub fn alike_names(pack: &[u8]) -> Alike
     match end {
         Step::Refused(x) => Alike::Not(x),
         Step::Taken(_) => alike_names::find_alike(pack, set),
-    }
-}
-
-// Of the debug locations of a function, those with address at or below the one given: the entry number of the one with
-// the greatest address, the last in the file among equals; none; or the refusal. The function's number is a place in the
-// debug list.
-pub fn source_line(pack: &[u8], function: u64, address: u32) -> SourceLine
-    ensures { SourceCall settings pack.now function address result }
-{
-    let set = &vob24_data::MEASURED;
-    let whole = reread(pack, set, Section::FunctionLocations);
-    let end = whole.end;
-    match end {
-        Step::Refused(x) => SourceLine::Not(x),
-        Step::Taken(c) => {
-            let locations = whole.section;
-            source_lines::line_from(pack, set, locations, function, address, c)
-        }
     }
 }

@@ -6,7 +6,7 @@ ghost use Rattle.position.specs.Moving.{Fits, Moves};
 
 use calls::Answer;
 
-#[derive(Drop)]
+#[derive(Clone, Copy)]
 pub struct Position {
     pub place: usize,
     pub budget: u64,

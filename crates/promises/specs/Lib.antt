@@ -4,4 +4,3 @@ pub mod Section
 pub mod Lent
 pub mod Lookup
 pub mod Alike
-pub mod Source

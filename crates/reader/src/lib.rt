@@ -17,14 +17,14 @@ pub mod numbers;
 pub mod sizes;
 
 // Place in the pack, budget left, and words counted so far.
-#[derive(Drop)]
+#[derive(Clone, Copy)]
 pub struct Cursor {
     pub place: usize,
     pub left: u64,
     pub at: usize,
 }
 
-#[derive(Drop)]
+#[derive(Clone, Copy)]
 pub struct Refusal {
     pub number: u64,
     pub context: u64,
@@ -35,41 +35,41 @@ pub struct Refusal {
 }
 
 // The answer so far: a reader takes it and returns the next.
-#[derive(Drop)]
+#[derive(Clone, Copy)]
 pub enum Step {
     Taken(Cursor),
     Refused(Refusal),
 }
 
 // The leaves' answers: a value and the cursor past it, or the refusal.
-#[derive(Drop)]
+#[derive(Clone, Copy)]
 pub enum Number {
     Got(u64, Cursor),
     Not(Refusal),
 }
 
 // An i64 or f64 comes with its bits, from which its words are made.
-#[derive(Drop)]
+#[derive(Clone, Copy)]
 pub enum Signed {
     Got(i64, u64, Cursor),
     Not(Refusal),
 }
 
-#[derive(Drop)]
+#[derive(Clone, Copy)]
 pub enum Float {
     Got(f64, u64, Cursor),
     Not(Refusal),
 }
 
 // start, length
-#[derive(Drop)]
+#[derive(Clone, Copy)]
 pub enum Payload {
     Got(usize, usize, Cursor),
     Not(Refusal),
 }
 
 // start, length, characters
-#[derive(Drop)]
+#[derive(Clone, Copy)]
 pub enum Text {
     Got(usize, usize, usize, Cursor),
     Not(Refusal),
@@ -161,7 +161,7 @@ pub fn number_of(n: u64, r: Step) -> Number
 }
 
 // A list that was read: the place of its first entry in the pack, and its count.
-#[derive(Drop)]
+#[derive(Clone, Copy)]
 pub struct ListAt {
     pub start: usize,
     pub count: usize,

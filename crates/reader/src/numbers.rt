@@ -1,5 +1,4 @@
-// Document 01's refusal numbers and contexts, by its names, and the numbers of document 02; vob24's specs/Refusals.antt
-// has the same for the contracts.
+// Document 01's refusal numbers and contexts, by its names; vob24's specs/Refusals.antt has the same for the contracts.
 pub const INPUT_TOO_LARGE: u64 = 1;
 
 pub const UNEXPECTED_EOF: u64 = 2;
@@ -53,8 +52,6 @@ pub const HOST_CALLS: u64 = 25;
 pub const NO_ROOM: u64 = 26;
 
 pub const NO_SUCH_ARTIFACT: u64 = 27;
-
-pub const NO_SUCH_FUNCTION: u64 = 28;
 
 // Contexts: what a charge or a limit is for.
 pub const BYTE_STRING: u64 = 1;

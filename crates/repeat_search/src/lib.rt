@@ -34,7 +34,7 @@ const CLASS: usize = 196608;
 const IN_VAIN: usize = 12;
 
 // An item repeats one before it; too many comparisons found no repeat; or go on, with the comparisons that are left.
-#[derive(Drop)]
+#[derive(Clone, Copy)]
 enum Probe {
     Repeat,
     TooMany,
@@ -42,7 +42,7 @@ enum Probe {
 }
 
 // The first repeat, or the number of items where there is none; or too many comparisons found no repeat.
-#[derive(Drop)]
+#[derive(Clone, Copy)]
 enum Outcome {
     First(usize),
     GaveUp,
@@ -307,7 +307,7 @@ fn hash_package(s: &[u8], p: usize, seed: u64) -> u64
 }
 
 // The hash after the character at a place, and the place past it.
-#[derive(Drop)]
+#[derive(Clone, Copy)]
 struct Taken {
     hash: u64,
     at: usize,

@@ -1,13 +1,12 @@
-// Replays the lists of the oracle's answers that its arguments name: whole packs, section calls, lookups, texts alone, names
-// that print alike, and source lines. Prints each difference, and a line for each list.
+// Replays the lists of the oracle's answers that its arguments name: whole packs, section calls, lookups, texts alone, and
+// names that print alike. Prints each difference, and a line for each list.
 #![tactic(auto)]
 
 use alike_names::Alike;
 use lent_sections::Position;
 use lookup::Found;
 use reader::{Step, Text};
-use source_lines::SourceLine;
-use stored_answers::{ALIKE_NAMES, LOOKUP, SECTION_CALL, SOURCE_LINE, TEXT, Tally, WHOLE};
+use stored_answers::{ALIKE_NAMES, LOOKUP, SECTION_CALL, TEXT, Tally, WHOLE};
 use vob24_data::Section;
 
 fn whole(t: Tally, h: &[u8], pack: &[u8], words: &[u8], tape: &mut [u32]) -> Tally {
@@ -109,17 +108,6 @@ fn alike_names(t: Tally, h: &[u8], pack: &[u8]) -> Tally {
     }
 }
 
-// A record has the function's number and the address where a section call has its function count and its place.
-fn source_line(t: Tally, h: &[u8], pack: &[u8]) -> Tally {
-    let function = stored_answers::long(h, stored_answers::FUNCTIONS);
-    let address = stored_answers::number(h, stored_answers::PLACE) as u32;
-    match pack::source_line(pack, function, address) {
-        SourceLine::Entry(entry) => stored_answers::hold_line(t, h, entry),
-        SourceLine::None => stored_answers::hold_no_line(t, h),
-        SourceLine::Not(r) => stored_answers::hold_refusal(t, h, r),
-    }
-}
-
 fn replay_kind(
     t: Tally,
     h: &[u8],
@@ -141,9 +129,6 @@ fn replay_kind(
     }
     if kind == ALIKE_NAMES {
         return alike_names(t, h, pack);
-    }
-    if kind == SOURCE_LINE {
-        return source_line(t, h, pack);
     }
     let t = stored_answers::hold(t, b"kind", kind, WHOLE);
     whole(t, h, pack, words, tape)

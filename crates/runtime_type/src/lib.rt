@@ -17,7 +17,7 @@ use reader::{Cursor, ListAt, Number, Refusal, Step, sizes};
 use vob24_data::Settings;
 
 // An id that may be absent.
-#[derive(Drop)]
+#[derive(Clone, Copy)]
 pub enum OptionalId {
     Absent,
     Id(u32),
@@ -25,7 +25,7 @@ pub enum OptionalId {
 
 // A runtime type, without its lists. Other types are named by rttids; a direction is 0 for both, 1 for send, 2 for
 // receive.
-#[derive(Drop)]
+#[derive(Clone, Copy)]
 pub enum RuntimeType {
     Basic(u8),
     Named { id: u32, struct_meta_id: OptionalId },
@@ -44,14 +44,14 @@ pub enum RuntimeType {
 
 // A runtime type and its lists in file order: a function's parameters and results, a struct's fields, an interface's
 // methods, a tuple's types. Absent lists are empty.
-#[derive(Drop)]
+#[derive(Clone, Copy)]
 pub struct RuntimeTypeRecord {
     pub kind: RuntimeType,
     pub first: ListAt,
     pub second: ListAt,
 }
 
-#[derive(Drop)]
+#[derive(Clone, Copy)]
 pub enum RuntimeTypeRead {
     Got(RuntimeTypeRecord, Cursor),
     Not(Refusal),

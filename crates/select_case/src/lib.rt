@@ -12,7 +12,7 @@ ghost use Rattle.select_case.specs.Contract.{select_step, SelectReader};
 use reader::{Cursor, Number, Refusal, sizes};
 use vob24_data::Settings;
 
-#[derive(Drop)]
+#[derive(Clone, Copy)]
 pub enum SelectCase {
     Send {
         queue: u16,
@@ -27,7 +27,7 @@ pub enum SelectCase {
     },
 }
 
-#[derive(Drop)]
+#[derive(Clone, Copy)]
 pub enum SelectCaseRead {
     Got(SelectCase, Cursor),
     Not(Refusal),

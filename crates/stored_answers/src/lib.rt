@@ -20,8 +20,6 @@ pub const TEXT: u64 = 4;
 
 pub const ALIKE_NAMES: u64 = 5;
 
-pub const SOURCE_LINE: u64 = 6;
-
 const HEADER: u64 = 128;
 
 // Offsets in a header.
@@ -68,7 +66,7 @@ const SHOWN: u64 = 20;
 const STEP: u32 = 2_654_435_769;
 
 // The records of a list so far, and how many times one of them differed.
-#[derive(Drop)]
+#[derive(Clone, Copy)]
 pub struct Tally {
     pub records: u64,
     pub differences: u64,
@@ -126,7 +124,7 @@ fn is_sound(h: &[u8], pack: &[u8], tape: &[u32]) -> bool {
         && (words == 0 || words == count)
 }
 
-#[derive(Drop)]
+#[derive(Clone, Copy)]
 enum Next {
     Record,
     End,
@@ -421,20 +419,6 @@ pub fn hold_no_pair(t: Tally, h: &[u8]) -> Tally {
     let t = hold(t, b"status", long(h, STATUS), 0);
     let t = hold(t, b"count", number(h, COUNT), 0);
     hold(t, b"pair", long(h, FIELDS), 0)
-}
-
-pub fn hold_line(t: Tally, h: &[u8], entry: usize) -> Tally {
-    let t = hold(t, b"status", long(h, STATUS), 0);
-    let t = hold(t, b"count", number(h, COUNT), 0);
-    let t = hold(t, b"found", long(h, FIELDS), 1);
-    hold(t, b"entry", long(h, FIELDS + 8), entry as u64)
-}
-
-pub fn hold_no_line(t: Tally, h: &[u8]) -> Tally {
-    let t = hold(t, b"status", long(h, STATUS), 0);
-    let t = hold(t, b"count", number(h, COUNT), 0);
-    let t = hold(t, b"found", long(h, FIELDS), 0);
-    hold(t, b"entry", long(h, FIELDS + 8), 0)
 }
 
 // The cursor is the one past the text.

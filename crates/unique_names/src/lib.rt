@@ -169,7 +169,7 @@ fn unless(b: bool, n: u64) -> u64
 }
 
 // How many of n fields have a name other than "_", and how many bytes these names have.
-#[derive(Drop)]
+#[derive(Clone, Copy)]
 struct Tally {
     names: u64,
     bytes: u64,

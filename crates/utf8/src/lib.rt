@@ -11,27 +11,27 @@ ghost use Rattle.utf8_parts.specs.Parts.{Ascii};
 ghost use Rattle.utf8.specs.Answers.{next_of, scan_of, Both, Starts, Scans, Tries, TriesAt};
 
 // What may come after a byte: how many more of its sequence, and the next of them from lo to hi.
-#[derive(Drop)]
+#[derive(Clone, Copy)]
 enum Next {
     Bad,
     Want { more: u8, lo: u8, hi: u8 },
 }
 
-#[derive(Drop)]
+#[derive(Clone, Copy)]
 pub enum Scanned {
     IllFormed,
     Characters(usize),
 }
 
 // Whole characters up to a place, and their count.
-#[derive(Drop)]
+#[derive(Clone, Copy)]
 enum Upto {
     IllFormed,
     At { place: usize, characters: usize },
 }
 
 // What the faster test says: well-formed, with the number of characters, or nothing.
-#[derive(Drop)]
+#[derive(Clone, Copy)]
 pub enum Tried {
     Unknown,
     Characters(usize),

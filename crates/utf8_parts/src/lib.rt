@@ -94,7 +94,7 @@ const PART: usize = 240;
 
 // What was found of `width` bytes: `wrong` is below 128 where each may follow those before it; `trailing` counts the
 // trailing bytes.
-#[derive(Drop)]
+#[derive(Clone, Copy)]
 pub struct Part {
     pub width: usize,
     pub wrong: u8,

@@ -1,4 +1,4 @@
--- Document 01's refusal numbers and contexts, by its names, and the numbers of document 02.
+-- Document 01's refusal numbers and contexts, by its names.
 use Rattle.std.specs.Prelude.{ℕ}
 pub use Rattle.format.specs.Trace.{unexpected_eof, allocation_budget_exceeded, invalid_utf8, invalid_source_integer}
 
@@ -70,10 +70,6 @@ no_room = 26
 
 abbrev pub no_such_artifact : ℕ
 no_such_artifact = 27
-
--- "A number past the debug list is 28 NoSuchFunction"
-abbrev pub no_such_function : ℕ
-no_such_function = 28
 
 -- Contexts: what a charge or a limit is for.
 

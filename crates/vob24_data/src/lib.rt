@@ -11,7 +11,7 @@ ghost use Rattle.vob24.specs.Cost.{all_sections};
 mod limits;
 
 // The sections of a pack, in file order; the inline sources with the number of functions that bounds them.
-#[derive(Drop)]
+#[derive(Clone, Copy)]
 pub enum Section {
     Name,
     Structs,

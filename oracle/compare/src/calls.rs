@@ -5,7 +5,6 @@ use harness::answer::{self, Answer};
 
 /// An answer as the archive gives it. Taken: 0, words, bytes, charged, left, 0. Refused: number, c, d1, d2, place, left.
 /// Found: 0, start, length, 0, 0, 0. Alike: 0, 1, start and length of the earlier name, then of the later one; none alike: zeros.
-/// Line: 0, 1, the entry's number, 0, 0, 0; none: zeros.
 pub type Fields = [u64; 6];
 
 pub fn fields(answer: Answer) -> Fields {
@@ -25,14 +24,6 @@ pub fn found(answer: Result<(u64, u64), Answer>) -> Fields {
 pub fn alike(answer: Result<Option<Pair>, Answer>) -> Fields {
     match answer {
         Ok(Some([start, length, later_start, later_length])) => [0, 1, start, length, later_start, later_length],
-        Ok(None) => [0; 6],
-        Err(refused) => fields(refused),
-    }
-}
-
-pub fn line(answer: Result<Option<u64>, Answer>) -> Fields {
-    match answer {
-        Ok(Some(entry)) => [0, 1, entry, 0, 0, 0],
         Ok(None) => [0; 6],
         Err(refused) => fields(refused),
     }
@@ -69,7 +60,6 @@ pub trait Reader {
     ) -> Fields;
     unsafe fn lookup(&mut self, pack: Lent<u8>, name: &[u8]) -> Fields;
     unsafe fn alike_names(&mut self, pack: Lent<u8>) -> Fields;
-    unsafe fn source_line(&mut self, pack: Lent<u8>, function: u64, address: u32) -> Fields;
 }
 
 #[derive(Clone, Debug)]
@@ -78,14 +68,13 @@ pub enum Call {
     Section { number: usize, place: u64, budget: u64, functions: u64, tape: usize },
     Lookup { name: Vec<u8> },
     AlikeNames,
-    SourceLine { function: u64, address: u32 },
 }
 
 impl Call {
     pub fn tape(&self) -> usize {
         match self {
             Call::Whole { tape, .. } | Call::Section { tape, .. } => *tape,
-            Call::Lookup { .. } | Call::AlikeNames | Call::SourceLine { .. } => 0,
+            Call::Lookup { .. } | Call::AlikeNames => 0,
         }
     }
 
@@ -102,9 +91,6 @@ impl Call {
             }
             Call::Lookup { name } => (found(answer::lookup(pack, name)), Vec::new()),
             Call::AlikeNames => (alike(answer::alike_names(pack)), Vec::new()),
-            Call::SourceLine { function, address } => {
-                (line(answer::source_line(pack, *function, *address)), Vec::new())
-            }
         }
     }
 
@@ -117,7 +103,6 @@ impl Call {
             }
             Call::Lookup { name } => reader.lookup(pack, name),
             Call::AlikeNames => reader.alike_names(pack),
-            Call::SourceLine { function, address } => reader.source_line(pack, *function, *address),
         }
     }
 
@@ -126,9 +111,8 @@ impl Call {
         let [number, a, b, c, d, e] = answer;
         match (self, number) {
             (Call::Lookup { .. }, 0) => format!("found {a} {b}"),
-            (Call::AlikeNames | Call::SourceLine { .. }, 0) if answer == [0; 6] => "none".to_string(),
+            (Call::AlikeNames, 0) if answer == [0; 6] => "none".to_string(),
             (Call::AlikeNames, 0) => format!("pair {a}: {b} {c} {d} {e}"),
-            (Call::SourceLine { .. }, 0) => format!("line {a}: {b} {c} {d} {e}"),
             (_, 0) => format!("taken {a} {b} {c} {d}"),
             _ => format!("refused {number} {a} {b} {c} {d} {e}"),
         }
@@ -144,9 +128,6 @@ impl std::fmt::Display for Call {
             }
             Call::Lookup { name } => write!(f, "the lookup of {}", hex(name)),
             Call::AlikeNames => write!(f, "the names that print alike"),
-            Call::SourceLine { function, address } => {
-                write!(f, "the source line of function {function}, address {address}")
-            }
         }
     }
 }

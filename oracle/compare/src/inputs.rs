@@ -5,8 +5,7 @@ use harness::accents::{self, Kind, RuntimeType, Tables};
 use harness::alike;
 use harness::answer::{self, opening_part, Reading, BARE, NO_END, RUST_BUDGET};
 use harness::cases;
-use harness::locations;
-use harness::packs::{self, Chance, Location};
+use harness::packs::{self, Chance};
 use harness::texts::{self, BESIDE, ILL_FORMED, KINDS};
 use measured::serialize::MAX_VOB_BYTES;
 use original::bytecode::WellKnownTypes;
@@ -168,59 +167,6 @@ pub fn accented(chance: &mut Chance) -> Vec<u8> {
     tables.pack()
 }
 
-/// Locations whose pcs are sorted, descending or in any order, with many equal ones or at the ends of ranges.
-fn location_list(chance: &mut Chance) -> Vec<Location> {
-    const EDGES: [u32; 10] =
-        [0, 1, 0xFFFF, 0x1_0000, 0x1_0001, 0x7FFF_FFFF, 0x8000_0000, 0x8000_0001, u32::MAX - 1, u32::MAX];
-    let count = match chance.below(32) {
-        0 => 100 + chance.below(200),
-        1..8 => chance.below(40),
-        _ => chance.below(7),
-    };
-    let (kind, around) = (chance.below(6), chance.word());
-    let mut pcs: Vec<u32> = (0..count)
-        .map(|_| match kind {
-            0 => any(chance, &EDGES),
-            1 => around,
-            2 => around.saturating_add(chance.below(4) as u32),
-            3 => chance.below(count + 1) as u32,
-            _ => chance.word(),
-        })
-        .collect();
-    match chance.below(5) {
-        0 => pcs.sort_unstable(),
-        1 => pcs.sort_unstable_by(|a, b| b.cmp(a)),
-        _ => {}
-    }
-    // Numbers of one length for the whole list, or of any.
-    let width = 1 + chance.below(10) as usize;
-    let mut number = || {
-        let any = 1 + chance.below(5) as usize;
-        locations::of_width(chance, if width <= 5 { width } else { any })
-    };
-    pcs.into_iter().map(|pc| [pc, number(), number(), number(), number()]).collect()
-}
-
-/// A pack with a few lists of locations, now and then none or many, and as many functions, fewer or more.
-pub fn located(chance: &mut Chance) -> Vec<u8> {
-    let count = match chance.below(24) {
-        0 => 0,
-        1 => 30 + chance.below(100),
-        _ => 1 + chance.below(6),
-    };
-    let mut lists: Vec<Vec<Location>> = (0..count).map(|_| location_list(chance)).collect();
-    if chance.below(8) == 0 {
-        lists.iter_mut().for_each(|list| list.truncate(1));
-    }
-    let functions = match chance.below(3) {
-        0 => count.min(8),
-        _ => chance.below(6),
-    };
-    // A name moves all that comes after it.
-    let name = "n".repeat(chance.below(32) as usize);
-    packs::with_locations(&name, functions as usize, &lists)
-}
-
 /// Packs at the limits that only a long one reaches.
 pub fn long() -> Vec<Vec<u8>> {
     let payload = 16_777_216;
@@ -268,17 +214,6 @@ pub fn long() -> Vec<Vec<u8>> {
         out.resize(out.len() + 8 * last as usize, 0);
         out
     };
-    // Locations whose numbers take a byte each.
-    let locations = |lists: usize, entries: usize| {
-        let mut out = opening_part(16, 0);
-        out.extend((lists as u32).to_le_bytes());
-        for _ in 0..lists {
-            out.extend((entries as u32).to_le_bytes());
-            out.extend((0..5 * entries).map(|i| (i * 37 % 128) as u8));
-        }
-        out.resize(out.len() + BARE[16], 0);
-        out
-    };
     vec![
         vec![0; MAX_VOB_BYTES],
         vec![0; MAX_VOB_BYTES + 1],
@@ -294,9 +229,6 @@ pub fn long() -> Vec<Vec<u8>> {
         nested(unpaid_nested - 1),
         inline(131_072, 0),
         inline(0, 1),
-        locations(1, 1_000_000),
-        locations(500_000, 0),
-        locations(100_000, 2),
     ]
 }
 
@@ -529,13 +461,9 @@ pub fn families() -> Vec<Family> {
     let from = || corpus.clone();
     let (listed, cut, edged, changed, counted) = (from(), from(), from(), from(), from());
     let accented: Vec<Vec<u8>> = accents::cases().into_iter().map(|case| case.pack).collect();
-    let located: Vec<Vec<u8>> = locations::cases().into_iter().map(|case| case.pack).collect();
     vec![
         Family::new(Class::Accented, "the stored packs with accents", 400, accented.len(), move |i| {
             accented[i as usize].clone()
-        }),
-        Family::new(Class::Located, "the stored packs with locations", 200, located.len(), move |i| {
-            located[i as usize].clone()
         }),
         Family::new(Class::Listed, "the listed packs", 200, corpus.len(), move |i| listed[i as usize].clone()),
         Family::new(Class::Short, "all inputs of at most two bytes", 50_000, SHORT, short),

@@ -218,48 +218,6 @@ mistakes! {
     AlikeUnmarkedLetters: "marks are left out",
     AlikeMarkLost: "a mark after a replaced letter is left out",
     AlikeCase: "capital and small letters are alike",
-    LineRefused: "no line is at an address, said of a pack that is refused",
-    LineUnread: "28 comes before the pack has passed",
-    LineFoundUnread: "a line is shown of a pack that is refused after its locations",
-    LineBudget: "source lines are looked for under any budget",
-    LineEarly: "28 comes one number too early",
-    LineLate: "28 comes one number too late",
-    LineNever: "no line is at an address of a function past the debug list",
-    LineEmpty: "28 is told of a function without locations",
-    LineFunctionList: "the function's number is held against the function list's length",
-    LineShortFunction: "the function's number is cut to 32 bits",
-    LineShortDetail: "28 shows the number's lower 32 bits",
-    LineSwapped: "28 shows the debug list's length before the number",
-    LineFunctionCount: "28 shows the function list's length",
-    LinePlace: "28 shows place 0",
-    LineLeft: "28 shows the starting budget",
-    LineAs27: "28 is told as 27",
-    LineFirstFunction: "the locations of the first function are looked at",
-    LineNextFunction: "the locations of the next function are looked at",
-    LineFunctionBefore: "the locations of the function before are looked at",
-    LineFile: "the file's number is taken for the pc",
-    LineOfLine: "the line is taken for the pc",
-    LineShortAddress: "the address is cut to 16 bits",
-    LineShortPc: "a pc's fifth packed byte is left out",
-    LineSigned: "addresses are compared as signed numbers",
-    LineZero: "pc 0 is not found",
-    LineBelow: "only pcs below the address are taken",
-    LineGreatest: "the greatest of all pcs is taken",
-    LineAbove: "the nearest pc at or above the address is taken",
-    LineFirstEqual: "of equal pcs the first is taken",
-    LineFirst: "the first location at or below the address is taken",
-    LineLast: "the last location at or below the address is taken",
-    LineSorted: "the pcs are taken to be sorted, as the Rust's search does",
-    LineStops: "the search ends at the first pc above the address",
-    LineNotFirst: "the first location is left out",
-    LineNotLast: "the last location is left out",
-    LineMost: "only the first 64 locations are looked at",
-    LineOverAll: "a location's number counts over all functions",
-    LineFromOne: "locations are counted from 1",
-    LinePcShown: "the pc is shown in place of the location's number",
-    LineLineShown: "the line is shown in place of the location's number",
-    LineUnmarked: "a location is shown without its 1",
-    LineNoneMarked: "none is told as the first location",
     SectionTrailing: "a section call puts the question of 24",
     SectionBytes: "a section's bytes count from the pack's start",
     SectionPlace: "26 of a section call shows its bytes as place",
@@ -293,9 +251,6 @@ fn ask(good: bool, number: u64, c: u64, d1: u64, d2: u64) -> Step<()> {
 
 /// Start and bytes of a text.
 type Text<'a> = (usize, &'a [u8]);
-
-/// Pc, file, line, column and length.
-type Location = [u64; 5];
 
 const MAX_INLINE: u64 = 131_072;
 
@@ -351,7 +306,6 @@ struct Cursor<'a> {
     artifacts: Vec<(&'a [u8], usize, usize)>,
     tables: Vec<(Table, Vec<Text<'a>>)>,
     functions: u64,
-    locations: Vec<Vec<Location>>,
 }
 
 impl Model {
@@ -374,7 +328,6 @@ impl Model {
             artifacts: Vec::new(),
             tables: Vec::new(),
             functions: 0,
-            locations: Vec::new(),
         }
     }
 
@@ -492,67 +445,6 @@ impl Model {
             Mistake::AlikeNamedSorted => pairs.into_iter().next(),
             _ => pairs.into_iter().min_by_key(|(_, later)| later.0),
         }
-    }
-
-    /// The number of a function's location as it is shown, if the address has one.
-    fn location(&self, lists: &[Vec<Location>], function: usize, address: u32) -> Option<u64> {
-        let at = match self.mistake {
-            Mistake::LineFirstFunction => 0,
-            Mistake::LineNextFunction => function + 1,
-            Mistake::LineFunctionBefore => function.wrapping_sub(1),
-            _ => function,
-        };
-        let list = lists.get(at).map_or(&[][..], Vec::as_slice);
-        let field = match self.mistake {
-            Mistake::LineFile => 1,
-            Mistake::LineOfLine => 2,
-            _ => 0,
-        };
-        let compared = |number: u64| match self.mistake {
-            Mistake::LineSigned => number as i32 as i64,
-            _ => number as i64,
-        };
-        let pc = |location: &Location| match self.mistake {
-            Mistake::LineShortPc => compared(location[field] % (1 << 28)),
-            _ => compared(location[field]),
-        };
-        let address = match self.mistake {
-            Mistake::LineShortAddress => address as i64 % (1 << 16),
-            _ => compared(address as u64),
-        };
-        let pcs: Vec<(i64, usize)> = list.iter().map(pc).zip(0..).collect();
-        let looked_at = match self.mistake {
-            Mistake::LineNotFirst => pcs.get(1..).unwrap_or(&[]),
-            Mistake::LineNotLast => &pcs[..pcs.len().saturating_sub(1)],
-            Mistake::LineMost => &pcs[..pcs.len().min(64)],
-            Mistake::LineStops => &pcs[..pcs.iter().take_while(|(pc, _)| *pc <= address).count()],
-            _ => &pcs,
-        };
-        let mut reached = looked_at.iter().filter(|(pc, _)| match self.mistake {
-            Mistake::LineZero => *pc <= address && *pc > 0,
-            Mistake::LineBelow => *pc < address,
-            Mistake::LineAbove => *pc >= address,
-            Mistake::LineGreatest => true,
-            _ => *pc <= address,
-        });
-        let best = match self.mistake {
-            Mistake::LineAbove => reached.min(),
-            Mistake::LineFirstEqual => reached.max_by_key(|(pc, i)| (*pc, std::cmp::Reverse(*i))),
-            Mistake::LineFirst => reached.next(),
-            Mistake::LineLast => reached.next_back(),
-            Mistake::LineSorted => {
-                pcs.partition_point(|(pc, _)| *pc <= address).checked_sub(1).and_then(|at| pcs.get(at))
-            }
-            _ => reached.max(),
-        };
-        let entry = best?.1;
-        Some(match self.mistake {
-            Mistake::LineOverAll => lists[..at].iter().map(|list| list.len() as u64).sum::<u64>() + entry as u64,
-            Mistake::LineFromOne => entry as u64 + 1,
-            Mistake::LinePcShown => list[entry][0],
-            Mistake::LineLineShown => list[entry][2],
-            _ => entry as u64,
-        })
     }
 
     /// The answer of a reading that began at `start`, and the tape.
@@ -699,56 +591,9 @@ impl Reader for Model {
             }
         }
     }
-
-    unsafe fn source_line(&mut self, pack: Lent<u8>, function: u64, address: u32) -> Fields {
-        let more = if self.is(Mistake::LineBudget) { 1 << 40 } else { 0 };
-        let mut r = self.cursor(pack.slice(), 0, RUST_BUDGET + more);
-        let read = r.whole();
-        r.left = r.left.saturating_sub(more);
-        let asked = if self.is(Mistake::LineShortFunction) { function as u32 as u64 } else { function };
-        let lists = r.locations.len() as u64;
-        let past = match self.mistake {
-            Mistake::LineFunctionList => asked >= r.functions,
-            Mistake::LineEarly => asked >= lists.saturating_sub(1),
-            Mistake::LineLate => asked > lists,
-            Mistake::LineNever => false,
-            Mistake::LineEmpty => r.locations.get(asked as usize).is_none_or(Vec::is_empty),
-            _ => asked >= lists,
-        };
-        let entry = if past { None } else { self.location(&r.locations, asked as usize, address) };
-        if let Err(Refusal { number, c, d1, d2 }) = read {
-            return match self.mistake {
-                Mistake::LineRefused => [0; 6],
-                Mistake::LineUnread if past => self.no_such_function(&r, function),
-                Mistake::LineFoundUnread if entry.is_some() => [0, 1, entry.unwrap_or(0), 0, 0, 0],
-                _ => [number, c, d1, d2, r.place as u64, r.left],
-            };
-        }
-        match entry {
-            _ if past => self.no_such_function(&r, function),
-            Some(entry) => [0, !self.is(Mistake::LineUnmarked) as u64, entry, 0, 0, 0],
-            None => [0, self.is(Mistake::LineNoneMarked) as u64, 0, 0, 0, 0],
-        }
-    }
 }
 
 impl Model {
-    /// 28, after a reading that has come this far.
-    fn no_such_function(&self, r: &Cursor, function: u64) -> Fields {
-        let mut details = [function, r.locations.len() as u64];
-        let (mut number, mut place, mut left) = (28, r.place as u64, r.left);
-        match self.mistake {
-            Mistake::LineSwapped => details.reverse(),
-            Mistake::LineFunctionCount => details[1] = r.functions,
-            Mistake::LineShortDetail => details[0] %= 1 << 32,
-            Mistake::LinePlace => place = 0,
-            Mistake::LineLeft => left = RUST_BUDGET,
-            Mistake::LineAs27 => number = 27,
-            _ => {}
-        }
-        [number, 0, details[0], details[1], place, left]
-    }
-
     /// Start and length of a pair's name as they are shown.
     fn shown(&self, (start, name): Text) -> [u64; 2] {
         let start = if self.is(Mistake::AlikeLengthWord) { start - 4 } else { start };
@@ -828,10 +673,7 @@ impl<'a> Cursor<'a> {
             12 | 13 => self.u32(),
             14 => self.read_artifacts(),
             15 => self.list(6, Self::text).map(drop),
-            16 => {
-                self.locations = self.list(28, |r| r.list(29, Self::read_location))?;
-                Ok(())
-            }
+            16 => self.list(28, |r| r.list(29, |r| (0..5).try_for_each(|_| r.packed_number())).map(drop)).map(drop),
             _ => self.inline(),
         }
     }
@@ -956,15 +798,7 @@ impl<'a> Cursor<'a> {
         self.packed_word(11)
     }
 
-    fn read_location(&mut self) -> Step<Location> {
-        let mut location = [0; 5];
-        for number in &mut location {
-            *number = self.packed_number()?;
-        }
-        Ok(location)
-    }
-
-    fn packed_number(&mut self) -> Step<u64> {
+    fn packed_number(&mut self) -> Step<()> {
         let start = self.place;
         let mut value = 0;
         let last = if self.is(Mistake::FifthByteLate) { 6 } else { 5 };
@@ -989,7 +823,7 @@ impl<'a> Cursor<'a> {
             }
         }
         self.put(value);
-        Ok(value)
+        Ok(())
     }
 
     fn charge(&mut self, context: u64, amount: u64) -> Step<()> {

@@ -39,10 +39,6 @@ impl Reader for Proved {
     unsafe fn alike_names(&mut self, pack: Lent<u8>) -> Fields {
         fields(raw::vob_alike_names(pack.start, pack.length))
     }
-
-    unsafe fn source_line(&mut self, pack: Lent<u8>, function: u64, address: u32) -> Fields {
-        fields(raw::vob_source_line(pack.start, pack.length, function, address))
-    }
 }
 
 /// Whether the archive's sizes are the measured ones, and no other number has one.

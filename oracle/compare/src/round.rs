@@ -1,11 +1,10 @@
 //! One round: inputs are made, each call's answer is compared, and the cases are counted.
 
-use crate::calls::{alike, fields, found, line, Call, Fields, Reader};
+use crate::calls::{alike, fields, found, Call, Fields, Reader};
 use crate::inputs::{self, Family};
 use crate::memory::{Pack, Tape};
 use harness::answer::{self, opening_part, Reading, NO_END, RUST_BUDGET};
 use harness::cases;
-use harness::lines;
 use harness::packs::{self, Chance};
 use measured::serialize::MAX_VOB_BYTES;
 use std::time::{Duration, Instant};
@@ -32,8 +31,6 @@ pub enum Class {
     Listed,
     /// Packs with accents in each kind of table.
     Accented,
-    /// Packs with debug locations in any order.
-    Located,
     /// At limits that only a long pack reaches.
     Long,
     /// Starting budgets around the sum of each opening part of the charge list.
@@ -46,12 +43,10 @@ pub enum Class {
     Lookup,
     /// Names that print alike.
     Alike,
-    /// Source lines.
-    Line,
 }
 
-const CLASSES: usize = Class::Line as usize + 1;
-const NUMBERS: usize = 29;
+const CLASSES: usize = Class::Alike as usize + 1;
+const NUMBERS: usize = 28;
 
 /// A derived answer in so many is asked of the Rust itself.
 const RUN_AFTER: u64 = 8;
@@ -68,11 +63,7 @@ struct Effort {
     sections: u64,
     lookups: u64,
     alike: bool,
-    lines: u64,
 }
-
-/// No call but the one on the whole pack.
-const NOTHING_MORE: Effort = Effort { budgets: 0, tapes: 0, sections: 0, lookups: 0, alike: false, lines: 0 };
 
 pub enum Stop {
     /// Cases or time are used up.
@@ -165,10 +156,10 @@ impl<'r> Round<'r> {
     fn turn(&mut self, turn: u64) -> Go {
         let pack = inputs::written(&mut self.chance);
         let other = inputs::written(&mut self.chance);
-        let all = Effort { budgets: 12, tapes: 4, sections: 6, lookups: 4, alike: true, lines: 4 };
+        let all = Effort { budgets: 12, tapes: 4, sections: 6, lookups: 4, alike: true };
         let reading = self.input(Class::Written, &pack, all)?;
         let second = answer::read(&other, NO_END as u64, u64::MAX);
-        let some = Effort { budgets: 4, tapes: 1, sections: 1, lookups: 0, alike: true, lines: 1 };
+        let some = Effort { budgets: 4, tapes: 1, sections: 1, lookups: 0, alike: true };
         for i in 0..8 {
             let damaged = inputs::damaged(&pack, &reading, &mut self.chance);
             self.input(Class::Damaged, &damaged, Effort { lookups: (i == 0) as u64, ..some })?;
@@ -181,22 +172,13 @@ impl<'r> Round<'r> {
             let length = self.chance.below(pack.len() as u64) as usize;
             self.input(Class::Cut, &pack[..length], some)?;
         }
-        const ALIKE: Effort = Effort { alike: true, ..NOTHING_MORE };
-        for i in 0..16 {
+        const ALIKE: Effort = Effort { budgets: 0, tapes: 0, sections: 0, lookups: 0, alike: true };
+        for _ in 0..16 {
             let pack = inputs::accented(&mut self.chance);
-            let reading = self.input(Class::Accented, &pack, Effort { lines: (i == 0) as u64, ..ALIKE })?;
+            let reading = self.input(Class::Accented, &pack, ALIKE)?;
             for _ in 0..2 {
                 let damaged = inputs::damaged(&pack, &reading, &mut self.chance);
                 self.input(Class::Damaged, &damaged, ALIKE)?;
-            }
-        }
-        for i in 0..8 {
-            let pack = inputs::located(&mut self.chance);
-            let effort = Effort { alike: i == 0, lines: 8, ..NOTHING_MORE };
-            let reading = self.input(Class::Located, &pack, effort)?;
-            for _ in 0..2 {
-                let damaged = inputs::damaged(&pack, &reading, &mut self.chance);
-                self.input(Class::Damaged, &damaged, Effort { lines: 3, ..NOTHING_MORE })?;
             }
         }
         if turn.is_multiple_of(16) {
@@ -216,21 +198,11 @@ impl<'r> Round<'r> {
                     continue;
                 }
                 let sections = (j % 4 == 0) as u64;
-                // Counted over the turns: of some lists a turn has few packs.
-                let lines = (self.families[i].done % 16 == 4) as u64;
                 let effort = match class {
-                    Class::Listed => Effort { budgets: 64, tapes: 4, sections: 17, lookups: 4, alike: true, lines: 4 },
-                    Class::Accented => Effort { budgets: 2, tapes: 1, sections: 1, alike: true, ..NOTHING_MORE },
-                    Class::Located => Effort { budgets: 2, tapes: 1, sections: 1, lines: 8, ..NOTHING_MORE },
-                    Class::Short => Effort { sections, lines, ..NOTHING_MORE },
-                    _ => Effort {
-                        budgets: 1,
-                        tapes: 1,
-                        sections,
-                        lookups: (j % 16 == 0) as u64,
-                        alike: j % 16 == 8,
-                        lines,
-                    },
+                    Class::Listed => Effort { budgets: 64, tapes: 4, sections: 17, lookups: 4, alike: true },
+                    Class::Accented => Effort { budgets: 2, tapes: 1, sections: 1, lookups: 0, alike: true },
+                    Class::Short => Effort { budgets: 0, tapes: 0, sections, lookups: 0, alike: false },
+                    _ => Effort { budgets: 1, tapes: 1, sections, lookups: (j % 16 == 0) as u64, alike: j % 16 == 8 },
                 };
                 self.input(class, &pack, effort)?;
             }
@@ -262,13 +234,13 @@ impl<'r> Round<'r> {
             let expected = alike(reading.alike(reading.under(RUST_BUDGET, u64::MAX)));
             self.case(Class::Alike, pack, Call::AlikeNames, expected, &[])?;
         }
-        self.lines(pack, &reading, effort.lines)?;
         Ok(reading)
     }
 
     /// A text as the name in a pack, as a name section at the pack's end, as all of the pack, between bytes that look like
     /// the start and the rest of a character, and, where it is short enough, as an artifact's name.
     fn text(&mut self, class: Class, text: &[u8]) -> Go {
+        const NOTHING_MORE: Effort = Effort { budgets: 0, tapes: 0, sections: 0, lookups: 0, alike: false };
         let stored = cases::text(text);
         self.input(class, &cases::with_section(1, 4, &stored), NOTHING_MORE)?;
         for (before, after) in [(&opening_part(1, 0)[..], &[][..]), (&[], &[]), (&[0xF0; 12], &[0x80; 3])] {
@@ -383,21 +355,10 @@ impl<'r> Round<'r> {
         Ok(())
     }
 
-    fn lines(&mut self, pack: &[u8], reading: &Reading, count: u64) -> Go {
-        let answer = reading.under(RUST_BUDGET, u64::MAX);
-        for _ in 0..count {
-            let (function, address) = lines::question(&reading.debug, &mut self.chance);
-            let expected = line(reading.source_line(answer, function, address));
-            self.case(Class::Line, pack, Call::SourceLine { function, address }, expected, &[])?;
-        }
-        Ok(())
-    }
-
     /// Packs of up to the longest length and one byte more; sections where the oracle's opening part fits too.
     fn long(&mut self) -> Go {
         for pack in inputs::long() {
-            let effort = Effort { budgets: 4, tapes: 2, sections: 0, lookups: 1, alike: true, lines: 4 };
-            self.input(Class::Long, &pack, effort)?;
+            self.input(Class::Long, &pack, Effort { budgets: 4, tapes: 2, sections: 0, lookups: 1, alike: true })?;
             if pack.len() > MAX_VOB_BYTES {
                 for number in 1..=17 {
                     self.section(&pack, number, 9, 1)?;
@@ -453,14 +414,12 @@ impl<'r> Round<'r> {
             Class::Text,
             Class::Listed,
             Class::Accented,
-            Class::Located,
             Class::Long,
             Class::Budget,
             Class::Tape,
             Class::Section,
             Class::Lookup,
             Class::Alike,
-            Class::Line,
         ];
         let row = |label: &str, counts: &[u64]| {
             let numbers = counts.iter().enumerate().filter(|(_, count)| **count > 0);

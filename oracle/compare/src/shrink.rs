@@ -113,27 +113,22 @@ fn with_zeros(trial: &mut Trial, case: &mut Case) -> bool {
     changed
 }
 
-/// Budget, tape, function count, name, function's number and address as small as they can be.
+/// Budget, tape, function count and name as small as they can be.
 fn with_less(trial: &mut Trial, case: &mut Case) -> bool {
     let mut changed = false;
-    let numbers: [fn(&mut Call, u64) -> Option<u64>; 4] = [
+    let numbers: [fn(&mut Call, u64) -> Option<u64>; 3] = [
         |call, value| match call {
             Call::Whole { budget, .. } | Call::Section { budget, .. } => Some(std::mem::replace(budget, value)),
-            Call::Lookup { .. } | Call::AlikeNames | Call::SourceLine { .. } => None,
+            Call::Lookup { .. } | Call::AlikeNames => None,
         },
         |call, value| match call {
             Call::Whole { tape, .. } | Call::Section { tape, .. } => {
                 Some(std::mem::replace(tape, value as usize) as u64)
             }
-            Call::Lookup { .. } | Call::AlikeNames | Call::SourceLine { .. } => None,
+            Call::Lookup { .. } | Call::AlikeNames => None,
         },
         |call, value| match call {
             Call::Section { functions, .. } => Some(std::mem::replace(functions, value)),
-            Call::SourceLine { function, .. } => Some(std::mem::replace(function, value)),
-            _ => None,
-        },
-        |call, value| match call {
-            Call::SourceLine { address, .. } => Some(std::mem::replace(address, value as u32) as u64),
             _ => None,
         },
     ];

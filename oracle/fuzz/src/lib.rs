@@ -1,13 +1,12 @@
 //! The target of libFuzzer: an input is a pack, and each call on it is compared with the oracle.
 
-use compare::calls::{alike, fields, found, line, Call};
+use compare::calls::{alike, fields, found, Call};
 use compare::inputs;
 use compare::proved::Proved;
 use compare::round::{Bench, Case, Class};
 use compare::shrink;
 use harness::answer::{self, Reading, NO_END, RUST_BUDGET};
 use harness::corpus;
-use harness::lines;
 use harness::packs::Chance;
 use original::bytecode::Module;
 use std::cell::RefCell;
@@ -63,15 +62,7 @@ fn compare_all(bench: &mut Bench, pack: &[u8], reading: &Reading) {
             }
         }
     }
-    let answer = reading.under(RUST_BUDGET, u64::MAX);
-    case(bench, pack, Call::AlikeNames, alike(reading.alike(answer)), &[]);
-    // The same questions to the same pack each time: libFuzzer asks an input again.
-    let mut chance = Chance(pack.iter().fold(0, |sum, byte| sum * 31 % (1 << 32) + *byte as u64));
-    for _ in 0..4 {
-        let (function, address) = lines::question(&reading.debug, &mut chance);
-        let expected = line(reading.source_line(answer, function, address));
-        case(bench, pack, Call::SourceLine { function, address }, expected, &[]);
-    }
+    case(bench, pack, Call::AlikeNames, alike(reading.alike(reading.under(RUST_BUDGET, u64::MAX))), &[]);
 }
 
 /// A difference stops the run, and libFuzzer keeps the input.

@@ -1,10 +1,8 @@
 //! The answers of document 01, from what the patched Rust says and reports.
 
 use crate::alike::{self, Name, Pair};
-use crate::lines;
 use crate::words;
 use measured::bytecode::Module;
-use measured::debug_info::DebugInfo;
 use measured::report::{self, Charge, Mark, Report, Site, Span};
 use measured::serialize::{SerializeError, MAX_VOB_BYTES};
 
@@ -60,8 +58,6 @@ pub struct Reading {
     pub artifacts: Vec<(Vec<u8>, Span)>,
     /// The tables of names of a taken pack in which a pair may stand.
     tables: Vec<Vec<Name>>,
-    /// The debug info of a taken pack; else none.
-    pub debug: DebugInfo,
     /// Where the last section, or the one called, was read to its end.
     through: Option<Mark>,
 }
@@ -75,7 +71,6 @@ impl Reading {
             sections: Vec::new(),
             artifacts: Vec::new(),
             tables: Vec::new(),
-            debug: DebugInfo::default(),
             through: None,
         }
     }
@@ -130,15 +125,6 @@ impl Reading {
             Answer::Refused { .. } => Err(answer),
         }
     }
-
-    /// The number of the location that a function's address belongs to, in a pack whose answer is `answer`.
-    pub fn source_line(&self, answer: Answer, function: u64, address: u32) -> Result<Option<u64>, Answer> {
-        let Answer::Taken { bytes, left, .. } = answer else { return Err(answer) };
-        lines::entry(&self.debug, function, address).ok_or_else(|| {
-            let lists = self.debug.funcs.len() as u64;
-            refused(28, 0, function, lists, Mark { place: bytes as usize, left: left as usize })
-        })
-    }
 }
 
 /// Module::deserialize on a whole pack, and what document 01 adds to it (25, 26).
@@ -183,8 +169,7 @@ pub fn read(pack: &[u8], budget: u64, tape: u64) -> Reading {
                 module.artifacts.iter().map(|artifact| artifact.name.clone().into_bytes()).zip(payloads.copied());
             let artifacts = artifacts.collect();
             let tables = alike::tables(&module, pack, &spans);
-            let debug = module.debug_info;
-            Reading { answer, words, charges, sections, artifacts, tables, debug, through: Some(end) }
+            Reading { answer, words, charges, sections, artifacts, tables, through: Some(end) }
         }
         Err(error) => {
             let through = matches!(error, SerializeError::TrailingBytes(_)).then_some(end);
@@ -204,12 +189,6 @@ pub fn lookup(pack: &[u8], name: &[u8]) -> Result<(u64, u64), Answer> {
 pub fn alike_names(pack: &[u8]) -> Result<Option<Pair>, Answer> {
     let reading = read(pack, RUST_BUDGET, u64::MAX);
     reading.alike(reading.answer)
-}
-
-/// The source line of a function's address: the pack under the Rust's budget, then the function's locations.
-pub fn source_line(pack: &[u8], function: u64, address: u32) -> Result<Option<u64>, Answer> {
-    let reading = read(pack, RUST_BUDGET, u64::MAX);
-    reading.source_line(reading.answer, function, address)
 }
 
 /// A section alone. The Rust has no such call, but it reads section `number` of any pack whose earlier sections are

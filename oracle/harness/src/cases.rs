@@ -3,7 +3,6 @@
 use crate::accents;
 use crate::answer::{self, opening_part, Answer, NO_END, RUST_BUDGET};
 use crate::corpus;
-use crate::locations;
 use crate::packs::{self, Chance, Pack};
 use crate::record::{Book, Edit, SectionCall, LONG_TAPE, PACKCHECK_TAPE};
 use crate::texts;
@@ -868,7 +867,6 @@ pub fn stored() -> Vec<(&'static str, Book)> {
         ("corpus.bin", kept()),
         ("texts.bin", texts::book()),
         ("alike.bin", accents::book()),
-        ("lines.bin", locations::book()),
     ]
 }
 

@@ -5,8 +5,6 @@ pub mod alike;
 pub mod answer;
 pub mod cases;
 pub mod corpus;
-pub mod lines;
-pub mod locations;
 pub mod packs;
 pub mod record;
 pub mod sizes;

@@ -9,7 +9,6 @@ const USAGE: &str = "usage:
   oracle section FILE NUMBER PLACE BUDGET [FUNCTIONS [TAPE]]   one section (1 to 17) alone
   oracle lookup FILE NAME                                start and length of a payload
   oracle alike FILE                                      start and length of two names that print alike, or none
-  oracle line FILE FUNCTION ADDRESS                      the number of a function's location for an address, or none
   oracle sizes [--check FILE...]                         the sizes of charges, or whether FILE holds them
   oracle pack KIND SIZE SEED > FILE                      a pack of exactly SIZE bytes (mixed, names, slots, texts, code)
   oracle time FILE [RUNS]                                how long the unpatched Module::deserialize takes
@@ -42,15 +41,6 @@ fn main() {
             Ok(None) => println!("none"),
             Err(answer) => println!("{answer}"),
         },
-        ["line", file, ref rest @ ..] if rest.len() == 2 => {
-            let address = number(rest, 1, 0);
-            let address = u32::try_from(address).unwrap_or_else(|_| stop("an address has 32 bits"));
-            match answer::source_line(&load(file), number(rest, 0, 0), address) {
-                Ok(Some(entry)) => println!("entry {entry}"),
-                Ok(None) => println!("none"),
-                Err(answer) => println!("{answer}"),
-            }
-        }
         ["sizes"] => print(&sizes_text()),
         ["sizes", "--check", ref files @ ..] if !files.is_empty() => {
             let mut good = true;

@@ -501,25 +501,6 @@ pub fn with_runtime_interface(names: &[&str]) -> Vec<u8> {
     bytes_of(&m)
 }
 
-/// Pc, file, line, column and length.
-pub type Location = [u32; 5];
-
-/// So many bare functions, and a list of locations for each place of the debug list.
-pub fn with_locations(name: &str, functions: usize, lists: &[Vec<Location>]) -> Vec<u8> {
-    let mut m = Module::new(name.to_string());
-    m.functions = vec![function(""); functions];
-    let location = |[pc, file_id, line, col, len]: &Location| DebugLoc {
-        pc: *pc,
-        file_id: *file_id,
-        line: *line,
-        col: *col,
-        len: *len,
-    };
-    let list = |entries: &Vec<Location>| FuncDebugInfo { entries: entries.iter().map(location).collect() };
-    m.debug_info.funcs = lists.iter().map(list).collect();
-    bytes_of(&m)
-}
-
 /// A global with this many slot types: one byte and one word each.
 pub fn with_slots(count: usize) -> Vec<u8> {
     let mut m = module();

@@ -13,7 +13,6 @@ const SECTION: u32 = 2;
 const LOOKUP: u32 = 3;
 const TEXT: u32 = 4;
 const ALIKE_NAMES: u32 = 5;
-const SOURCE_LINE: u32 = 6;
 
 /// Up to four bytes that stand in place of the buffer's own for one record.
 #[derive(Clone, Copy, Default)]
@@ -98,19 +97,6 @@ impl Book {
         };
         let call = SectionCall { number: 0, place: 0, budget: RUST_BUDGET, functions: 0, tape: 0 };
         self.record(ALIKE_NAMES, pack, pack.len(), Edit::default(), call, &[], fields, &[], false);
-        answer
-    }
-
-    pub fn source_line(&mut self, pack: &[u8], function: u64, address: u32) -> Result<Option<u64>, Answer> {
-        let answer = answer::source_line(pack, function, address);
-        let fields = match answer {
-            Ok(Some(entry)) => [0, 1, entry, 0, 0, 0, 0],
-            Ok(None) => [0; 7],
-            Err(refused) => refused.fields(),
-        };
-        // The header has no fields of its own for function and address.
-        let call = SectionCall { number: 0, place: address as u64, budget: RUST_BUDGET, functions: function, tape: 0 };
-        self.record(SOURCE_LINE, pack, pack.len(), Edit::default(), call, &[], fields, &[], false);
         answer
     }
 

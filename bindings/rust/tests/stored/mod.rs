@@ -9,7 +9,6 @@ pub const WHOLE: u32 = 1;
 pub const SECTION: u32 = 2;
 pub const LOOKUP: u32 = 3;
 pub const ALIKE: u32 = 5;
-pub const LINE: u32 = 6;
 
 /// A record: what to call, and what the oracle answered.
 pub struct Record {
@@ -23,9 +22,7 @@ pub struct Record {
     pub count: usize,
     pub sum: u32,
     pub budget: u64,
-    /// A place in the pack; of a source line the address.
     pub place: u64,
-    /// A count of functions; of a source line the function's number.
     pub functions: u64,
     pub refused: bool,
     pub fields: [u64; 6],

@@ -1,6 +1,6 @@
 use borrow.Author.Rules.{rules}
 use native.Mathlib.Omega.{arith}
-use Rattle.in_place.proofs.Lists.{Leaving, leaving-list, leaving-here, leaving-more, leaving-done}
+use Rattle.alike_names.proofs.Lists.{Leaving, leaving-list, leaving-here, leaving-more, leaving-done}
 use Rattle.alike_names.proofs.Skipping.{itabs-list, itab-words, itab-past}
 use Rattle.vob24.specs.Settings.{settings_of}
 use Rattle.vob24.specs.Grammar.{itab, section, itabs}

@@ -1,5 +1,5 @@
 use borrow.Author.Rules.{rules}
-use Rattle.in_place.proofs.Lists.{leaving, Leaving}
+use Rattle.alike_names.proofs.Lists.{leaving, Leaving}
 use Rattle.in_place.specs.Items.{format_of}
 use Rattle.in_place.specs.Walk.{last_at}
 use Rattle.alike_names.proofs.skips.past_items.Statement.{statement}

@@ -1,5 +1,0 @@
--- definitions
-pub mod Source
--- theorems
-pub mod SourceTheorems
-pub mod Examples
