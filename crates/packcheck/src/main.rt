@@ -5,7 +5,8 @@
 ghost use Rattle.std.specs.Prelude.{◌≤◌, length};
 
 use calls::Answer;
-use libc::{STDIN_FILENO, STDOUT_FILENO};
+use std::io;
+use std::io::Read;
 
 #[derive(Drop)]
 struct Moved {
@@ -13,14 +14,18 @@ struct Moved {
     failed: bool,
 }
 
-fn read_some(buf: &mut [u8]) -> Moved
+fn read_some(input: &mut impl Read, buf: &mut [u8]) -> Moved
     ensures { result.bytes ≤ length buf.old }
 {
-    let got = libc::read(STDIN_FILENO, buf);
-    let n = io::count(got, buf);
-    Moved {
-        bytes: n,
-        failed: got < 0,
+    match input.read(buf) {
+        Ok(bytes) => Moved {
+            bytes,
+            failed: false,
+        },
+        Err(_) => Moved {
+            bytes: 0,
+            failed: true,
+        },
     }
 }
 
@@ -38,9 +43,9 @@ struct Input {
 }
 
 // What follows a full buffer.
-fn after_full() -> Ending {
+fn after_full(input: &mut impl Read) -> Ending {
     let mut one = [0u8; 1];
-    let m = read_some(&mut one);
+    let m = read_some(input, &mut one);
     if m.failed {
         Ending::Failed
     } else if m.bytes == 0 {
@@ -51,12 +56,12 @@ fn after_full() -> Ending {
 }
 
 // Fills `buf` from standard input, and says how that ends.
-fn read_input(buf: &mut [u8]) -> Input
+fn read_input(input: &mut impl Read, buf: &mut [u8]) -> Input
     ensures { result.bytes ≤ length buf.old }
 {
     let mut at = 0;
     while at < buf.len() {
-        let m = read_some(&mut buf[at..]);
+        let m = read_some(input, &mut buf[at..]);
         if m.failed {
             return Input {
                 bytes: at,
@@ -73,17 +78,16 @@ fn read_input(buf: &mut [u8]) -> Input
     }
     Input {
         bytes: at,
-        ending: after_full(),
+        ending: after_full(input),
     }
 }
 
 // A number of the line, after a space.
-fn put(n: u64) {
-    io::write_all(STDOUT_FILENO, b" ");
-    io::print_decimal(STDOUT_FILENO, n);
+fn put(rt: &impl Print, n: u64) -> io::Result<()> {
+    print!(rt; " {n}")
 }
 
-fn print(answer: Answer) {
+fn print(rt: &impl Print, answer: Answer) -> io::Result<()> {
     match answer {
         Answer::Taken {
             words,
@@ -91,42 +95,38 @@ fn print(answer: Answer) {
             charged,
             left,
         } => {
-            io::write_all(STDOUT_FILENO, b"taken");
-            put(words as u64);
-            put(bytes as u64);
-            put(charged);
-            put(left);
+            print!(rt; "taken")?;
+            put(rt, words as u64)?;
+            put(rt, bytes as u64)?;
+            put(rt, charged)?;
+            put(rt, left)?;
         }
         Answer::Refused(r) => {
-            io::write_all(STDOUT_FILENO, b"refused");
-            put(r.number);
-            put(r.context);
-            put(r.detail1);
-            put(r.detail2);
-            put(r.place as u64);
-            put(r.left);
+            print!(rt; "refused")?;
+            put(rt, r.number)?;
+            put(rt, r.context)?;
+            put(rt, r.detail1)?;
+            put(rt, r.detail2)?;
+            put(rt, r.place as u64)?;
+            put(rt, r.left)?;
         }
     }
-    io::write_all(STDOUT_FILENO, b"\n");
+    println!(rt)
 }
 
-fn check(pack: &[u8]) {
+fn check(rt: &impl Print, pack: &[u8]) -> io::Result<()> {
     let mut tape = [0; 16384];
-    print(pack::read(pack, pack::STARTING_BUDGET, &mut tape));
+    print(rt, pack::read(pack, pack::STARTING_BUDGET, &mut tape))
 }
 
-fn main() {
+fn main(rt: HostRuntime) -> io::Result<()> {
     let mut buf = [0; 65536];
-    let input = read_input(&mut buf);
+    let input = read_input(&mut rt.stdin(), &mut buf);
     let n = input.bytes;
     let ending = input.ending;
     match ending {
-        Ending::End => check(&buf[0..n]),
-        Ending::More => {
-            io::write_all(STDOUT_FILENO, b"too long for packcheck\n");
-        }
-        Ending::Failed => {
-            io::write_all(STDOUT_FILENO, b"cannot read standard input\n");
-        }
+        Ending::End => check(&rt, &buf[0..n]),
+        Ending::More => println!(rt; "too long for packcheck"),
+        Ending::Failed => println!(rt; "cannot read standard input"),
     }
 }

@@ -6,11 +6,11 @@
 ghost use Rattle.std.specs.Prelude.{◌≤◌, ◌≡◌, length};
 
 use constants::answers::{Constant, ConstantRead};
-use libc::STDOUT_FILENO;
 use metadata::{Metadata, MetadataRead, MetadataRecord};
 use reader::{Cursor, ListAt, Refusal};
 use runtime_type::{OptionalId, RuntimeType, RuntimeTypeRead, RuntimeTypeRecord};
 use select_case::{SelectCase, SelectCaseRead};
+use std::io;
 
 // More than any record here.
 const MOST: usize = 64;
@@ -27,131 +27,130 @@ fn start() -> Cursor
 
 // ---- the parts of a line
 
-fn text(t: &[u8]) {
-    io::write_all(STDOUT_FILENO, t);
+fn text(rt: &impl Print, t: &[u8]) -> io::Result<()> {
+    rt.write_all(t)
 }
 
-fn number(n: u64) {
-    text(b" ");
-    io::print_decimal(STDOUT_FILENO, n);
+fn number(rt: &impl Print, n: u64) -> io::Result<()> {
+    print!(rt; " {n}")
 }
 
-fn field(name: &[u8], n: u64) {
-    text(b" ");
-    text(name);
-    number(n);
+fn field(rt: &impl Print, name: &[u8], n: u64) -> io::Result<()> {
+    text(rt, b" ")?;
+    text(rt, name)?;
+    number(rt, n)
 }
 
-fn truth(b: bool) {
+fn truth(rt: &impl Print, b: bool) -> io::Result<()> {
     if b {
-        text(b" true");
+        text(rt, b" true")
     } else {
-        text(b" false");
+        text(rt, b" false")
     }
 }
 
-fn flag(name: &[u8], b: bool) {
-    text(b" ");
-    text(name);
-    truth(b);
+fn flag(rt: &impl Print, name: &[u8], b: bool) -> io::Result<()> {
+    text(rt, b" ")?;
+    text(rt, name)?;
+    truth(rt, b)
 }
 
-fn lists(first: ListAt, second: ListAt) {
-    text(b", lists");
-    number(first.start as u64);
-    number(first.count as u64);
-    number(second.start as u64);
-    number(second.count as u64);
+fn lists(rt: &impl Print, first: ListAt, second: ListAt) -> io::Result<()> {
+    text(rt, b", lists")?;
+    number(rt, first.start as u64)?;
+    number(rt, first.count as u64)?;
+    number(rt, second.start as u64)?;
+    number(rt, second.count as u64)
 }
 
-fn end(d: Cursor) {
-    text(b", place");
-    number(d.place as u64);
-    text(b"\n");
+fn end(rt: &impl Print, d: Cursor) -> io::Result<()> {
+    text(rt, b", place")?;
+    number(rt, d.place as u64)?;
+    text(rt, b"\n")
 }
 
-fn refused(x: Refusal) {
-    text(b"refused");
-    number(x.number);
-    text(b"\n");
+fn refused(rt: &impl Print, x: Refusal) -> io::Result<()> {
+    text(rt, b"refused")?;
+    number(rt, x.number)?;
+    text(rt, b"\n")
 }
 
 // ---- runtime types
 
-fn optional_id(id: OptionalId) {
+fn optional_id(rt: &impl Print, id: OptionalId) -> io::Result<()> {
     match id {
-        OptionalId::Absent => text(b" struct_meta_id absent"),
-        OptionalId::Id(n) => field(b"struct_meta_id", n as u64),
+        OptionalId::Absent => text(rt, b" struct_meta_id absent"),
+        OptionalId::Id(n) => field(rt, b"struct_meta_id", n as u64),
     }
 }
 
-fn runtime_kind(kind: RuntimeType) {
+fn runtime_kind(rt: &impl Print, kind: RuntimeType) -> io::Result<()> {
     match kind {
         RuntimeType::Basic(value_kind) => {
-            text(b"Basic");
-            number(value_kind as u64);
+            text(rt, b"Basic")?;
+            number(rt, value_kind as u64)
         }
         RuntimeType::Named { id, struct_meta_id } => {
-            text(b"Named");
-            field(b"id", id as u64);
-            optional_id(struct_meta_id);
+            text(rt, b"Named")?;
+            field(rt, b"id", id as u64)?;
+            optional_id(rt, struct_meta_id)
         }
         RuntimeType::Pointer(elem) => {
-            text(b"Pointer");
-            number(elem as u64);
+            text(rt, b"Pointer")?;
+            number(rt, elem as u64)
         }
         RuntimeType::Array { len, elem } => {
-            text(b"Array");
-            field(b"len", len);
-            field(b"elem", elem as u64);
+            text(rt, b"Array")?;
+            field(rt, b"len", len)?;
+            field(rt, b"elem", elem as u64)
         }
         RuntimeType::Slice(elem) => {
-            text(b"Slice");
-            number(elem as u64);
+            text(rt, b"Slice")?;
+            number(rt, elem as u64)
         }
         RuntimeType::Map { key, val } => {
-            text(b"Map");
-            field(b"key", key as u64);
-            field(b"val", val as u64);
+            text(rt, b"Map")?;
+            field(rt, b"key", key as u64)?;
+            field(rt, b"val", val as u64)
         }
         RuntimeType::Chan { dir, elem } => {
-            text(b"Chan");
-            field(b"dir", dir as u64);
-            field(b"elem", elem as u64);
+            text(rt, b"Chan")?;
+            field(rt, b"dir", dir as u64)?;
+            field(rt, b"elem", elem as u64)
         }
         RuntimeType::Func { variadic } => {
-            text(b"Func");
-            flag(b"variadic", variadic);
+            text(rt, b"Func")?;
+            flag(rt, b"variadic", variadic)
         }
         RuntimeType::Struct { meta_id } => {
-            text(b"Struct");
-            field(b"meta_id", meta_id as u64);
+            text(rt, b"Struct")?;
+            field(rt, b"meta_id", meta_id as u64)
         }
         RuntimeType::Interface { meta_id } => {
-            text(b"Interface");
-            field(b"meta_id", meta_id as u64);
+            text(rt, b"Interface")?;
+            field(rt, b"meta_id", meta_id as u64)
         }
-        RuntimeType::Tuple => text(b"Tuple"),
+        RuntimeType::Tuple => text(rt, b"Tuple"),
         RuntimeType::Port { dir, elem } => {
-            text(b"Port");
-            field(b"dir", dir as u64);
-            field(b"elem", elem as u64);
+            text(rt, b"Port")?;
+            field(rt, b"dir", dir as u64)?;
+            field(rt, b"elem", elem as u64)
         }
-        RuntimeType::Island => text(b"Island"),
+        RuntimeType::Island => text(rt, b"Island"),
     }
 }
 
-fn runtime_record(record: RuntimeTypeRecord) {
+fn runtime_record(rt: &impl Print, record: RuntimeTypeRecord) -> io::Result<()> {
     let kind = record.kind;
-    runtime_kind(kind);
+    runtime_kind(rt, kind)?;
     let first = record.first;
     let second = record.second;
-    lists(first, second);
+    lists(rt, first, second)
 }
 
-fn runtime_type(s: &[u8]) {
+fn runtime_type(rt: &impl Print, s: &[u8]) -> io::Result<()> {
     if MOST < s.len() {
-        return;
+        return Ok(());
     }
     let set = &vob24_data::MEASURED;
     let mut tape = [0; 64];
@@ -159,102 +158,102 @@ fn runtime_type(s: &[u8]) {
     let q = runtime_type::runtime_type(s, set, c, false, &mut tape);
     match q {
         RuntimeTypeRead::Got(record, d) => {
-            runtime_record(record);
-            end(d);
+            runtime_record(rt, record)?;
+            end(rt, d)
         }
-        RuntimeTypeRead::Not(x) => refused(x),
+        RuntimeTypeRead::Not(x) => refused(rt, x),
     }
 }
 
 // ---- instructions' metadata
 
-fn metadata_kind(kind: Metadata) {
+fn metadata_kind(rt: &impl Print, kind: Metadata) -> io::Result<()> {
     match kind {
-        Metadata::None => text(b"None"),
+        Metadata::None => text(rt, b"None"),
         Metadata::ElemLayout {
             elem_bytes,
             needs_sign_extend,
         } => {
-            text(b"ElemLayout");
-            field(b"elem_bytes", elem_bytes as u64);
-            flag(b"needs_sign_extend", needs_sign_extend);
+            text(rt, b"ElemLayout")?;
+            field(rt, b"elem_bytes", elem_bytes as u64)?;
+            flag(rt, b"needs_sign_extend", needs_sign_extend)
         }
         Metadata::MapGet { has_ok } => {
-            text(b"MapGet");
-            flag(b"has_ok", has_ok);
+            text(rt, b"MapGet")?;
+            flag(rt, b"has_ok", has_ok)
         }
-        Metadata::MapSet => text(b"MapSet"),
-        Metadata::MapDelete => text(b"MapDelete"),
+        Metadata::MapSet => text(rt, b"MapSet"),
+        Metadata::MapDelete => text(rt, b"MapDelete"),
         Metadata::LoopEnd { end_pc } => {
-            text(b"LoopEnd");
-            field(b"end_pc", end_pc as u64);
+            text(rt, b"LoopEnd")?;
+            field(rt, b"end_pc", end_pc as u64)
         }
-        Metadata::PtrLayout => text(b"PtrLayout"),
+        Metadata::PtrLayout => text(rt, b"PtrLayout"),
         Metadata::SlotLayout { array_len } => {
-            text(b"SlotLayout");
-            field(b"array_len", array_len as u64);
+            text(rt, b"SlotLayout")?;
+            field(rt, b"array_len", array_len as u64)
         }
-        Metadata::CallLayout => text(b"CallLayout"),
-        Metadata::CallExternLayout => text(b"CallExternLayout"),
-        Metadata::QueueLayout => text(b"QueueLayout"),
-        Metadata::MapIterNext => text(b"MapIterNext"),
+        Metadata::CallLayout => text(rt, b"CallLayout"),
+        Metadata::CallExternLayout => text(rt, b"CallExternLayout"),
+        Metadata::QueueLayout => text(rt, b"QueueLayout"),
+        Metadata::MapIterNext => text(rt, b"MapIterNext"),
         Metadata::IfaceAssertLayout {
             assert_kind,
             target_id,
         } => {
-            text(b"IfaceAssertLayout");
-            field(b"assert_kind", assert_kind as u64);
-            field(b"target_id", target_id as u64);
+            text(rt, b"IfaceAssertLayout")?;
+            field(rt, b"assert_kind", assert_kind as u64)?;
+            field(rt, b"target_id", target_id as u64)
         }
-        Metadata::MapNew => text(b"MapNew"),
+        Metadata::MapNew => text(rt, b"MapNew"),
         Metadata::CallIfaceLayout {
             iface_meta_id,
             method_idx,
         } => {
-            text(b"CallIfaceLayout");
-            field(b"iface_meta_id", iface_meta_id as u64);
-            field(b"method_idx", method_idx as u64);
+            text(rt, b"CallIfaceLayout")?;
+            field(rt, b"iface_meta_id", iface_meta_id as u64)?;
+            field(rt, b"method_idx", method_idx as u64)
         }
-        Metadata::SelectExecLayout => text(b"SelectExecLayout"),
+        Metadata::SelectExecLayout => text(rt, b"SelectExecLayout"),
     }
 }
 
-fn metadata_record(record: MetadataRecord) {
+fn metadata_record(rt: &impl Print, record: MetadataRecord) -> io::Result<()> {
     let kind = record.kind;
-    metadata_kind(kind);
+    metadata_kind(rt, kind)?;
     let first = record.first;
     let second = record.second;
-    lists(first, second);
+    lists(rt, first, second)
 }
 
-fn metadata(s: &[u8]) {
+fn metadata(rt: &impl Print, s: &[u8]) -> io::Result<()> {
     if MOST < s.len() {
-        return;
+        return Ok(());
     }
     let set = &vob24_data::MEASURED;
     let mut tape = [0; 64];
     match metadata::instruction_metadata(s, set, start(), &mut tape) {
         MetadataRead::Got(record, d) => {
-            metadata_record(record);
-            end(d);
+            metadata_record(rt, record)?;
+            end(rt, d)
         }
-        MetadataRead::Not(x) => refused(x),
+        MetadataRead::Not(x) => refused(rt, x),
     }
 }
 
 // ---- select cases
 
-fn select_kind(case: SelectCase) {
+fn select_kind(rt: &impl Print, case: SelectCase) -> io::Result<()> {
     match case {
         SelectCase::Send {
             queue,
             value,
             elem_slots,
         } => {
-            text(b"  Send");
-            field(b"queue", queue as u64);
-            field(b"value", value as u64);
-            field(b"elem_slots", elem_slots as u64);
+            text(rt, b"  Send")?;
+            field(rt, b"queue", queue as u64)?;
+            field(rt, b"value", value as u64)?;
+            field(rt, b"elem_slots", elem_slots as u64)
         }
         SelectCase::Recv {
             destination,
@@ -262,17 +261,17 @@ fn select_kind(case: SelectCase) {
             elem_slots,
             has_ok,
         } => {
-            text(b"  Recv");
-            field(b"destination", destination as u64);
-            field(b"queue", queue as u64);
-            field(b"elem_slots", elem_slots as u64);
-            flag(b"has_ok", has_ok);
+            text(rt, b"  Recv")?;
+            field(rt, b"destination", destination as u64)?;
+            field(rt, b"queue", queue as u64)?;
+            field(rt, b"elem_slots", elem_slots as u64)?;
+            flag(rt, b"has_ok", has_ok)
         }
     }
 }
 
 // Returns the place after the case; past the end where it is refused.
-fn select_case(s: &[u8], place: usize) -> usize
+fn select_case(rt: &impl Print, s: &[u8], place: usize) -> io::Result<usize>
     requires { (place ≤ length s.now) × (length s.now ≤ 64) }
 {
     let mut tape = [0; 64];
@@ -283,48 +282,49 @@ fn select_case(s: &[u8], place: usize) -> usize
     };
     match select_case::select_case(s, c, &mut tape) {
         SelectCaseRead::Got(case, d) => {
-            select_kind(case);
-            end(d);
-            d.place
+            select_kind(rt, case)?;
+            end(rt, d)?;
+            Ok(d.place)
         }
         SelectCaseRead::Not(x) => {
-            refused(x);
-            s.len() + 1
+            refused(rt, x)?;
+            Ok(s.len() + 1)
         }
     }
 }
 
 // The cases of a select: the list of their metadata's record, from its start on.
-fn select_cases(s: &[u8], from: ListAt) {
+fn select_cases(rt: &impl Print, s: &[u8], from: ListAt) -> io::Result<()> {
     if MOST < s.len() {
-        return;
+        return Ok(());
     }
     let mut place = from.start;
     let mut k = from.count;
     while 0 < k {
         if s.len() < place {
-            return;
+            return Ok(());
         }
-        place = select_case(s, place);
+        place = select_case(rt, s, place)?;
         k -= 1;
     }
+    Ok(())
 }
 
 // A select's metadata, and its cases below it.
-fn select(s: &[u8]) {
+fn select(rt: &impl Print, s: &[u8]) -> io::Result<()> {
     if MOST < s.len() {
-        return;
+        return Ok(());
     }
     let set = &vob24_data::MEASURED;
     let mut tape = [0; 64];
     match metadata::instruction_metadata(s, set, start(), &mut tape) {
         MetadataRead::Got(record, d) => {
-            metadata_record(record);
-            end(d);
+            metadata_record(rt, record)?;
+            end(rt, d)?;
             let cases = record.first;
-            select_cases(s, cases);
+            select_cases(rt, s, cases)
         }
-        MetadataRead::Not(x) => refused(x),
+        MetadataRead::Not(x) => refused(rt, x),
     }
 }
 
@@ -339,45 +339,45 @@ fn magnitude(n: i64) -> u64 {
     }
 }
 
-fn signed(n: i64) {
+fn signed(rt: &impl Print, n: i64) -> io::Result<()> {
     if n < 0 {
-        text(b" -");
+        text(rt, b" -")?;
     } else {
-        text(b" ");
+        text(rt, b" ")?;
     }
-    io::print_decimal(STDOUT_FILENO, magnitude(n));
+    let magnitude = magnitude(n);
+    print!(rt; "{magnitude}")
 }
 
 // By its bits, since there is no other way to show a float here; a NaN has none.
-fn float(x: f64) {
+fn float(rt: &impl Print, x: f64) -> io::Result<()> {
     if x == x {
         let bits = f64::to_bits(x);
-        text(b" ");
-        io::print_hex(STDOUT_FILENO, bits, 16);
+        print!(rt; " {bits:016x}")
     } else {
-        text(b" NaN");
+        text(rt, b" NaN")
     }
 }
 
-fn constant_kind(constant: Constant) {
+fn constant_kind(rt: &impl Print, constant: Constant) -> io::Result<()> {
     match constant {
-        Constant::Nil => text(b"Nil"),
+        Constant::Nil => text(rt, b"Nil"),
         Constant::Bool(b) => {
-            text(b"Bool");
-            truth(b);
+            text(rt, b"Bool")?;
+            truth(rt, b)
         }
         Constant::Int(n) => {
-            text(b"Int");
-            signed(n);
+            text(rt, b"Int")?;
+            signed(rt, n)
         }
         Constant::Float(x) => {
-            text(b"Float");
-            float(x);
+            text(rt, b"Float")?;
+            float(rt, x)
         }
         Constant::Text { start, length } => {
-            text(b"Text");
-            field(b"start", start as u64);
-            field(b"length", length as u64);
+            text(rt, b"Text")?;
+            field(rt, b"start", start as u64)?;
+            field(rt, b"length", length as u64)
         }
     }
 }
@@ -387,84 +387,96 @@ fn wide(x: u32) -> u64 {
 }
 
 // A constant has one to three words.
-fn words(tape: &[u32; 64], n: usize) {
-    text(b", words");
-    number(wide(tape[0]));
+fn words(rt: &impl Print, tape: &[u32; 64], n: usize) -> io::Result<()> {
+    text(rt, b", words")?;
+    number(rt, wide(tape[0]))?;
     if 1 < n {
-        number(wide(tape[1]));
+        number(rt, wide(tape[1]))?;
     }
     if 2 < n {
-        number(wide(tape[2]));
+        number(rt, wide(tape[2]))?;
     }
+    Ok(())
 }
 
-fn constant(s: &[u8]) {
+fn constant(rt: &impl Print, s: &[u8]) -> io::Result<()> {
     if MOST < s.len() {
-        return;
+        return Ok(());
     }
     let mut tape = [0; 64];
     match constants::constant(s, start(), &mut tape) {
         ConstantRead::Got(constant, d) => {
-            constant_kind(constant);
+            constant_kind(rt, constant)?;
             let n = d.at;
-            words(&tape, n);
-            end(d);
+            words(rt, &tape, n)?;
+            end(rt, d)
         }
-        ConstantRead::Not(x) => refused(x),
+        ConstantRead::Not(x) => refused(rt, x),
     }
 }
 
-fn runtime_types() {
-    runtime_type(b"\x00\x02");
-    runtime_type(b"\x01\x07\x00\x00\x00\x06\x00\x00\x00");
-    runtime_type(b"\x01\x07\x00\x00\x00\x00\x00\x00\x00");
-    runtime_type(b"\x02\x12\x03\x00\x00");
-    runtime_type(b"\x03\x05\x00\x00\x00\x01\x00\x00\x00\x02\x01\x00\x00");
-    runtime_type(b"\x04\x02\x00\x00\x00");
-    runtime_type(b"\x05\x0b\x00\x00\x00\x02\x01\x00\x00");
-    runtime_type(b"\x06\x01\x02\x00\x00\x00");
+fn runtime_types(rt: &impl Print) -> io::Result<()> {
+    runtime_type(rt, b"\x00\x02")?;
+    runtime_type(rt, b"\x01\x07\x00\x00\x00\x06\x00\x00\x00")?;
+    runtime_type(rt, b"\x01\x07\x00\x00\x00\x00\x00\x00\x00")?;
+    runtime_type(rt, b"\x02\x12\x03\x00\x00")?;
+    runtime_type(rt, b"\x03\x05\x00\x00\x00\x01\x00\x00\x00\x02\x01\x00\x00")?;
+    runtime_type(rt, b"\x04\x02\x00\x00\x00")?;
+    runtime_type(rt, b"\x05\x0b\x00\x00\x00\x02\x01\x00\x00")?;
+    runtime_type(rt, b"\x06\x01\x02\x00\x00\x00")?;
     runtime_type(
+        rt,
         b"\x07\x01\x02\x00\x00\x00\x02\x00\x00\x00\x03\x00\x00\x00\x01\x00\x00\x00\x04\x00\x00\x00",
-    );
+    )?;
     runtime_type(
+        rt,
         b"\x08\x04\x00\x00\x00\x01\x00\x00\x00\x01\x00\x00\x00a\x02\x00\x00\x00\x00\x00\x00\x00\x00\x00\x00\x00\x00",
-    );
-    runtime_type(b"\x09\x04\x00\x00\x00\x01\x00\x00\x00\x01\x00\x00\x00m\x02\x00\x00\x00");
-    runtime_type(b"\x0a\x02\x00\x00\x00\x02\x00\x00\x00\x03\x00\x00\x00");
-    runtime_type(b"\x0b\x02\x02\x00\x00\x00");
-    runtime_type(b"\x0c");
+    )?;
+    runtime_type(
+        rt,
+        b"\x09\x04\x00\x00\x00\x01\x00\x00\x00\x01\x00\x00\x00m\x02\x00\x00\x00",
+    )?;
+    runtime_type(rt, b"\x0a\x02\x00\x00\x00\x02\x00\x00\x00\x03\x00\x00\x00")?;
+    runtime_type(rt, b"\x0b\x02\x02\x00\x00\x00")?;
+    runtime_type(rt, b"\x0c")
 }
 
-fn all_metadata() {
-    metadata(b"\x00");
-    metadata(b"\x01\x08\x00\x00\x00\x01\x02\x00\x00\x00\x00\x01");
-    metadata(b"\x02\x01\x00\x00\x00\x00\x02\x00\x00\x00\x01\x02\x01");
-    metadata(b"\x03\x01\x00\x00\x00\x00\x02\x00\x00\x00\x01\x02");
-    metadata(b"\x04\x01\x00\x00\x00\x03");
-    metadata(b"\x05\x00\x01\x00\x00");
-    metadata(b"\x09\x02\x00\x00\x00\x04\x05");
-    metadata(b"\x0a\x00\x01\x01\x00\x00\x00\x00");
-    metadata(b"\x0b\x00\x00\x00\x00\x01\x00\x00\x00\x00");
-    metadata(b"\x0c\x02\x00\x00\x00\x00\x00\x00\x00\x00\x00");
-    metadata(b"\x0d\x00\x00\x00\x00");
-    metadata(b"\x0e\x01\x00\x00\x00\x00\x01\x00\x00\x00\x00");
-    metadata(b"\x0f\x01\x09\x00\x00\x00\x01\x00\x00\x00\x02");
-    metadata(b"\x10\x01\x00\x00\x00\x00\x03\x00\x00\x00\x00\x01\x02");
-    metadata(b"\x11\x03\x00\x00\x00\x01\x00\x00\x00\x01\x00\x00\x00\x00\x01\x00\x00\x00\x01");
-    select(b"\x12\x02\x00\x00\x00\x00\x01\x00\x02\x00\x01\x00\x01\x03\x00\x04\x00\x02\x00\x01");
+fn all_metadata(rt: &impl Print) -> io::Result<()> {
+    metadata(rt, b"\x00")?;
+    metadata(rt, b"\x01\x08\x00\x00\x00\x01\x02\x00\x00\x00\x00\x01")?;
+    metadata(rt, b"\x02\x01\x00\x00\x00\x00\x02\x00\x00\x00\x01\x02\x01")?;
+    metadata(rt, b"\x03\x01\x00\x00\x00\x00\x02\x00\x00\x00\x01\x02")?;
+    metadata(rt, b"\x04\x01\x00\x00\x00\x03")?;
+    metadata(rt, b"\x05\x00\x01\x00\x00")?;
+    metadata(rt, b"\x09\x02\x00\x00\x00\x04\x05")?;
+    metadata(rt, b"\x0a\x00\x01\x01\x00\x00\x00\x00")?;
+    metadata(rt, b"\x0b\x00\x00\x00\x00\x01\x00\x00\x00\x00")?;
+    metadata(rt, b"\x0c\x02\x00\x00\x00\x00\x00\x00\x00\x00\x00")?;
+    metadata(rt, b"\x0d\x00\x00\x00\x00")?;
+    metadata(rt, b"\x0e\x01\x00\x00\x00\x00\x01\x00\x00\x00\x00")?;
+    metadata(rt, b"\x0f\x01\x09\x00\x00\x00\x01\x00\x00\x00\x02")?;
+    metadata(rt, b"\x10\x01\x00\x00\x00\x00\x03\x00\x00\x00\x00\x01\x02")?;
+    metadata(
+        rt,
+        b"\x11\x03\x00\x00\x00\x01\x00\x00\x00\x01\x00\x00\x00\x00\x01\x00\x00\x00\x01",
+    )?;
+    select(
+        rt,
+        b"\x12\x02\x00\x00\x00\x00\x01\x00\x02\x00\x01\x00\x01\x03\x00\x04\x00\x02\x00\x01",
+    )
 }
 
-fn all_constants() {
-    constant(b"\x00");
-    constant(b"\x01\x01");
-    constant(b"\x02\xfe\xff\xff\xff\xff\xff\xff\xff");
-    constant(b"\x03\x00\x00\x00\x00\x00\x00\xf8\x3f");
-    constant(b"\x03\x01\x00\x00\x00\x00\x00\xf8\xff");
-    constant(b"\x04\x02\x00\x00\x00hi");
+fn all_constants(rt: &impl Print) -> io::Result<()> {
+    constant(rt, b"\x00")?;
+    constant(rt, b"\x01\x01")?;
+    constant(rt, b"\x02\xfe\xff\xff\xff\xff\xff\xff\xff")?;
+    constant(rt, b"\x03\x00\x00\x00\x00\x00\x00\xf8\x3f")?;
+    constant(rt, b"\x03\x01\x00\x00\x00\x00\x00\xf8\xff")?;
+    constant(rt, b"\x04\x02\x00\x00\x00hi")
 }
 
-fn main() {
-    runtime_types();
-    all_metadata();
-    all_constants();
+fn main(rt: HostRuntime) -> io::Result<()> {
+    runtime_types(&rt)?;
+    all_metadata(&rt)?;
+    all_constants(&rt)
 }

@@ -4,8 +4,8 @@
 
 ghost use Rattle.std.specs.Prelude.{◌≡◌};
 
-use libc::STDOUT_FILENO;
 use reader::{Cursor, Number, Text, numbers};
+use std::io;
 
 // More than any case here.
 const MOST: usize = 16;
@@ -20,64 +20,63 @@ fn start() -> Cursor
     }
 }
 
-fn line(taken: bool, n: u64, place: usize) {
+fn line(rt: &impl Print, taken: bool, n: u64, place: usize) -> io::Result<()> {
     if taken {
-        io::write_all(STDOUT_FILENO, b"taken ");
+        println!(rt; "taken {n} {place}")
     } else {
-        io::write_all(STDOUT_FILENO, b"refused ");
+        println!(rt; "refused {n} {place}")
     }
-    io::print_decimal(STDOUT_FILENO, n);
-    io::write_all(STDOUT_FILENO, b" ");
-    io::print_decimal(STDOUT_FILENO, place as u64);
-    io::write_all(STDOUT_FILENO, b"\n");
 }
 
-fn number(q: Number) {
+fn number(rt: &impl Print, q: Number) -> io::Result<()> {
     match q {
-        Number::Got(n, d) => line(true, n, d.place),
-        Number::Not(x) => line(false, x.number, x.place),
+        Number::Got(n, d) => line(rt, true, n, d.place),
+        Number::Not(x) => line(rt, false, x.number, x.place),
     }
 }
 
-fn packed(s: &[u8]) {
+fn packed(rt: &impl Print, s: &[u8]) -> io::Result<()> {
     if MOST < s.len() {
-        return;
+        return Ok(());
     }
-    number(number_leaves::read_source_u32(s, start()));
+    number(rt, number_leaves::read_source_u32(s, start()))
 }
 
-fn value_meta(s: &[u8]) {
+fn value_meta(rt: &impl Print, s: &[u8]) -> io::Result<()> {
     if MOST < s.len() {
-        return;
+        return Ok(());
     }
-    number(number_leaves::read_packed_word(s, start(), numbers::INVALID_PACKED_VALUE_META));
+    number(
+        rt,
+        number_leaves::read_packed_word(s, start(), numbers::INVALID_PACKED_VALUE_META),
+    )
 }
 
 // The text stands after its length word.
-fn text(s: &[u8]) {
+fn text(rt: &impl Print, s: &[u8]) -> io::Result<()> {
     if MOST < s.len() {
-        return;
+        return Ok(());
     }
     let c = start();
     match length_leaves::read_string(s, c.place, c.left, c.at) {
-        Text::Got(_, _, n, d) => line(true, n as u64, d.place),
-        Text::Not(x) => line(false, x.number, x.place),
+        Text::Got(_, _, n, d) => line(rt, true, n as u64, d.place),
+        Text::Not(x) => line(rt, false, x.number, x.place),
     }
 }
 
-fn main() {
-    packed(b"\x00");
-    packed(b"\x80\x01");
-    packed(b"\xff\xff\xff\xff\x0f");
-    packed(b"\xff\xff\xff\xff\x10");
-    packed(b"\x80\x00");
-    packed(b"\x80");
-    text(b"\x02\x00\x00\x00\xc3\xa9");
-    text(b"\x03\x00\x00\x00\x65\xcc\x81");
-    text(b"\x04\x00\x00\x00\xf4\x8f\xbf\xbf");
-    text(b"\x02\x00\x00\x00\xc0\x80");
-    text(b"\x03\x00\x00\x00\xed\xa0\x80");
-    text(b"\x04\x00\x00\x00\xf4\x90\x80\x80");
-    value_meta(b"\x19\xff\xff\xff");
-    value_meta(b"\x18\xff\xff\xff");
+fn main(rt: HostRuntime) -> io::Result<()> {
+    packed(&rt, b"\x00")?;
+    packed(&rt, b"\x80\x01")?;
+    packed(&rt, b"\xff\xff\xff\xff\x0f")?;
+    packed(&rt, b"\xff\xff\xff\xff\x10")?;
+    packed(&rt, b"\x80\x00")?;
+    packed(&rt, b"\x80")?;
+    text(&rt, b"\x02\x00\x00\x00\xc3\xa9")?;
+    text(&rt, b"\x03\x00\x00\x00\x65\xcc\x81")?;
+    text(&rt, b"\x04\x00\x00\x00\xf4\x8f\xbf\xbf")?;
+    text(&rt, b"\x02\x00\x00\x00\xc0\x80")?;
+    text(&rt, b"\x03\x00\x00\x00\xed\xa0\x80")?;
+    text(&rt, b"\x04\x00\x00\x00\xf4\x90\x80\x80")?;
+    value_meta(&rt, b"\x19\xff\xff\xff")?;
+    value_meta(&rt, b"\x18\xff\xff\xff")
 }

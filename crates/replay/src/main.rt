@@ -6,14 +6,25 @@ use alike_names::Alike;
 use lent_sections::Position;
 use lookup::Found;
 use reader::{Step, Text};
+use std::fs::File;
+use std::io::Read;
+use std::rt::Files;
+use std::{env, io};
 use stored_answers::{ALIKE_NAMES, LOOKUP, SECTION_CALL, TEXT, Tally, WHOLE};
 use vob24_data::Section;
 
-fn whole(t: Tally, h: &[u8], pack: &[u8], words: &[u8], tape: &mut [u32]) -> Tally {
+fn whole(
+    rt: &impl Print,
+    t: Tally,
+    h: &[u8],
+    pack: &[u8],
+    words: &[u8],
+    tape: &mut [u32],
+) -> io::Result<Tally> {
     stored_answers::fill(tape);
     let answer = pack::read(pack, stored_answers::long(h, stored_answers::BUDGET), tape);
-    let t = stored_answers::hold_answer(t, h, answer);
-    stored_answers::hold_tape(t, h, words, tape)
+    let t = stored_answers::hold_answer(rt, t, h, answer)?;
+    stored_answers::hold_tape(rt, t, h, words, tape)
 }
 
 // The section that a record names by its number.
@@ -47,17 +58,31 @@ fn section_in(h: &[u8]) -> Section {
     )
 }
 
-fn section(t: Tally, h: &[u8], pack: &[u8], words: &[u8], tape: &mut [u32]) -> Tally {
+fn section(
+    rt: &impl Print,
+    t: Tally,
+    h: &[u8],
+    pack: &[u8],
+    words: &[u8],
+    tape: &mut [u32],
+) -> io::Result<Tally> {
     let place = stored_answers::long(h, stored_answers::PLACE) as usize;
     let budget = stored_answers::long(h, stored_answers::BUDGET);
     stored_answers::fill(tape);
     let answer = sections::read_section(pack, section_in(h), place, budget, tape);
-    let t = stored_answers::hold_answer(t, h, answer);
-    stored_answers::hold_tape(t, h, words, tape)
+    let t = stored_answers::hold_answer(rt, t, h, answer)?;
+    stored_answers::hold_tape(rt, t, h, words, tape)
 }
 
 // The same by the call that is lent its position, through the function by value over it.
-fn lent_section(t: Tally, h: &[u8], pack: &[u8], words: &[u8], tape: &mut [u32]) -> Tally {
+fn lent_section(
+    rt: &impl Print,
+    t: Tally,
+    h: &[u8],
+    pack: &[u8],
+    words: &[u8],
+    tape: &mut [u32],
+) -> io::Result<Tally> {
     let place = stored_answers::long(h, stored_answers::PLACE) as usize;
     let budget = stored_answers::long(h, stored_answers::BUDGET);
     stored_answers::fill(tape);
@@ -69,144 +94,144 @@ fn lent_section(t: Tally, h: &[u8], pack: &[u8], words: &[u8], tape: &mut [u32])
     );
     let answer = lent.answer;
     let next = lent.next;
-    let t = stored_answers::hold_answer(t, h, answer);
-    let t = stored_answers::hold_position(t, h, next.place, next.budget);
-    stored_answers::hold_tape(t, h, words, tape)
+    let t = stored_answers::hold_answer(rt, t, h, answer)?;
+    let t = stored_answers::hold_position(rt, t, h, next.place, next.budget)?;
+    stored_answers::hold_tape(rt, t, h, words, tape)
 }
 
-fn lookup(t: Tally, h: &[u8], pack: &[u8], name: &[u8]) -> Tally {
+fn lookup(rt: &impl Print, t: Tally, h: &[u8], pack: &[u8], name: &[u8]) -> io::Result<Tally> {
     let found = pack::locate_artifact(pack, name);
     let t = match found {
-        Found::At(start, length) => stored_answers::hold_found(t, h, start, length),
-        Found::Not(r) => stored_answers::hold_refusal(t, h, r),
-    };
-    stored_answers::hold_payload(t, h, pack, pack::find_artifact(pack, name))
+        Found::At(start, length) => stored_answers::hold_found(rt, t, h, start, length),
+        Found::Not(r) => stored_answers::hold_refusal(rt, t, h, r),
+    }?;
+    stored_answers::hold_payload(rt, t, h, pack, pack::find_artifact(pack, name))
 }
 
 // A text through the leaf, which alone says how many characters there are. The leaf requires what a call asks first.
-fn text(t: Tally, h: &[u8], pack: &[u8]) -> Tally {
+fn text(rt: &impl Print, t: Tally, h: &[u8], pack: &[u8]) -> io::Result<Tally> {
     let place = stored_answers::long(h, stored_answers::PLACE) as usize;
     let opened = calls::opening(pack, place, stored_answers::long(h, stored_answers::BUDGET));
     match opened {
-        Step::Refused(r) => stored_answers::hold_refusal(t, h, r),
+        Step::Refused(r) => stored_answers::hold_refusal(rt, t, h, r),
         Step::Taken(c) => match length_leaves::read_string(pack, c.place, c.left, c.at) {
             Text::Got(start, length, characters, d) => {
-                stored_answers::hold_text(t, h, start, length, characters, d)
+                stored_answers::hold_text(rt, t, h, start, length, characters, d)
             }
-            Text::Not(r) => stored_answers::hold_refusal(t, h, r),
+            Text::Not(r) => stored_answers::hold_refusal(rt, t, h, r),
         },
     }
 }
 
-fn alike_names(t: Tally, h: &[u8], pack: &[u8]) -> Tally {
+fn alike_names(rt: &impl Print, t: Tally, h: &[u8], pack: &[u8]) -> io::Result<Tally> {
     match pack::alike_names(pack) {
         Alike::Pair(start, length, later_start, later_length) => {
-            stored_answers::hold_pair(t, h, start, length, later_start, later_length)
+            stored_answers::hold_pair(rt, t, h, start, length, later_start, later_length)
         }
-        Alike::None => stored_answers::hold_no_pair(t, h),
-        Alike::Not(r) => stored_answers::hold_refusal(t, h, r),
+        Alike::None => stored_answers::hold_no_pair(rt, t, h),
+        Alike::Not(r) => stored_answers::hold_refusal(rt, t, h, r),
     }
 }
 
 fn replay_kind(
+    rt: &impl Print,
     t: Tally,
     h: &[u8],
     pack: &[u8],
     name: &[u8],
     words: &[u8],
     tape: &mut [u32],
-) -> Tally {
+) -> io::Result<Tally> {
     let kind = stored_answers::number(h, stored_answers::KIND);
     if kind == LOOKUP {
-        return lookup(t, h, pack, name);
+        return lookup(rt, t, h, pack, name);
     }
     if kind == SECTION_CALL {
-        let t = section(t, h, pack, words, tape);
-        return lent_section(t, h, pack, words, tape);
+        let t = section(rt, t, h, pack, words, tape)?;
+        return lent_section(rt, t, h, pack, words, tape);
     }
     if kind == TEXT {
-        return text(t, h, pack);
+        return text(rt, t, h, pack);
     }
     if kind == ALIKE_NAMES {
-        return alike_names(t, h, pack);
+        return alike_names(rt, t, h, pack);
     }
-    let t = stored_answers::hold(t, b"kind", kind, WHOLE);
-    whole(t, h, pack, words, tape)
+    let t = stored_answers::hold(rt, t, b"kind", kind, WHOLE)?;
+    whole(rt, t, h, pack, words, tape)
 }
 
 fn replay_record(
+    rt: &impl Print,
     t: Tally,
     h: &mut [u8],
     pack: &mut [u8],
     name: &[u8],
     words: &[u8],
     tape: &mut [u32],
-) -> Tally {
+) -> io::Result<Tally> {
     stored_answers::swap_edit(h, pack);
     let n = stored_answers::room(h, tape);
     let t = replay_kind(
+        rt,
         t,
         h,
         stored_answers::pack_of(h, pack),
         stored_answers::name_of(h, name),
         words,
         &mut tape[0..n],
-    );
+    )?;
     stored_answers::swap_edit(h, pack);
-    stored_answers::one_more(t)
+    Ok(stored_answers::one_more(t))
 }
 
 fn replay_list(
-    fd: i32,
+    rt: &impl Print,
+    file: &mut impl Read,
     list: &[u8],
     h: &mut [u8],
     pack: &mut [u8],
     name: &mut [u8],
     words: &mut [u8],
     tape: &mut [u32],
-) {
+) -> io::Result<()> {
     let mut t = stored_answers::first_tally();
     // A proved loop has to end, and nothing says that a list does.
     let mut turns = u64::MAX;
     while turns > 0 {
-        if !stored_answers::next_record(fd, list, t, h, pack, name, words, tape) {
-            return;
+        if !stored_answers::next_record(rt, file, list, t, h, pack, name, words, tape)? {
+            return Ok(());
         }
-        t = replay_record(t, h, pack, name, words, tape);
+        t = replay_record(rt, t, h, pack, name, words, tape)?;
         turns -= 1;
     }
+    Ok(())
 }
 
-fn replay_argument(i: usize) {
-    let mut path = io::buffer();
-    let n = os::arg(i, &mut path);
-    let fd = os::open_read(&path[..n]);
-    if fd < 0 {
-        os::fail(&path[..n]);
-        return;
-    }
+fn replay_argument<R: Files + Print + Eprint>(rt: &R, path: &str) -> io::Result<()> {
+    let mut file = match File::open(rt, path) {
+        Ok(file) => file,
+        Err(error) => return eprintln!(rt; "{path}: {error}"),
+    };
     let mut header = [0u8; 128];
     let mut pack = [0u8; 65536];
     let mut name = [0u8; 129];
     let mut words = [0u8; 262144];
     let mut tape = [0u32; 65536];
     replay_list(
-        fd,
-        &path[..n],
+        rt,
+        &mut file,
+        path.as_bytes(),
         &mut header,
         &mut pack,
         &mut name,
         &mut words,
         &mut tape,
-    );
-    libc::close(fd);
+    )
 }
 
-fn main() {
-    let n = os::arg_count();
-    let mut i = 1;
-    while i < n {
-        replay_argument(i);
-        i += 1;
+fn main(rt: HostRuntime) -> io::Result<()> {
+    for path in env::args(&rt)?.skip(1) {
+        replay_argument(&rt, path.as_str())?;
     }
+    Ok(())
 }

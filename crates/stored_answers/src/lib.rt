@@ -5,8 +5,9 @@
 ghost use Rattle.std.specs.Prelude.{◌<◌, ◌≤◌, length};
 
 use calls::Answer;
-use libc::STDOUT_FILENO;
 use reader::{Cursor, Refusal};
+use std::io;
+use std::io::Read;
 use std::num::{wrapping_add_u32, wrapping_add_u64, wrapping_sub_u32};
 
 // Kinds of records.
@@ -99,12 +100,12 @@ pub fn long(h: &[u8], at: usize) -> u64
 }
 
 // Reads `n` bytes to the start of `buf`: false where the list ends before that, or `buf` does.
-fn fetch(fd: i32, buf: &mut [u8], n: u64) -> bool {
+fn fetch(file: &mut impl Read, buf: &mut [u8], n: u64) -> bool {
     let n = n as usize;
     if n > buf.len() {
         return false;
     }
-    io::read_full(fd, &mut buf[0..n]) == n
+    file.read_exact(&mut buf[0..n]).is_ok()
 }
 
 // Are the header's numbers consistent? How many bytes follow the header is tested where they are read.
@@ -132,7 +133,7 @@ enum Next {
 }
 
 fn read_record(
-    fd: i32,
+    file: &mut impl Read,
     t: Tally,
     h: &mut [u8],
     pack: &mut [u8],
@@ -140,41 +141,49 @@ fn read_record(
     words: &mut [u8],
     tape: &[u32],
 ) -> Next {
-    if !fetch(fd, h, HEADER) {
+    if !fetch(file, h, HEADER) {
         return Next::Broken;
     }
     if number(h, KIND) == 0 {
-        return end(fd, t, h);
+        return end(file, t, h);
     }
     if !is_sound(h, pack, tape) {
         return Next::Broken;
     }
-    if !fetch(fd, pack, number(h, STORED)) {
+    if !fetch(file, pack, number(h, STORED)) {
         return Next::Broken;
     }
-    if !fetch(fd, name, number(h, NAME)) {
+    if !fetch(file, name, number(h, NAME)) {
         return Next::Broken;
     }
-    if !fetch(fd, words, number(h, WORDS) * 4) {
+    if !fetch(file, words, number(h, WORDS) * 4) {
         return Next::Broken;
     }
     Next::Record
 }
 
 // A list's end says how many records came before it, and nothing follows it.
-fn end(fd: i32, t: Tally, h: &[u8]) -> Next {
-    let mut one = [0u8; 1];
-    if number(h, STORED) == t.records && libc::read(fd, &mut one) == 0 {
+fn end(file: &mut impl Read, t: Tally, h: &[u8]) -> Next {
+    if number(h, STORED) == t.records && is_at_end(file) {
         Next::End
     } else {
         Next::Broken
     }
 }
 
+fn is_at_end(file: &mut impl Read) -> bool {
+    let mut one = [0u8; 1];
+    match file.read(&mut one) {
+        Ok(n) => n == 0,
+        Err(_) => false,
+    }
+}
+
 // Reads the next record: its header to `h`, and what follows to the starts of `pack`, `name` and `words`. False where
 // there is none; then the list's last line is printed.
 pub fn next_record(
-    fd: i32,
+    rt: &impl Print,
+    file: &mut impl Read,
     list: &[u8],
     t: Tally,
     h: &mut [u8],
@@ -182,34 +191,28 @@ pub fn next_record(
     name: &mut [u8],
     words: &mut [u8],
     tape: &[u32],
-) -> bool {
-    match read_record(fd, t, h, pack, name, words, tape) {
-        Next::Record => true,
+) -> io::Result<bool> {
+    match read_record(file, t, h, pack, name, words, tape) {
+        Next::Record => Ok(true),
         Next::End => {
-            report(list, t);
-            false
+            report(rt, list, t)?;
+            Ok(false)
         }
         Next::Broken => {
-            report_broken(list, t);
-            false
+            report_broken(rt, list, t)?;
+            Ok(false)
         }
     }
 }
 
-fn report(list: &[u8], t: Tally) {
-    say(list);
-    say(b": ");
-    io::print_decimal(STDOUT_FILENO, t.records);
-    say(b" records, ");
-    io::print_decimal(STDOUT_FILENO, t.differences);
-    say(b" differences\n");
+fn report(rt: &impl Print, list: &[u8], t: Tally) -> io::Result<()> {
+    say(rt, list)?;
+    println!(rt; ": {} records, {} differences", t.records, t.differences)
 }
 
-fn report_broken(list: &[u8], t: Tally) {
-    say(list);
-    say(b": malformed or cut short after ");
-    io::print_decimal(STDOUT_FILENO, t.records);
-    say(b" records\n");
+fn report_broken(rt: &impl Print, list: &[u8], t: Tally) -> io::Result<()> {
+    say(rt, list)?;
+    println!(rt; ": malformed or cut short after {} records", t.records)
 }
 
 // Puts a record's edit into the pack, and into the header what stood there: a second call takes the edit back.
@@ -318,33 +321,27 @@ fn word(w: u32) -> u64 {
 }
 
 // Counts and prints a difference, if it is one.
-pub fn hold(t: Tally, what: &[u8], stored: u64, got: u64) -> Tally {
+pub fn hold(rt: &impl Print, t: Tally, what: &[u8], stored: u64, got: u64) -> io::Result<Tally> {
     if stored == got {
-        return t;
+        return Ok(t);
     }
     if t.differences < SHOWN {
-        say(b"record ");
-        io::print_decimal(STDOUT_FILENO, t.records);
-        say(b": ");
-        say(what);
-        say(b": stored ");
-        io::print_decimal(STDOUT_FILENO, stored);
-        say(b", got ");
-        io::print_decimal(STDOUT_FILENO, got);
-        say(b"\n");
+        print!(rt; "record {}: ", t.records)?;
+        say(rt, what)?;
+        println!(rt; ": stored {stored}, got {got}")?;
     }
-    Tally {
+    Ok(Tally {
         records: t.records,
         differences: wrapping_add_u64(t.differences, 1),
-    }
+    })
 }
 
-fn say(text: &[u8]) {
-    io::write_all(STDOUT_FILENO, text);
+fn say(rt: &impl Print, text: &[u8]) -> io::Result<()> {
+    rt.write_all(text)
 }
 
 // Holds an answer against a record's status and fields.
-pub fn hold_answer(t: Tally, h: &[u8], answer: Answer) -> Tally {
+pub fn hold_answer(rt: &impl Print, t: Tally, h: &[u8], answer: Answer) -> io::Result<Tally> {
     match answer {
         Answer::Taken {
             words,
@@ -352,62 +349,82 @@ pub fn hold_answer(t: Tally, h: &[u8], answer: Answer) -> Tally {
             charged,
             left,
         } => {
-            let t = hold(t, b"status", long(h, STATUS), 0);
-            let t = hold(t, b"count", number(h, COUNT), words as u64);
-            let t = hold(t, b"words", long(h, FIELDS), words as u64);
-            let t = hold(t, b"bytes", long(h, FIELDS + 8), bytes as u64);
-            let t = hold(t, b"charged", long(h, FIELDS + 16), charged);
-            hold(t, b"left", long(h, FIELDS + 24), left)
+            let t = hold(rt, t, b"status", long(h, STATUS), 0)?;
+            let t = hold(rt, t, b"count", number(h, COUNT), words as u64)?;
+            let t = hold(rt, t, b"words", long(h, FIELDS), words as u64)?;
+            let t = hold(rt, t, b"bytes", long(h, FIELDS + 8), bytes as u64)?;
+            let t = hold(rt, t, b"charged", long(h, FIELDS + 16), charged)?;
+            hold(rt, t, b"left", long(h, FIELDS + 24), left)
         }
-        Answer::Refused(r) => hold_refusal(t, h, r),
+        Answer::Refused(r) => hold_refusal(rt, t, h, r),
     }
 }
 
-pub fn hold_refusal(t: Tally, h: &[u8], r: Refusal) -> Tally {
-    let t = hold(t, b"status", long(h, STATUS), 1);
-    let t = hold(t, b"count", number(h, COUNT), 0);
-    let t = hold(t, b"number", long(h, FIELDS), r.number);
-    let t = hold(t, b"c", long(h, FIELDS + 8), r.context);
-    let t = hold(t, b"d1", long(h, FIELDS + 16), r.detail1);
-    let t = hold(t, b"d2", long(h, FIELDS + 24), r.detail2);
-    let t = hold(t, b"place", long(h, FIELDS + 32), r.place as u64);
-    hold(t, b"left", long(h, FIELDS + 40), r.left)
+pub fn hold_refusal(rt: &impl Print, t: Tally, h: &[u8], r: Refusal) -> io::Result<Tally> {
+    let t = hold(rt, t, b"status", long(h, STATUS), 1)?;
+    let t = hold(rt, t, b"count", number(h, COUNT), 0)?;
+    let t = hold(rt, t, b"number", long(h, FIELDS), r.number)?;
+    let t = hold(rt, t, b"c", long(h, FIELDS + 8), r.context)?;
+    let t = hold(rt, t, b"d1", long(h, FIELDS + 16), r.detail1)?;
+    let t = hold(rt, t, b"d2", long(h, FIELDS + 24), r.detail2)?;
+    let t = hold(rt, t, b"place", long(h, FIELDS + 32), r.place as u64)?;
+    hold(rt, t, b"left", long(h, FIELDS + 40), r.left)
 }
 
 // Holds the position after a section call: past the bytes taken, with the budget left, or as it was given.
-pub fn hold_position(t: Tally, h: &[u8], place: usize, budget: u64) -> Tally {
+pub fn hold_position(
+    rt: &impl Print,
+    t: Tally,
+    h: &[u8],
+    place: usize,
+    budget: u64,
+) -> io::Result<Tally> {
     if long(h, STATUS) == 0 {
         let past = wrapping_add_u64(long(h, PLACE), long(h, FIELDS + 8));
-        let t = hold(t, b"place after it", past, place as u64);
-        return hold(t, b"budget after it", long(h, FIELDS + 24), budget);
+        let t = hold(rt, t, b"place after it", past, place as u64)?;
+        return hold(rt, t, b"budget after it", long(h, FIELDS + 24), budget);
     }
-    let t = hold(t, b"place after it", long(h, PLACE), place as u64);
-    hold(t, b"budget after it", long(h, BUDGET), budget)
+    let t = hold(rt, t, b"place after it", long(h, PLACE), place as u64)?;
+    hold(rt, t, b"budget after it", long(h, BUDGET), budget)
 }
 
-pub fn hold_found(t: Tally, h: &[u8], start: usize, length: usize) -> Tally {
-    let t = hold(t, b"status", long(h, STATUS), 0);
-    let t = hold(t, b"count", number(h, COUNT), 0);
-    let t = hold(t, b"start", long(h, FIELDS), start as u64);
-    hold(t, b"length", long(h, FIELDS + 8), length as u64)
+pub fn hold_found(
+    rt: &impl Print,
+    t: Tally,
+    h: &[u8],
+    start: usize,
+    length: usize,
+) -> io::Result<Tally> {
+    let t = hold(rt, t, b"status", long(h, STATUS), 0)?;
+    let t = hold(rt, t, b"count", number(h, COUNT), 0)?;
+    let t = hold(rt, t, b"start", long(h, FIELDS), start as u64)?;
+    hold(rt, t, b"length", long(h, FIELDS + 8), length as u64)
 }
 
 // The earlier name and the later one.
 pub fn hold_pair(
+    rt: &impl Print,
     t: Tally,
     h: &[u8],
     start: usize,
     length: usize,
     later_start: usize,
     later_length: usize,
-) -> Tally {
-    let t = hold(t, b"status", long(h, STATUS), 0);
-    let t = hold(t, b"count", number(h, COUNT), 0);
-    let t = hold(t, b"pair", long(h, FIELDS), 1);
-    let t = hold(t, b"start", long(h, FIELDS + 8), start as u64);
-    let t = hold(t, b"length", long(h, FIELDS + 16), length as u64);
-    let t = hold(t, b"later start", long(h, FIELDS + 24), later_start as u64);
+) -> io::Result<Tally> {
+    let t = hold(rt, t, b"status", long(h, STATUS), 0)?;
+    let t = hold(rt, t, b"count", number(h, COUNT), 0)?;
+    let t = hold(rt, t, b"pair", long(h, FIELDS), 1)?;
+    let t = hold(rt, t, b"start", long(h, FIELDS + 8), start as u64)?;
+    let t = hold(rt, t, b"length", long(h, FIELDS + 16), length as u64)?;
+    let t = hold(
+        rt,
+        t,
+        b"later start",
+        long(h, FIELDS + 24),
+        later_start as u64,
+    )?;
     hold(
+        rt,
         t,
         b"later length",
         long(h, FIELDS + 32),
@@ -415,50 +432,66 @@ pub fn hold_pair(
     )
 }
 
-pub fn hold_no_pair(t: Tally, h: &[u8]) -> Tally {
-    let t = hold(t, b"status", long(h, STATUS), 0);
-    let t = hold(t, b"count", number(h, COUNT), 0);
-    hold(t, b"pair", long(h, FIELDS), 0)
+pub fn hold_no_pair(rt: &impl Print, t: Tally, h: &[u8]) -> io::Result<Tally> {
+    let t = hold(rt, t, b"status", long(h, STATUS), 0)?;
+    let t = hold(rt, t, b"count", number(h, COUNT), 0)?;
+    hold(rt, t, b"pair", long(h, FIELDS), 0)
 }
 
 // The cursor is the one past the text.
 pub fn hold_text(
+    rt: &impl Print,
     t: Tally,
     h: &[u8],
     start: usize,
     length: usize,
     characters: usize,
     c: Cursor,
-) -> Tally {
-    let t = hold(t, b"status", long(h, STATUS), 0);
-    let t = hold(t, b"count", number(h, COUNT), 0);
-    let t = hold(t, b"start", long(h, FIELDS), start as u64);
-    let t = hold(t, b"length", long(h, FIELDS + 8), length as u64);
-    let t = hold(t, b"characters", long(h, FIELDS + 16), characters as u64);
-    let t = hold(t, b"place", long(h, FIELDS + 24), c.place as u64);
-    hold(t, b"left", long(h, FIELDS + 32), c.left)
+) -> io::Result<Tally> {
+    let t = hold(rt, t, b"status", long(h, STATUS), 0)?;
+    let t = hold(rt, t, b"count", number(h, COUNT), 0)?;
+    let t = hold(rt, t, b"start", long(h, FIELDS), start as u64)?;
+    let t = hold(rt, t, b"length", long(h, FIELDS + 8), length as u64)?;
+    let t = hold(
+        rt,
+        t,
+        b"characters",
+        long(h, FIELDS + 16),
+        characters as u64,
+    )?;
+    let t = hold(rt, t, b"place", long(h, FIELDS + 24), c.place as u64)?;
+    hold(rt, t, b"left", long(h, FIELDS + 32), c.left)
 }
 
 // Holds the tape that a record lends, marked before the call, against the record: its counted words, and that the
 // others are as they were.
-pub fn hold_tape(t: Tally, h: &[u8], words: &[u8], tape: &[u32]) -> Tally {
+pub fn hold_tape(
+    rt: &impl Print,
+    t: Tally,
+    h: &[u8],
+    words: &[u8],
+    tape: &[u32],
+) -> io::Result<Tally> {
     let count = least(number(h, COUNT), tape.len());
     let t = hold(
+        rt,
         t,
         b"sum of the words",
         number(h, SUM),
         word(sum_of(&tape[0..count])),
-    );
+    )?;
     let t = hold(
+        rt,
         t,
         b"first change past the words",
         tape.len() as u64,
         first_written(tape, count) as u64,
-    );
+    )?;
     if number(h, WORDS) == 0 {
-        return t;
+        return Ok(t);
     }
     hold(
+        rt,
         t,
         b"first word that differs",
         count as u64,
@@ -468,20 +501,33 @@ pub fn hold_tape(t: Tally, h: &[u8], words: &[u8], tape: &[u32]) -> Tally {
 
 // Holds the payload that a lookup returned against the part of the pack that a record says; nothing where it is
 // refused.
-pub fn hold_payload(t: Tally, h: &[u8], pack: &[u8], payload: &[u8]) -> Tally {
+pub fn hold_payload(
+    rt: &impl Print,
+    t: Tally,
+    h: &[u8],
+    pack: &[u8],
+    payload: &[u8],
+) -> io::Result<Tally> {
     let start = least(long(h, FIELDS), pack.len());
     let length = least(long(h, FIELDS + 8), pack.len() - start);
     if long(h, STATUS) == 0 {
-        let t = hold(t, b"payload's length", length as u64, payload.len() as u64);
+        let t = hold(
+            rt,
+            t,
+            b"payload's length",
+            length as u64,
+            payload.len() as u64,
+        )?;
         let end = start + length;
         return hold(
+            rt,
             t,
             b"first byte of the payload that differs",
             length as u64,
             first_differing(&pack[start..end], payload) as u64,
         );
     }
-    hold(t, b"payload's length", 0, payload.len() as u64)
+    hold(rt, t, b"payload's length", 0, payload.len() as u64)
 }
 
 // The first place at which `b` is not as `a`, or the length of `a`.
