@@ -1,7 +1,7 @@
 /*
  * vob.h: the proved reader of VOB 24 rule packs, for C and C++.
  *
- * `rt staticlib exports` proves the library and writes target/staticlib/libexports.a; link that archive (x86-64 Linux).
+ * `rt lib` in crates/exports proves the library and writes crates/exports/out/libexports.a; link that archive (x86-64 Linux).
  * bindings/c/example.c is a whole program, and ./bindings/run builds it.
  *
  * Every call ends, for every input, and answers as crates/vob24/specs/Calls.antt defines, vob_alike_names as

@@ -112,8 +112,8 @@ agree("sizes", {
 })
 
 # How many they are.
-many = [int(n) for n in re.findall(r"^manySizes = (\d+)", text(settings), re.M)]
-agree("how many sizes", {settings: [count], settings + ", manySizes": many} | {
+many = [int(n) for n in re.findall(r"^many_sizes = (\d+)", text(settings), re.M)]
+agree("how many sizes", {settings: [count], settings + ", many_sizes": many} | {
     path: [int(n) for n in re.findall(pattern, text(path))] for path, pattern in (
         ("bindings/c/vob.h", r"number in the table of sizes, 1 to (\d+);"),
         ("bindings/rust/src/lib.rs", r"table of sizes, 1 to (\d+)\."),
@@ -131,7 +131,7 @@ agree("places of the limits", {
 })
 limits = {name: table[at] + 65536 * (table[entries[name + "_high"]] if name + "_high" in entries else 0)
           for name, at in entries.items() if not name.endswith("_high")}
-standing = re.search(r"^settings = record \{(.*)\}$", text(settings), re.M).group(1)
+standing = re.search(r"^settings =\s+record \{([^}]*)\}$", text(settings), re.M).group(1)
 agree("limits", {
     "crates/vob24_data/src/lib.rt": sorted(limits.items()),
     settings: sorted((snake(name), int(value)) for name, value in re.findall(r"(\w+) = (\d+)", standing)),
@@ -161,14 +161,14 @@ agree("sections", {
 # The longest pack, and the Rust's starting budget.
 for what, places in {
     "the longest pack": [
-        ("crates/vob24/specs/Settings.antt", r"^maxPackBytes = (\d+)"),
+        ("crates/vob24/specs/Settings.antt", r"^max_pack_bytes = (\d+)"),
         ("crates/calls/src/lib.rt", r"MAX_PACK_BYTES: usize = ([\d_]+)"),
         ("bindings/rust/src/lib.rs", r"MAX_PACK_BYTES: usize = ([\d_]+)"),
         ("bindings/c/vob.h", r"VOB_MAX_PACK_BYTES UINT64_C\((\d+)\)"),
         ("oracle/check/reader.py", r"^MAX_PACK = ([\d_]+)"),
     ],
     "the starting budget": [
-        ("crates/vob24/specs/Settings.antt", r"^startingBudget = (\d+)"),
+        ("crates/vob24/specs/Settings.antt", r"^starting_budget = (\d+)"),
         ("crates/pack/src/lib.rt", r"STARTING_BUDGET: u64 = ([\d_]+)"),
         ("bindings/rust/src/lib.rs", r"STARTING_BUDGET: u64 = ([\d_]+)"),
         ("bindings/c/vob.h", r"VOB_STARTING_BUDGET UINT64_C\((\d+)\)"),

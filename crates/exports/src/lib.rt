@@ -1,4 +1,4 @@
-// The calls for programs in C or Rust to link (rt staticlib exports): whole pack, sections, lookup, names alike and the
+// The calls for programs in C or Rust to link (rt lib in this folder): whole pack, sections, lookup, names alike and the
 // table of sizes, over the C ABI. The Rust has none of these; bindings/c/vob.h declares them. An answer is returned by value, so
 // a refusal changes no lent memory.
 #![tactic(auto)]
