@@ -67,6 +67,7 @@ same_true x y e = go (same x y) (rw e (same_refl y))
   where
     go : (d : Bool) → T d → d ≡ true
     go true t = refl
+    go false t = elim t [ ]
 
 pub same-agree : (x y u w : List ℕ) → (x ≡ y → u ≡ w) → (u ≡ w → x ≡ y) → same x y ≡ same u w
 same-agree x y u w f g = go (same x y) refl (same u w) refl
