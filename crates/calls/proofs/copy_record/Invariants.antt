@@ -1,4 +1,5 @@
-use Rattle.std.proofs.Common.{◌-◌, ◌≤◌, ◌≡◌, length, paste}
+use Rattle.std.proofs.Common.{◌-◌, ◌≤◌, ◌≡◌, length}
+use Rattle.std.proofs.Math.Seq.{paste}
 use Rattle.calls.proofs.copy_record.Given as goal
 
 abbrev pub invariant-loop-i : goal.invariant-loop-i
