@@ -7,7 +7,7 @@ use Rattle.format.specs.Trace.{Wrong, pick, Ends}
 use Rattle.format.specs.Format.{Value, content, first, Ask, Format, ask, leaf, chain, items, entries}
 use Rattle.format.specs.Reading.{same, trace_leaf, trace}
 use Rattle.format.specs.Layout.{clear}
-use Rattle.format.specs.TraceTheorems.{ask-ends, seq-ends}
+use Rattle.format.proofs.TraceTheorems.{ask-ends, seq-ends}
 use Rattle.vob24.specs.Refusals.{duplicate_named_method}
 use Rattle.vob24.specs.Settings.{Settings}
 use Rattle.vob24.specs.Fields.{new_method_of, runtime_interface_of}

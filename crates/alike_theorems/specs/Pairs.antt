@@ -7,7 +7,7 @@ use Rattle.std.proofs.Math.Seq.{append_snoc}
 use Rattle.format.specs.Trace.{pick}
 use Rattle.format.specs.Format.{Value, start, content}
 use Rattle.format.specs.Reading.{same}
-use Rattle.format.specs.LayoutTheorems.{same-eq, same_refl}
+use Rattle.format.proofs.LayoutTheorems.{same-eq, same_refl}
 use Rattle.alike.specs.Decompositions.{alike, fold, scalars}
 use Rattle.alike.specs.Alike.{Names, none, pair, or_else, nearest, pair_after, pair_in}
 use Rattle.alike_theorems.specs.Order.{name_end, InOrder, order-split, order-lies, Apart, equal, before, behind, apart}

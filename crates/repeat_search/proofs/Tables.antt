@@ -8,7 +8,7 @@ use lib.ListN.{length}
 use Rattle.format.specs.Trace.{pick}
 use Rattle.format.specs.Format.{Value, content, Format}
 use Rattle.format.specs.Reading.{same}
-use Rattle.format.specs.TraceTheorems.{trace-within}
+use Rattle.format.proofs.TraceTheorems.{trace-within}
 use Rattle.vob24.specs.Questions.{among_identities}
 use Rattle.in_place.specs.declared.Item.{Item}
 use Rattle.in_place.specs.declared.Item.TheVariants.{Name, StructField, InterfaceMethod, RuntimeMethod, NamedMethod, RuntimeField}

@@ -5,10 +5,10 @@ use Rattle.format.specs.Trace.{Wrong, wrong, unexpected_eof, Trace, stop, end, c
 use Rattle.format.specs.Format.{Value, num, pair, number, first, second, Rule, Width, Ask, pay, deny, fixed, mark, packed, string, payload, count, ask, Format, empty, leaf, seq, chain, times, items, entries, counted}
 use Rattle.format.specs.Reading.{little, part, room, field, trace_ask, trace_leaf, trace}
 use Rattle.format.specs.Layout.{Bytes, bytes, Valid}
-use Rattle.format.specs.TraceTheorems.{bind-out, leaf-ends, seq-ends, trace-within}
-use Rattle.format.specs.ChargeSums.{charges_ask, free-guard, free-bind, packed-free}
-use Rattle.format.specs.LayoutTheorems.{trace-placed}
-use Rattle.format.specs.CountsCovered.{AtLeast, least_at, least-chain}
+use Rattle.format.proofs.TraceTheorems.{bind-out, leaf-ends, seq-ends, trace-within}
+use Rattle.format.proofs.ChargeSums.{charges_ask, free-guard, free-bind, packed-free}
+use Rattle.format.proofs.LayoutTheorems.{trace-placed}
+use Rattle.format.proofs.CountsCovered.{AtLeast, least_at, least-chain}
 
 -- The charges of f are at most c, and k for each byte: of those it takes where it ends, of those that are left where it
 -- stops.

@@ -7,7 +7,7 @@ use Rattle.format.specs.Format.{Value, none, num, text, pair, number, first, sec
 use Rattle.format.specs.Reading.{little, part, same, size, room, field, packed_step, trace_packed, trace_ask, trace_leaf, trace}
 use Rattle.format.specs.Record.{shown, words_leaf, words}
 use Rattle.format.specs.Layout.{clear}
-use Rattle.format.specs.SettleTheorems.{then_s, settle-bind}
+use Rattle.format.proofs.SettleTheorems.{then_s, settle-bind}
 
 -- The parts of a trace that ends.
 pub Ends-bind : {A B : Type 0} (t : Trace A) (k : A → ℕ → Trace B) {w : B} {r : ℕ} → Ends (bind t k) w r

@@ -6,7 +6,7 @@ use Rattle.format.specs.Trace.{Wrong, pick, ended, Ends}
 use Rattle.format.specs.Format.{Value, number, content, first, second, Rule, Width, byte, half, word, long, option, Ask, fixed, mark, packed, string, payload, count, ask, Format, empty, leaf, seq, chain}
 use Rattle.format.specs.Reading.{size, trace}
 use Rattle.format.specs.Layout.{groups, Bytes, bytes_leaf, bytes, Valid, ahead_leaf, ahead}
-use Rattle.format.specs.LayoutTheorems.{length_digits, At, trace-placed, placed-trace}
+use Rattle.format.proofs.LayoutTheorems.{length_digits, At, trace-placed, placed-trace}
 
 -- Every value of f takes at least k bytes.
 unfoldable pub AtLeast : ℕ → Format → Type 0

@@ -5,7 +5,7 @@ use mathlib.Core.List.{List, [], ◌∷◌, ◌++◌, map}
 use native.Mathlib.Omega.{arith}
 use Rattle.format.specs.Trace.{Wrong, wrong, pick, sum}
 use Rattle.format.specs.Format.{Value, number, content, first, second, Rule, Width, Ask, fixed, packed, string, count, Format, empty, leaf, seq, ◌▸◌, chain, times, items, entries, counted}
-use Rattle.format.specs.ChargeSums.{charges_ask, charges_leaf, charges}
+use Rattle.format.proofs.ChargeSums.{charges_ask, charges_leaf, charges}
 use Rattle.vob24.specs.Refusals
 use Rattle.vob24.specs.Settings as of
 use Rattle.vob24.specs.Settings.{Settings, size_of}

@@ -8,7 +8,7 @@ use Rattle.format.specs.Trace.{Wrong, Trace, needs, guard, pick, out, Ends}
 use Rattle.format.specs.Format.{Value, none, number, content, first, second, Ask, pay, Leaf, fixed, mark, packed, string, payload, count, ask, Format, empty, leaf, seq, deny}
 use Rattle.format.specs.Reading.{little, part, same, size, room, field, packed_step, trace_packed, trace_ask, trace_leaf, trace}
 use Rattle.format.specs.Layout.{digits, groups, Bytes, bytes_leaf, bytes, clear, ValidLeaf, Valid, ahead_leaf, ahead}
-use Rattle.format.specs.TraceTheorems.{Ends-guard, guard-true, bind-out, Passed, part_length, field-ends, leaf-ends, Stepped, last, more, stepped, seq-read, seq-ends}
+use Rattle.format.proofs.TraceTheorems.{Ends-guard, guard-true, bind-out, Passed, part_length, field-ends, leaf-ends, Stepped, last, more, stepped, seq-read, seq-ends}
 
 pub bytes_drop : (n : ℕ) (s : List ℕ) → Bytes s → Bytes (drop n s)
 bytes_drop zero s h = h

@@ -10,11 +10,11 @@ use Rattle.format.specs.Trace.{Wrong, Trace, pick, amounts, sum, total, stopped,
 use Rattle.format.specs.Format.{Value, Format}
 use Rattle.format.specs.Reading.{trace}
 use Rattle.format.specs.Record.{words, decode, Held}
-use Rattle.format.specs.SettleTheorems.{covered-longest, settle-broke, settle-left, settle-taken, covered-lt, broke-at, settle-stopped}
-use Rattle.format.specs.TraceTheorems.{slim}
-use Rattle.format.specs.ChargeSums.{trace-charges}
-use Rattle.format.specs.RecordTheorems.{trace-held, record-decode}
-use Rattle.vob24.specs.PackCost.{Costs}
+use Rattle.format.proofs.SettleTheorems.{covered-longest, settle-broke, settle-left, settle-taken, covered-lt, broke-at, settle-stopped}
+use Rattle.format.proofs.TraceTheorems.{slim}
+use Rattle.format.proofs.ChargeSums.{trace-charges}
+use Rattle.format.proofs.RecordTheorems.{trace-held, record-decode}
+use Rattle.vob24.proofs.PackCost.{Costs}
 use Rattle.vob24.specs.Calls.{Answer, Taken, Refused, Outcome, no_room_for, written, closing}
 
 -- The budget left in an answer.

@@ -4,7 +4,7 @@ use Rattle.std.proofs.Common.{◌∙◌, arith}
 use Rattle.format.specs.Trace.{Wrong, Trace, stop, end, charge, needs, bind, guard, amounts, sum, total, out, Ends}
 use Rattle.format.specs.Format.{Value, num, text, number, content, first, second, Ask, pay, deny, Leaf, fixed, mark, packed, string, payload, count, ask, Format, empty, leaf, seq}
 use Rattle.format.specs.Reading.{little, part, room, field, packed_step, trace_packed, trace_ask, trace_leaf, trace}
-use Rattle.format.specs.TraceTheorems.{Ends-guard, part_length, room-ends, field-ends, seq-ends}
+use Rattle.format.proofs.TraceTheorems.{Ends-guard, part_length, room-ends, field-ends, seq-ends}
 
 -- The charges that a format puts to a value.
 unfoldable pub charges_ask : List Ask → ℕ
