@@ -15,7 +15,7 @@ use Rattle.in_place.specs.declared.Item.TheVariants.{Name, StructField, Interfac
 use Rattle.in_place.specs.declared.Table.{Table}
 use Rattle.in_place.specs.declared.Table.TheVariants.{Fields, Methods, Identities, Alike}
 use Rattle.in_place.specs.Walk.{AllStand, value_at, next_at, items_at, last_at}
-use Rattle.in_place.specs.Items.{name_of, text_at}
+use Rattle.in_place.specs.Items.{name_of}
 use Rattle.in_place.specs.Tables.{item_of, format_in, package_of, key_name, key_of, key_text}
 use Rattle.in_place.specs.Contract.{TextAt, BlankIs, Placed, Past, Items, Seen}
 use Rattle.in_place.proofs.Places.{item-name}
