@@ -9,7 +9,7 @@ use Rattle.format.specs.Trace.{out, Ends}
 use Rattle.format.specs.Format.{Value, num, number, first, second, Ask, Rule, count, Format, leaf, seq, ◌▸◌, chain, times, entries}
 use Rattle.format.specs.Reading.{little, part, trace}
 use Rattle.format.specs.Layout.{clear}
-use Rattle.format.specs.TraceTheorems.{seq-ends, trace-within}
+use Rattle.format.proofs.TraceTheorems.{seq-ends, trace-within}
 use Rattle.vob24.specs.Grammar.{asking}
 use Rattle.in_place.specs.Walk.{Stands, value_at, next_at, items_at, last_at, AllStand, stand, parts, passed, list-off}
 use Rattle.in_place.specs.Contract.{WordIs, Placed, Past, Items}

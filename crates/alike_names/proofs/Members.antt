@@ -9,7 +9,7 @@ use Rattle.format.specs.Trace.{pick, Ends}
 use Rattle.format.specs.Format.{Value, num, number, first, second, count, Format, leaf, chain, items, entries}
 use Rattle.format.specs.Reading.{little, part, trace}
 use Rattle.format.specs.Layout.{clear}
-use Rattle.format.specs.TraceTheorems.{leaf-ends, seq-ends}
+use Rattle.format.proofs.TraceTheorems.{leaf-ends, seq-ends}
 use Rattle.vob24.specs.Refusals.{named_method_map}
 use Rattle.vob24.specs.Settings.{Settings, max_pack_bytes}
 use Rattle.vob24.specs.Fields.{variant_of, new_method_of, interface_of, runtime_interface_of}

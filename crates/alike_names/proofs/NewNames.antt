@@ -6,7 +6,7 @@ use mathlib.Core.List.{List, map}
 use Rattle.format.specs.Trace.{out, Ends}
 use Rattle.format.specs.Format.{Value, content, first, Ask, ask, leaf, chain, items}
 use Rattle.format.specs.Reading.{trace_leaf, trace}
-use Rattle.format.specs.TraceTheorems.{ask-ends, seq-ends}
+use Rattle.format.proofs.TraceTheorems.{ask-ends, seq-ends}
 use Rattle.vob24.specs.Refusals.{duplicate_named_method}
 use Rattle.vob24.specs.Fields.{new_method_of}
 use Rattle.vob24.specs.Questions.{refuse_if, among, repeat}

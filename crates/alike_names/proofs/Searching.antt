@@ -11,7 +11,7 @@ use borrow.Author.Tests.{eq-eqb, not-false}
 use Rattle.format.specs.Trace.{pick}
 use Rattle.format.specs.Format.{Value, content, first, Format, seq}
 use Rattle.format.specs.Reading.{same}
-use Rattle.format.specs.LayoutTheorems.{same-eq}
+use Rattle.format.proofs.LayoutTheorems.{same-eq}
 use Rattle.vob24.specs.Utf8.{well_formed}
 use Rattle.vob24.specs.Leaves.{str}
 use Rattle.vob24.specs.Questions.{among, named, Identity, among_identities}

@@ -7,7 +7,7 @@ use Rattle.std.proofs.Math.Bool.{true, false}
 use Rattle.format.specs.Trace.{pick, Ends}
 use Rattle.format.specs.Format.{Value, number, first, second, Rule, count, Format, empty, leaf, seq, chain, items, entries}
 use Rattle.format.specs.Reading.{trace}
-use Rattle.format.specs.TraceTheorems.{seq-ends, trace-within}
+use Rattle.format.proofs.TraceTheorems.{seq-ends, trace-within}
 use Rattle.vob24.specs.Refusals.{vector}
 use Rattle.vob24.specs.Leaves.{list_of, choose}
 

@@ -5,7 +5,7 @@ use Rattle.std.proofs.Common.{sym, ap, ◌∙◌, inl, inr, ⊎_elim, append-nil
 use Rattle.std.proofs.lemmas.Bool.{eqb-false}
 use Rattle.format.specs.Trace.{pick}
 use Rattle.format.specs.Reading.{same}
-use Rattle.format.specs.LayoutTheorems.{same-eq}
+use Rattle.format.proofs.LayoutTheorems.{same-eq}
 use Rattle.vob24.specs.Utf8.{well_formed, encode, Encodes, none, more}
 use Rattle.vob24.specs.Ranges.{inside, below, above, lt-or-ge}
 use Rattle.vob24_theorems.specs.Scalars.{well-formed-iff}

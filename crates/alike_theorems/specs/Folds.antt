@@ -4,7 +4,7 @@ use Rattle.std.specs.Prelude.{ℕ, ◌<◌, ◌≡◌, refl, ◌↔◌, Bool, tr
 use Rattle.std.proofs.Common.{sym, ap, ◌∙◌, inl, ⊎_elim, arith}
 use mathlib.Core.List.{List, [], ◌∷◌, ◌++◌, append_assoc, Memᴰ}
 use Rattle.format.specs.Reading.{same}
-use Rattle.format.specs.LayoutTheorems.{same-eq, same_refl}
+use Rattle.format.proofs.LayoutTheorems.{same-eq, same_refl}
 use Rattle.vob24.specs.Utf8.{well_formed, Scalar}
 use Rattle.alike.specs.Decompositions.{decompositions, base_of, mark_of, decomposed, fold, scalars, alike}
 use Rattle.alike.specs.Table.{RowOf, Replaced, stays, parts, decomposed-by-row, row_fits, base_stays, mark-stays, other-stays}
@@ -67,6 +67,7 @@ same_true x y e = go (same x y) (rw e (same_refl y))
   where
     go : (d : Bool) → T d → d ≡ true
     go true t = refl
+    go false t = elim t [ ]
 
 pub same-agree : (x y u w : List ℕ) → (x ≡ y → u ≡ w) → (u ≡ w → x ≡ y) → same x y ≡ same u w
 same-agree x y u w f g = go (same x y) refl (same u w) refl

@@ -7,11 +7,11 @@ use Rattle.format.specs.Trace.{Wrong, pick, Ends}
 use Rattle.format.specs.Format.{Value, content, first, Ask, Format, ask, leaf, chain, items, entries}
 use Rattle.format.specs.Reading.{same, trace_leaf, trace}
 use Rattle.format.specs.Layout.{clear}
-use Rattle.format.specs.TraceTheorems.{ask-ends, seq-ends}
+use Rattle.format.proofs.TraceTheorems.{ask-ends, seq-ends}
 use Rattle.vob24.specs.Refusals.{duplicate_named_method}
 use Rattle.vob24.specs.Settings.{Settings}
 use Rattle.vob24.specs.Fields.{new_method_of, runtime_interface_of}
-use Rattle.vob24.specs.Questions.{refuse_if, among, repeat, named, field_keys, new_names}
+use Rattle.vob24.specs.Questions.{refuse_if, among, repeat, field_keys, new_names}
 use Rattle.vob24.specs.Grammar.{method, method_name, new_method, also_seen, asking, struct, interface, methods, named_type, runtime_interface, runtime_variants, runtime_type, section, sections, pack}
 use Rattle.vob24.specs.Cost.{part_of}
 use Rattle.alike.specs.Alike.{field_table, interface_tables, method_table, interface_tag, runtime_tables, tables}
@@ -149,12 +149,15 @@ new-unseen : {seen : List (List ℕ)} {vs : List Value} {y : Value} → AllNew s
     → Memᴰ (content y) seen → ⊥
 new-unseen (also n a) (Memᴰ.head e) k = among_there _ _ k (rw e n)
 new-unseen (also n a) (Memᴰ.tail m) k = new-unseen a m (Memᴰ.tail k)
+new-unseen done m k = elim m [ ]
 
 before-differ : {seen : List (List ℕ)} {t : List Value} {x y : Value} → AllNew seen t → Before t x y
     → content x ≡ content y → ⊥
 before-differ (also n a) (at_head e m) h = new-unseen a m (Memᴰ.head (sym h ∙ ap content e))
 before-differ (also n a) (in_rest h) e = before-differ a h e
+before-differ done b e = elim b [ ]
 
 pub pair-differ : {ts : List (List Value)} {x y : Value} → EachNew ts → PairOf ts x y → content x ≡ content y → ⊥
 pair-differ (table n a) (here h k) e = before-differ n h e
 pair-differ (table n a) (later h) e = pair-differ a h e
+pair-differ no_table h e = elim h [ ]

@@ -5,9 +5,9 @@ use Rattle.std.proofs.Math.Path.{sym}
 use mathlib.Core.List.{List, [], ◌∷◌, ◌++◌, append_assoc, append-nil, map, map-id, flat_map, flatten, Memᴰ}
 use Rattle.std.proofs.Math.Bool.{true, false}
 use Rattle.format.specs.Trace.{pick, Ends}
-use Rattle.format.specs.Format.{Value, number, start, content, Rule, string, count, Format, leaf, seq, chain, items, entries}
+use Rattle.format.specs.Format.{Value, number, start, content, Rule, string, count, Format, leaf, seq, chain, entries}
 use Rattle.format.specs.Reading.{little, part, trace}
-use Rattle.format.specs.TraceTheorems.{Passed, part_length, leaf-ends}
+use Rattle.format.proofs.TraceTheorems.{Passed, part_length, leaf-ends}
 use Rattle.vob24.specs.Utf8.{well_formed}
 use Rattle.vob24.specs.Settings.{Settings}
 use Rattle.vob24.specs.Leaves.{list_of}
@@ -84,12 +84,14 @@ module _ {s : List ℕ} where
       let i : p ≤ m = omega (arith, h.from, h.to) in
       let j : q ≤ q = omega arith in
       lies_within i (order-lies o k) j
+  order-lies (done _) k = elim k [ ]
 
   pub apart : {p q : ℕ} {x y : Value} {vs : List Value} → InOrder s p vs q → Memᴰ x vs → Memᴰ y vs → Apart x y
   apart (next h o) (Memᴰ.head e) (Memᴰ.head d) = equal (e ∙ sym d)
   apart (next h o) (Memᴰ.head e) (Memᴰ.tail k) = before (rw e (omega (arith, h.to, (order-lies o k).from)))
   apart (next h o) (Memᴰ.tail k) (Memᴰ.head e) = behind (rw e (omega (arith, h.to, (order-lies o k).from)))
   apart (next h o) (Memᴰ.tail j) (Memᴰ.tail k) = apart o j k
+  apart (done _) j _ = elim j [ ]
 
 -- ---- the names of what a format reads
 
@@ -102,6 +104,7 @@ ordered = record { nothing = done; wider = order_from; longer = order-to; append
 
 holds : (d : Bool) → T d → d ≡ true
 holds true t = refl
+holds false t = elim t [ ]
 
 one_name : {r : Rule} {c : ℕ} → HasNames (leaf (string r c well_formed)) (λ v. v ∷ [])
 unfolding trace

@@ -1,5 +1,5 @@
 -- The pair of alike names that the call answers: it is the one that document 02 describes.
-use Rattle.std.specs.Prelude.{ℕ, ◌+◌, ◌≤◌, ◌<◌, ◌≡◌, refl, Bool, true, false, ◌↔◌, ◌⊎◌, T}
+use Rattle.std.specs.Prelude.{ℕ, ◌≤◌, ◌<◌, ◌≡◌, refl, Bool, true, false, ◌↔◌, ◌⊎◌, T}
 use Rattle.std.proofs.Common.{ap, sym, ◌∙◌, inl, inr, ⊎_elim, arith}
 use mathlib.Core.List.Memᴰ
 use mathlib.Core.List.{List, [], ◌∷◌, ◌++◌, flatten, Memᴰ}
@@ -7,7 +7,7 @@ use Rattle.std.proofs.Math.Seq.{append_snoc}
 use Rattle.format.specs.Trace.{pick}
 use Rattle.format.specs.Format.{Value, start, content}
 use Rattle.format.specs.Reading.{same}
-use Rattle.format.specs.LayoutTheorems.{same-eq, same_refl}
+use Rattle.format.proofs.LayoutTheorems.{same-eq, same_refl}
 use Rattle.alike.specs.Decompositions.{alike, fold, scalars}
 use Rattle.alike.specs.Alike.{Names, none, pair, or_else, nearest, pair_after, pair_in}
 use Rattle.alike_theorems.specs.Order.{name_end, InOrder, order-split, order-lies, Apart, equal, before, behind, apart}
@@ -172,7 +172,7 @@ after-pair {b} {x = x} {y = y} (onward {t = t} {z = z} h) = let r = after-pair h
         ⊎_elim inl (λ k. inr (at_head (Memᴰ.eq_of_singleton k) (after-there x y h))) (Memᴰ.append_cases b m)
     go (inr k) = inr (in_rest k)
 
-pair-behind : {b t : List Value} {x y : Value} → Alike x y → Memᴰ x b → Memᴰ y t → PairAfter b t x y
+pair-behind : {x y : Value} {b t : List Value} → Alike x y → Memᴰ x b → Memᴰ y t → PairAfter b t x y
 pair-behind a m (Memᴰ.head e) = now (record { later = e; there = m; alikes = a })
 pair-behind a m (Memᴰ.tail k) = onward (pair-behind a (Memᴰ.append_left _ m) k)
 
@@ -258,6 +258,7 @@ alike_both x x' y a b =
 
     go : (d : Bool) → T d → d ≡ true
     go true h = refl
+    go false h = elim h [ ]
 
 before-apart : {t : List Value} {x y : Value} → Placed t → Before t x y → name_end x < start y
 before-apart o (at_head {t} {z = z} e m) = placed-apart (z ∷ []) t o (Memᴰ.head e) m

@@ -10,7 +10,7 @@ use lib.ListN.{get_or}
 use mir.Syntax.{w64}
 use mir.Val.{to_z}
 use Rattle.format.specs.Format.{Value, number, Format, empty}
-use Rattle.format.specs.TraceTheorems.{part_length}
+use Rattle.format.proofs.TraceTheorems.{part_length}
 use Rattle.vob24.specs.Leaves.{u64, bool, str}
 use Rattle.vob24.specs.Grammar as vob
 use Rattle.fields.specs.Fields.{constant_tag}

@@ -7,7 +7,7 @@ use lib.Dec.{leb→le}
 use lib.ListN.{length}
 use Rattle.format.specs.Format.{Value, number, Format, count, ◌▸◌, chain, times}
 use Rattle.format.specs.Reading.{little, part, trace}
-use Rattle.format.specs.TraceTheorems.{leaf-ends, seq-ends}
+use Rattle.format.proofs.TraceTheorems.{leaf-ends, seq-ends}
 use Rattle.vob24.specs.Refusals.{debug_metadata_limit_exceeded, inline_frames, inline_entries, inline_functions, vector}
 use Rattle.vob24.specs.Settings as of
 use Rattle.vob24.specs.Settings.{Settings, size_of}

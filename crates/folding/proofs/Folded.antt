@@ -11,7 +11,7 @@ use lib.Seq.{drop-cons, get_or-take, get_or-drop}
 use borrow.Author.Tests.{eq-eqb, ne_eqb, eqb-true, eqb-false, not-true, not-false, lt-ltb, le-ltb, ltb-true, ltb-false}
 use Rattle.format.specs.Trace.{pick}
 use Rattle.format.specs.Reading.{part, same}
-use Rattle.format.specs.TraceTheorems.{part_length}
+use Rattle.format.proofs.TraceTheorems.{part_length}
 use Rattle.vob24.specs.Utf8.{in?}
 use Rattle.vob24.specs.Ranges.{inside, below, above}
 use Rattle.folding.specs.Bytes.{folds, fold_of, head_fold, fold_bytes}

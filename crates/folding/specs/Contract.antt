@@ -1,5 +1,5 @@
 -- The contracts of folded bytes.
-use Rattle.std.specs.Prelude.{ℕ, ◌+◌, ◌-◌, ◌≤◌, ◌<◌, ◌≡◌, List, [], ◌∷◌, ◌++◌, Bool, true, false, length, eqb, ltb}
+use Rattle.std.specs.Prelude.{ℕ, ◌+◌, ◌-◌, ◌≤◌, ◌<◌, ◌≡◌, List, [], ◌∷◌, ◌++◌, Bool, true, length, eqb, ltb}
 use Rattle.format.specs.Trace.{pick}
 use Rattle.format.specs.Reading.{part, same}
 use Rattle.folding.specs.Bytes.{head_fold, fold_bytes, Without}

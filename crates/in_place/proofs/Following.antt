@@ -95,6 +95,7 @@ value_then {f} {g} {s} {t} {t₁} {t₂} {r} {r₁} {r₂} h k i = go r r₁ h.r
     go (Taken c) (Taken d) (takes {v = v} a) k i = let b = k c d v refl refl (takes-ends a) in record { reads = then_reads a b.reads; ready = b.ready }
     go (Taken c) (Refused x) (refuses a) k i = rw (i x refl) (record { reads = refuses (seq-refuses a); ready = tt })
     go (Refused x) (Refused z) skips k i = rw (i z refl) (record { reads = skips; ready = tt })
+    go (Refused x) (Taken d) x5 k i = elim x5 [ ]
 
 module _ {ρ : Rule} {m k z : ℕ} {f g : Format} {s t t₁ t₂ : List ℕ} {r r₁ r₂ : Step} (h : Reader (listing ρ m k z f) s r t r₁ t₁) (j : Reader g s r₁ t₁ r₂ t₂) where
   -- what a question on the first list requires, at r₂

@@ -12,7 +12,7 @@ use lib.Seq.{drop-cons}
 use borrow.Author.Tests.{eq-eqb, ne_eqb}
 use Rattle.format.specs.Trace.{pick}
 use Rattle.format.specs.Reading.{little, part, same}
-use Rattle.format.specs.TraceTheorems.{part_length}
+use Rattle.format.proofs.TraceTheorems.{part_length}
 use Rattle.reader.proofs.Gather.{read, read_take}
 use Rattle.in_place.specs.Items.{text_at}
 use Rattle.folding.specs.Contract as folding

@@ -12,7 +12,7 @@ use borrow.Author.Tests.{eq-eqb, ne_eqb}
 use Rattle.format.specs.Trace.{pick}
 use Rattle.format.specs.Format.{text, content, first, second}
 use Rattle.format.specs.Reading.{little, part, same}
-use Rattle.format.specs.TraceTheorems.{part_length}
+use Rattle.format.proofs.TraceTheorems.{part_length}
 use Rattle.vob24.specs.Refusals
 use Rattle.vob24.specs.Settings.{Settings, max_pack_bytes}
 use Rattle.vob24.specs.Grammar.{artifact}

@@ -6,7 +6,7 @@ use native.Mathlib.Omega.{arith}
 use lib.ListN.{length, get_or}
 use Rattle.format.specs.Format.{number, Rule, byte, fixed, leaf}
 use Rattle.format.specs.Reading.{little, part, trace}
-use Rattle.format.specs.TraceTheorems.{leaf-ends}
+use Rattle.format.proofs.TraceTheorems.{leaf-ends}
 use Rattle.vob24.specs.Settings.{Settings}
 use Rattle.vob24.specs.Grammar.{metadata, metadata_variants}
 use Rattle.fields.specs.Fields.{metadata_tagged}

@@ -11,8 +11,8 @@ use Rattle.format.specs.Trace.{Wrong, wrong, unexpected_eof, settle, pick}
 use Rattle.format.specs.Format.{mark}
 use Rattle.format.specs.Reading.{little, part, same, trace_leaf}
 use Rattle.format.specs.Layout.{digits}
-use Rattle.format.specs.TraceTheorems.{part_length}
-use Rattle.format.specs.LayoutTheorems.{digits-little, same-eq}
+use Rattle.format.proofs.TraceTheorems.{part_length}
+use Rattle.format.proofs.LayoutTheorems.{digits-little, same-eq}
 use Rattle.vob24.specs.Refusals.{invalid_magic, unsupported_version}
 use Rattle.vob24.specs.Leaves.{magic_mark, version_mark}
 use Rattle.reader.specs.Contract.{refusal, step_of, ReadyAt}

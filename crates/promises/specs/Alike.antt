@@ -6,7 +6,7 @@ use mathlib.Core.List.{List, [], ◌∷◌, ◌++◌, Memᴰ}
 use Rattle.format.specs.Trace.{Wrong, refused, taken}
 use Rattle.format.specs.Format.{Value, content}
 use Rattle.format.specs.Reading.{part}
-use Rattle.format.specs.LayoutTheorems.{same-eq}
+use Rattle.format.proofs.LayoutTheorems.{same-eq}
 use Rattle.vob24.specs.Utf8.{well_formed}
 use Rattle.vob24.specs.Settings.{Settings}
 use Rattle.alike.specs.Decompositions.{decompositions, base_of, mark_of, decomposed, fold, scalars, alike}

@@ -6,12 +6,12 @@ use Rattle.std.proofs.Common.{ap, ◌∙◌, arith}
 use Rattle.format.specs.Trace.{Wrong, wrong, total, Settled, refused, taken, settle}
 use Rattle.format.specs.Format.{Value, start, content, entries}
 use Rattle.format.specs.Layout.{Bytes}
-use Rattle.format.specs.SettleTheorems.{settle-taken}
+use Rattle.format.proofs.SettleTheorems.{settle-taken}
 use Rattle.vob24.specs.Refusals
 use Rattle.vob24.specs.Settings.{Settings, ExternDef, size_of, starting_budget}
 use Rattle.vob24.specs.Grammar.{artifacts}
 use Rattle.vob24.specs.Cost.{part_of, pack_cost}
-use Rattle.vob24.specs.PackCost.{pack-costs}
+use Rattle.vob24.proofs.PackCost.{pack-costs}
 use Rattle.vob24.specs.Calls.{At, Not, found_part}
 use Rattle.vob24_theorems.specs.Theorems.{whole-reads, whole-layout}
 use Rattle.vob24_theorems.specs.LookupTheorems as spec

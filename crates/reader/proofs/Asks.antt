@@ -10,7 +10,7 @@ use Rattle.format.specs.Trace.{Wrong, settle, refused, taken, spent, pick, Ends}
 use Rattle.format.specs.Format.{Value, none, Ask, pay, deny, Format, leaf, ask, seq}
 use Rattle.format.specs.Reading.{trace, trace_ask, trace_leaf}
 use Rattle.format.specs.Record.{words, words_leaf}
-use Rattle.format.specs.SettleTheorems.{then_s}
+use Rattle.format.proofs.SettleTheorems.{then_s}
 use Rattle.vob24.specs.Questions.{refuse_unless}
 use Rattle.reader.specs.Contract.{refusal, Ready, ReadyAt, Reads, takes, refuses, skips, Reader, Paid, Asks, passes, denies, Behind, Follows}
 use Rattle.reader.specs.declared.Cursor.{Cursor}
@@ -118,6 +118,7 @@ follow_then {f} {l} {s} {t} {t₁} {r} {r₁} {q} h k = go r r₁ h.reads h.read
     go (Taken c) (Taken d) (takes {v = v} a) y i j = let b = j c d v refl refl (takes-ends a) in record { reads = then_reads a (asks-reads b); ready = asks-ready y b }
     go (Taken c) (Refused x) (refuses a) y i j = rw (i x refl) (record { reads = refuses (seq-refuses a); ready = tt })
     go (Refused x) (Refused z) skips y i j = rw (i z refl) (record { reads = skips; ready = tt })
+    go (Refused x) (Taken d) x6 y i j = elim x6 [ ]
 
 -- ---- two counts that must agree
 

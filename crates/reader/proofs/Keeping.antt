@@ -12,7 +12,7 @@ use Rattle.format.specs.Trace.{Wrong, settle, taken, pick}
 use Rattle.format.specs.Format.{Value, none, num, text, number, Rule, Width, word, long, option, Leaf, fixed, mark, packed, string, payload, count, Format, leaf}
 use Rattle.format.specs.Reading.{part, size, trace, trace_leaf}
 use Rattle.format.specs.Record.{shown, words, words_leaf}
-use Rattle.format.specs.TraceTheorems.{part_length}
+use Rattle.format.proofs.TraceTheorems.{part_length}
 use Rattle.vob24.specs.Leaves.{free}
 use Rattle.reader.specs.Contract.{step_of, payload_step, text_step, text_span, ReadyAt, Takes, Refuses, takes, refuses, Reader, got, lost, NumberOf, got_span, lost_span, SpanOf, Wordy, Kept, WordyPair, KeptPair}
 use Rattle.reader.specs.Leaves.{Fetched, Fetches, Answered, Denied, Answers, answered, denied, Spanned, Spans, spanned, unspanned, Marks, marked, unmarked, Texts, written, unwritten}

@@ -16,8 +16,8 @@ use borrow.Author.Tests.{le-leb, lt-leb, le-ltb, lt-ltb, eq-eqb, ne_eqb}
 use Rattle.format.specs.Trace.{wrong, unexpected_eof, end, charge, settle, pick}
 use Rattle.format.specs.Format.{num, text, Rule, Width, byte, half, word, fixed, payload, count}
 use Rattle.format.specs.Reading.{little, part, size, room, trace_leaf}
-use Rattle.format.specs.TraceTheorems.{part_length}
-use Rattle.format.specs.LayoutTheorems.{digits-little}
+use Rattle.format.proofs.TraceTheorems.{part_length}
+use Rattle.format.proofs.LayoutTheorems.{digits-little}
 use Rattle.vob24.specs.Refusals.{invalid_value_kind}
 use Rattle.vob24.specs.Leaves.{kind_ok, packed_ok, packed_word}
 use Rattle.reader.specs.Contract.{refusal, step_of, signed_step, float_step, payload_step, text_step, text_span, number_of, ReadyAt, Paid}

@@ -7,7 +7,7 @@ use lib.Dec.{T, leb→le}
 use lib.ListN.{length, get_or}
 use Rattle.format.specs.Format.{Value, text, number, Rule, byte, fixed, count, Format, empty, leaf, seq, times}
 use Rattle.format.specs.Reading.{little, part, trace}
-use Rattle.format.specs.TraceTheorems.{leaf-ends}
+use Rattle.format.proofs.TraceTheorems.{leaf-ends}
 use Rattle.vob24.specs.Refusals.{invalid_boolean}
 use Rattle.vob24.specs.Leaves.{at_most, at_most_bare, choose, optional}
 use Rattle.reader.specs.Contract.{step_of, ReadyAt, Takes, ReadsSpan, got_span, Reader, NumberOf, SpanOf}

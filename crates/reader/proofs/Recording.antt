@@ -8,9 +8,9 @@ use lib.ListN.{get_or}
 use Rattle.format.specs.Trace.{Out, ended, out, Ends}
 use Rattle.format.specs.Format.{Value, number, first, second, counted, Rule, byte, Width, fixed, count, Format, empty, leaf, seq, ◌▸◌, chain, times}
 use Rattle.format.specs.Reading.{little, part, size, trace}
-use Rattle.format.specs.TraceTheorems.{part_length, leaf-ends, seq-ends}
+use Rattle.format.proofs.TraceTheorems.{part_length, leaf-ends, seq-ends}
 use Rattle.format.specs.Layout.{Bytes}
-use Rattle.format.specs.LayoutTheorems.{digits-little}
+use Rattle.format.proofs.LayoutTheorems.{digits-little}
 use Rattle.vob24.specs.Refusals.{vector}
 use Rattle.vob24.specs.Leaves.{list_of, choose}
 use Rattle.reader.specs.Contract.{step_of, ReadyAt, Takes, takes, refuses, Reader, ReadsOf, lost, NumberOf}

@@ -5,14 +5,13 @@ use mathlib.Core.List.{List, [], ◌∷◌}
 use mathlib.Core.Bool.{Bool, false}
 use native.Mathlib.Omega.{arith}
 use native.Mathlib.Nat.{mul-le-mul}
-use lib.Dec.{eqb}
 use lib.ListN.{length, get_or, take, drop}
 use lib.Seq.{take-nil, take-take, drop-drop, get_or-take, get_or-drop}
 use lib.Bits.{bit_xor, xor_zero_l}
 use borrow.Author.Tests.{lt-ltb, le-ltb, eq-eqb, ne_eqb}
 use Rattle.format.specs.Trace.{pick}
 use Rattle.format.specs.Reading.{little, part}
-use Rattle.format.specs.TraceTheorems.{part_length}
+use Rattle.format.proofs.TraceTheorems.{part_length}
 use Rattle.vob24.specs.Utf8.{in?}
 use Rattle.in_place.specs.declared.Item.{Item}
 use Rattle.in_place.specs.declared.Table.{Table}

@@ -5,7 +5,7 @@ use mathlib.Core.Bool.{Bool, true, false}
 use native.Mathlib.Omega.{arith}
 use Rattle.format.specs.Trace.{pick}
 use Rattle.format.specs.Reading.{same}
-use Rattle.format.specs.LayoutTheorems.{same-eq}
+use Rattle.format.proofs.LayoutTheorems.{same-eq}
 use Rattle.repeat_search.specs.Keys.{Key, among, repeat_at}
 
 among_none : (x : Key) (n : ℕ) (keys : ℕ → Key)

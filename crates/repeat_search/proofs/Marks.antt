@@ -2,12 +2,11 @@
 use Prim.Native.Nat.{ℕ, suc, zero, ◌+◌, ◌-◌, ◌*◌, ◌≤◌, ◌<◌}
 use mathlib.Core.Path.{◌≡◌, refl, ap, sym, ◌∙◌}
 use mathlib.Core.List.{List, [], ◌∷◌}
-use mathlib.Core.Bool.{Bool, true, false, not}
+use mathlib.Core.Bool.{Bool, true, false}
 use native.Mathlib.Omega.{arith}
 use lib.ListN.{length, get_or}
 use lib.Bits.{bit_and, bit_or}
 use borrow.Author.Count.{below_more}
-use borrow.Author.Tests.{not-false}
 use Rattle.format.specs.Reading.{little, part}
 use Rattle.in_place.specs.declared.Item.{Item}
 use Rattle.in_place.specs.declared.Table.{Table}
@@ -118,9 +117,9 @@ module _ {t : Table} {s : List ℕ} {from n : ℕ} where
       scanning-new e d w = scanning-more (mark-new (walking-stands h l.walk) l.marked e d) refl e w
 
       -- by the text's own mark
-      pub scanning-read : {q z : ℕ} {b : Bool} → b ≡ as_read t → not b ≡ false → TextMark s p q → (bit_and m q ≡ q → ⊥)
+      pub scanning-read : {q z : ℕ} {b : Bool} → b ≡ as_read t → b ≡ true → TextMark s p q → (bit_and m q ≡ q → ⊥)
           → Past (format_in t) s p z → Scanning t s from n z (i + 1) (bit_or m q)
-      scanning-read r o e = scanning-new (as-read t (sym r ∙ not-false _ o) e)
+      scanning-read r o e = scanning-new (as-read t (sym r ∙ o) e)
 
     pub all_new : n ≤ i → AllNew (keys_at t s from) n true
     all_new h = record { first = λ _. scanning-done h }

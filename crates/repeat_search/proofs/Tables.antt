@@ -8,14 +8,14 @@ use lib.ListN.{length}
 use Rattle.format.specs.Trace.{pick}
 use Rattle.format.specs.Format.{Value, content, Format}
 use Rattle.format.specs.Reading.{same}
-use Rattle.format.specs.TraceTheorems.{trace-within}
+use Rattle.format.proofs.TraceTheorems.{trace-within}
 use Rattle.vob24.specs.Questions.{among_identities}
 use Rattle.in_place.specs.declared.Item.{Item}
 use Rattle.in_place.specs.declared.Item.TheVariants.{Name, StructField, InterfaceMethod, RuntimeMethod, NamedMethod, RuntimeField}
 use Rattle.in_place.specs.declared.Table.{Table}
 use Rattle.in_place.specs.declared.Table.TheVariants.{Fields, Methods, Identities, Alike}
 use Rattle.in_place.specs.Walk.{AllStand, value_at, next_at, items_at, last_at}
-use Rattle.in_place.specs.Items.{name_of, text_at}
+use Rattle.in_place.specs.Items.{name_of}
 use Rattle.in_place.specs.Tables.{item_of, format_in, package_of, key_name, key_of, key_text}
 use Rattle.in_place.specs.Contract.{TextAt, BlankIs, Placed, Past, Items, Seen}
 use Rattle.in_place.proofs.Places.{item-name}

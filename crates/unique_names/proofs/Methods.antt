@@ -11,7 +11,7 @@ use Rattle.format.specs.Trace.{Wrong, pick, Ends}
 use Rattle.format.specs.Format.{Value, content, first, ask, Format, leaf, seq, chain}
 use Rattle.format.specs.Reading.{trace_leaf, trace}
 use Rattle.format.specs.Layout.{clear}
-use Rattle.format.specs.TraceTheorems.{ask-ends, seq-ends}
+use Rattle.format.proofs.TraceTheorems.{ask-ends, seq-ends}
 use Rattle.vob24.specs.Questions.{refuse_if, among}
 use Rattle.vob24.specs.Grammar.{method, method_name, new_method, also_seen}
 use Rattle.reader.specs.Contract.{Ready, ReadyAt, Reads, takes, refuses, skips, Reader, ComesTo, Asks, Follows}

@@ -7,7 +7,7 @@ use lib.ListN.{length}
 use Rattle.format.specs.Trace.{pick}
 use Rattle.format.specs.Format.{Value, content, pay}
 use Rattle.format.specs.Reading.{same}
-use Rattle.format.specs.LayoutTheorems.{same-eq}
+use Rattle.format.proofs.LayoutTheorems.{same-eq}
 use Rattle.vob24.specs.Refusals as refusals
 use Rattle.vob24.specs.Questions.{refuse_if, among, blank, repeat, named, field_keys, new_names, Identity, among_identities, new_identities}
 use Rattle.vob24.specs.Grammar.{identity}

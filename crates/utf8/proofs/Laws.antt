@@ -14,7 +14,7 @@ use lib.Seq.{drop-cons, take-length}
 use Rattle.format.specs.Trace.{pick}
 use Rattle.vob24.specs.Utf8.{lead, ill_formed, characters, scan_from, scan}
 use Rattle.vob24.specs.Ranges.{inside, below, above}
-use Rattle.vob24.specs.Rows.{lead00}
+use Rattle.vob24.proofs.Rows.{lead00}
 use Rattle.utf8_parts.specs.Parts.{Ascii}
 use Rattle.utf8_parts.proofs.Bytes.{or-low-l, or-low-r, low-before, low_byte, low-join}
 use Rattle.utf8.specs.Answers.{next_of, scan_at, Both, Starts, Scans, fails, reaches}

@@ -11,15 +11,15 @@ use Rattle.format.specs.Trace.{Wrong, wrong, Trace, end, guard, pick, Settled, r
 use Rattle.format.specs.Format.{Value, pair, mark, Format, leaf, seq, ◌▸◌, counted}
 use Rattle.format.specs.Reading.{trace}
 use Rattle.format.specs.Record.{words_leaf, words}
-use Rattle.format.specs.SettleTheorems.{then_s, settle-taken}
-use Rattle.format.specs.TraceTheorems.{leaf-ends, trace-within, slim, settle-seq}
-use Rattle.format.specs.ChargeSums.{charges_leaf, charges, trace-charges}
+use Rattle.format.proofs.SettleTheorems.{then_s, settle-taken}
+use Rattle.format.proofs.TraceTheorems.{leaf-ends, trace-within, slim, settle-seq}
+use Rattle.format.proofs.ChargeSums.{charges_leaf, charges, trace-charges}
 use Rattle.vob24.specs.Refusals
 use Rattle.vob24.specs.Settings.{Settings, max_pack_bytes}
 use Rattle.vob24.specs.Grammar.{Section, name, structs, interfaces, named_types, itabs, runtime_types, well_known, constants, globals, functions, externs, entry, island_init, artifacts, files, function_locations, inline_sources, section, after_functions, sections, magic, version, pack}
 use Rattle.vob24.specs.Cost.{all_sections}
 use Rattle.vob24.specs.Calls.{Answer, Taken, Refused, Outcome, written, closing, read_outcome, section_outcome, Position, LentOutcome, advancing, lent_outcome}
-use Rattle.vob24.specs.CallTheorems.{taken-when}
+use Rattle.vob24.proofs.CallTheorems.{taken-when}
 use Rattle.vob24_theorems.specs.Theorems.{whole-settled, section-alone}
 
 -- The number of functions that the sections after this one go by, from this one's words: a list opens with its count.

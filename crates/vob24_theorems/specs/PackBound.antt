@@ -8,10 +8,10 @@ use Rattle.format.specs.Trace.{Wrong, pick, sum, total}
 use Rattle.format.specs.Format.{Value, number, content, first, second, Rule, Width, Ask, fixed, mark, packed, string, payload, count, ask, Format, empty, leaf, seq, ◌▸◌, chain, times, entries, counted}
 use Rattle.format.specs.Reading.{trace}
 use Rattle.format.specs.Layout.{digits, Bytes, bytes_leaf, bytes, Valid}
-use Rattle.format.specs.LayoutTheorems.{length_digits}
-use Rattle.format.specs.ChargeSums.{charges_ask}
-use Rattle.format.specs.CountsCovered.{AtLeast, least-fore, least-packed, one-fixed, one-string, one-count}
-use Rattle.format.specs.ChargeBound.{Rated, rated-up, rated-seq, rated-plain, rated-empty, rated-fixed, rated-mark, rated-packed, rated-string, rated-payload, rated-ask, rated-list, rated-few, rated-none, entries-under, counted-under}
+use Rattle.format.proofs.LayoutTheorems.{length_digits}
+use Rattle.format.proofs.ChargeSums.{charges_ask}
+use Rattle.format.proofs.CountsCovered.{AtLeast, least-fore, least-packed, one-fixed, one-string, one-count}
+use Rattle.format.proofs.ChargeBound.{Rated, rated-up, rated-seq, rated-plain, rated-empty, rated-fixed, rated-mark, rated-packed, rated-string, rated-payload, rated-ask, rated-list, rated-few, rated-none, entries-under, counted-under}
 use Rattle.vob24.specs.Refusals
 use Rattle.vob24.specs.Settings as of
 use Rattle.vob24.specs.Settings.{Settings, Licensed, size_of, max_pack_bytes}
@@ -22,7 +22,7 @@ use Rattle.vob24.specs.Grammar as g
 use Rattle.vob24.specs.Grammar.{Section, name, structs, interfaces, named_types, itabs, runtime_types, well_known, constants, globals, functions, externs, entry, island_init, artifacts, files, function_locations, inline_sources}
 use Rattle.vob24.specs.Cost.{text_cost}
 use Rattle.vob24_theorems.specs.PackLayout.{no-externs}
-use Rattle.vob24.specs.PackCost.{keys-cost, names-free, identities-free, transfers-free, agree-free, if-free, host-calls-free, length-map, length-items}
+use Rattle.vob24.proofs.PackCost.{keys-cost, names-free, identities-free, transfers-free, agree-free, if-free, host-calls-free, length-map, length-items}
 
 -- At most 65,536 a byte for each of d levels of lists.
 pub record Level (d : ℕ) (f : Format) : Type 0 where

@@ -1,4 +1,4 @@
-use Rattle.std.proofs.Common.{rules, arith, ◌-◌}
+use Rattle.std.proofs.Common.{rules, arith}
 use Rattle.utf8_parts.proofs.Bytes.{testing, testing-more, at-four}
 use Rattle.utf8_parts.proofs.part_four.Goals as goal
 

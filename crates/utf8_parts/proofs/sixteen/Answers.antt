@@ -1,4 +1,4 @@
-use Rattle.std.proofs.Common.{◌∙◌, rules, arith, ◌-◌}
+use Rattle.std.proofs.Common.{◌∙◌, rules, arith}
 use Rattle.utf8_parts.proofs.Bytes.{masked-more, masked-done}
 use Rattle.utf8_parts.proofs.sixteen.Goals as goal
 

@@ -1,0 +1,16 @@
+use Rattle.reader.proofs.Reading.{reading}
+use Rattle.reader.proofs.Keeping.{keeping}
+use Rattle.std.proofs.Common.{rules}
+use Rattle.fields.proofs.number_optional_id.Goals as goal
+
+pub returns-in_default : goal.returns-in_default
+returns-in_default c = search (rules, reading, keeping)
+
+pub returns-then-n-eq0 : goal.returns-then-n-eq0
+returns-then-n-eq0 c = search (rules, reading, keeping)
+
+pub keep_pair-requires-2 : goal.keep_pair-requires-2
+keep_pair-requires-2 c = search (rules, reading, keeping)
+
+pub returns : goal.returns
+returns c = search (rules, reading, keeping)

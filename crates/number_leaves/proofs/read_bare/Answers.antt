@@ -1,0 +1,12 @@
+use Rattle.reader.proofs.Leaves.{leaves}
+use Rattle.std.proofs.Common.{rules}
+use Rattle.number_leaves.proofs.read_bare.Goals as goal
+
+pub returns-in_default : goal.returns-in_default
+returns-in_default c = search (rules, leaves)
+
+pub returns-then-most-n : goal.returns-then-most-n
+returns-then-most-n c = search (rules, leaves)
+
+pub returns : goal.returns
+returns c = search (rules, leaves)
