@@ -1,4 +1,4 @@
-use Rattle.std.proofs.Common.{rules, arith, ◌-◌}
+use Rattle.std.proofs.Common.{rules, arith}
 use Rattle.alike_names.proofs.Searching.{passing-text, passings}
 use Rattle.in_place.proofs.Texts.{text-room}
 use Rattle.alike_names.proofs.search.items_without.Goals as goal

@@ -1,4 +1,4 @@
-use Rattle.std.proofs.Common.{rules, ◌-◌}
+use Rattle.std.proofs.Common.{rules}
 use Rattle.alike_names.proofs.Searching.{partners}
 use Rattle.alike_names.proofs.search.partner.Goals as goal
 

@@ -1,3 +1,4 @@
+use Rattle.std.proofs.Common.{rules}
 use Rattle.alike_names.proofs.Skipping.{basic, named, pointer, array, slice, mapping, channel, port, plain-past, none-past, func-words, func-more, func-past, tuple-words, tuple-past, struct-word, struct-items, struct-past}
 use Rattle.alike_names.proofs.skips.past_variant.Goals as goal
 
@@ -50,4 +51,4 @@ pub returns-in-11 : goal.returns-in-11
 returns-in-11 c = plain-past c.requires port c.in-11.is
 
 pub returns-in_default : goal.returns-in_default
-returns-in_default c = none-past c.requires c.in_default.in_default-own.rest
+returns-in_default c = none-past c.requires (search rules)
