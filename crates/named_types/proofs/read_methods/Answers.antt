@@ -1,4 +1,4 @@
-use Rattle.std.proofs.Common.{rules, ◌-◌}
+use Rattle.std.proofs.Common.{rules}
 use Rattle.named_types.proofs.Laws.{unjudged, unjudged-behind, unjudged-last, unjudged-refused, unjudged-more}
 use Rattle.named_types.proofs.read_methods.Goals as goal
 
