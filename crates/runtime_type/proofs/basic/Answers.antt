@@ -9,7 +9,7 @@ pub returns-in_default : goal.returns-in_default
 returns-in_default c = search (rules, reading, recording)
 
 pub overflow_cast-kind : goal.overflow_cast-kind
-overflow_cast-kind c = record { fits = fixed-fits c.in-Got.is c.number_value_kind-q.ensures (λ i. omega (arith, c.shared_slice_known-1.given i)) }
+overflow_cast-kind c = record { fits = fixed-fits c.in-Got.is c.number_value_kind-q.ensures (λ i. omega (arith, c.type_inv.s i)) }
 
 pub returns : goal.returns
 returns c = recorded_last c.in-Got.is c.number_value_kind-q.ensures (λ n _. bare_of (kind.Basic n)) c.bare.ensures

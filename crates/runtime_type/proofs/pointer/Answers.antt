@@ -9,7 +9,7 @@ pub returns-in_default : goal.returns-in_default
 returns-in_default c = search (rules, reading, recording)
 
 pub overflow_cast-elem : goal.overflow_cast-elem
-overflow_cast-elem c = record { fits = fixed-fits c.in-Got.is c.number_value_rttid-q.ensures (λ i. omega (arith, c.shared_slice_known-1.given i)) }
+overflow_cast-elem c = record { fits = fixed-fits c.in-Got.is c.number_value_rttid-q.ensures (λ i. omega (arith, c.type_inv.s i)) }
 
 pub returns : goal.returns
 returns c = recorded_last c.in-Got.is c.number_value_rttid-q.ensures (λ n _. bare_of (kind.Pointer n)) c.bare.ensures

@@ -23,7 +23,7 @@ unfolding runtime_struct
 returns-in_default-q2 c = search (rules, reading, recording)
 
 pub overflow_cast-result : goal.overflow_cast-result
-overflow_cast-result c = record { fits = fixed-fits c.in-Got.is c.number_u32-q1.ensures (λ i. omega (arith, c.shared_slice_known-1.given i)) }
+overflow_cast-result c = record { fits = fixed-fits c.in-Got.is c.number_u32-q1.ensures (λ i. omega (arith, c.type_inv.s i)) }
 
 pub returns : goal.returns
 unfolding runtime_struct
