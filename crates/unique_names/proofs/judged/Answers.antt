@@ -1,4 +1,4 @@
-use Rattle.std.proofs.Common.{rules, ◌-◌}
+use Rattle.std.proofs.Common.{rules}
 use Rattle.unique_names.proofs.Asking.{judging, judging-here, judging-more, judging-repeat}
 use Rattle.unique_names.proofs.judged.Goals as goal
 
