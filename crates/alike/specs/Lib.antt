@@ -1,6 +1,6 @@
 -- definitions
 pub mod Decompositions
 pub mod Alike
--- theorems
 pub mod Table
+-- theorems
 pub mod Examples

@@ -117,6 +117,7 @@ Formed v = well_formed (content v) ≡ true
 
 true_of : (b : Bool) → T b → b ≡ true
 true_of true t = refl
+true_of false t = elim t [ ]
 
 str-formed : {s : List ℕ} {p : ℕ} → Stands str s p → Formed (value_at str s p)
 str-formed h = let a = passed h in ap (λ v. well_formed (content v)) a.3 ∙ true_of _ a.2

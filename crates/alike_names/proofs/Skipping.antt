@@ -10,7 +10,7 @@ use Rattle.vob24.specs.Settings.{Settings, U32, StructField}
 use Rattle.vob24.specs.Leaves.{u32}
 use Rattle.vob24.specs.Grammar.{asking, identity, list, itab, field_set, rttids, runtime_field, runtime_struct, runtime_variants, section, itabs}
 use Rattle.in_place.specs.declared.Item.TheVariants.{RuntimeField}
-use Rattle.in_place.specs.Walk.{Stands, next_at, parts, passed}
+use Rattle.in_place.specs.Walk.{Stands, parts}
 use Rattle.in_place.specs.Items.{format_of}
 use Rattle.in_place.specs.Contract.{WordIs, Placed, Past, Items}
 use Rattle.alike_names.specs.Tables.{PastItems, WordsAt, WordsEnd, variant, OtherAt}

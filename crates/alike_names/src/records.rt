@@ -4,6 +4,7 @@ ghost use Rattle.vob24.specs.Grammar.{struct as struct_of, interface as interfac
 ghost use Rattle.alike.specs.Alike.{interface_tables, runtime_tables};
 ghost use Rattle.in_place.specs.Contract.{Placed};
 ghost use Rattle.alike_names.specs.Tables.{struct_tables, named_tables, WalksAt};
+
 use crate::Walk;
 use crate::search::table;
 use crate::skips::past_variant;

@@ -6,7 +6,7 @@ use mathlib.Core.List.{List, flatten, Memᴰ}
 use Rattle.format.specs.Trace.{Wrong, Ends, Settled, refused, taken, settle}
 use Rattle.format.specs.Format.{Value, start, content}
 use Rattle.format.specs.Reading.{part, trace}
-use Rattle.format.proofs.SettleTheorems.{settle-taken}
+use Rattle.format.specs.SettleTheorems.{settle-taken}
 use Rattle.vob24.specs.Utf8.{well_formed}
 use Rattle.vob24.specs.Settings.{Settings, starting_budget}
 use Rattle.vob24.specs.Grammar.{pack}

@@ -10,7 +10,7 @@ use Rattle.vob24.specs.Utf8.{well_formed, encode, Encodes, none, more}
 use Rattle.vob24.specs.Ranges.{inside, below, above, lt-or-ge}
 use Rattle.vob24_theorems.specs.Scalars.{well-formed-iff}
 use Rattle.alike.specs.Decompositions.{decompositions, replaced, decomposed, fold, scalars, alike}
-use Rattle.alike.specs.Table.{both, decomposed-outside}
+use Rattle.alike.proofs.Table.{both, decomposed-outside}
 use Rattle.folding.specs.Bytes.{folds, fold_of, head_fold, fold_bytes, Without}
 use Rattle.folding.specs.FoldLaws.{fold-nil, fold_stays, fold-letter, head_plain, fold-plain}
 use Rattle.alike_theorems.specs.Characters.{encode_all, encode_all-append, Encoded, in1, in2, in3, in4, encoded, scalars-encode, scalars-encode_all, decoded}

@@ -7,7 +7,8 @@ use Rattle.format.specs.Reading.{same}
 use Rattle.format.proofs.LayoutTheorems.{same-eq, same_refl}
 use Rattle.vob24.specs.Utf8.{well_formed, Scalar}
 use Rattle.alike.specs.Decompositions.{decompositions, base_of, mark_of, decomposed, fold, scalars, alike}
-use Rattle.alike.specs.Table.{RowOf, Replaced, stays, parts, decomposed-by-row, row_fits, base_stays, mark-stays, other-stays}
+use Rattle.alike.specs.Table.{RowOf, Replaced, stays, parts}
+use Rattle.alike.proofs.Table.{decomposed-by-row, row_fits, base_stays, mark-stays, other-stays}
 use Rattle.alike_theorems.specs.Characters.{encode_all, AllScalar, done, also, encoded-well-formed, decoded}
 
 -- ---- folding

@@ -7,7 +7,8 @@ use Rattle.std.proofs.Math.Bool.{true, false}
 use Rattle.format.specs.Trace.{pick, Ends}
 use Rattle.format.specs.Format.{Value, number, start, content, Rule, string, count, Format, leaf, seq, chain, entries}
 use Rattle.format.specs.Reading.{little, part, trace}
-use Rattle.format.proofs.TraceTheorems.{Passed, part_length, leaf-ends}
+use Rattle.format.specs.TraceTheorems.{Passed}
+use Rattle.format.proofs.TraceTheorems.{part_length, leaf-ends}
 use Rattle.vob24.specs.Utf8.{well_formed}
 use Rattle.vob24.specs.Settings.{Settings}
 use Rattle.vob24.specs.Leaves.{list_of}

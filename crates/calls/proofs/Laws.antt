@@ -13,7 +13,7 @@ use Rattle.format.specs.Trace.{wrong, Trace, guard, refused, taken, settle, pick
 use Rattle.format.specs.Format.{Value, Format}
 use Rattle.format.specs.Reading.{trace}
 use Rattle.format.specs.Record.{words}
-use Rattle.format.proofs.SettleTheorems.{settle-taken, then_s}
+use Rattle.format.specs.SettleTheorems.{settle-taken, then_s}
 use Rattle.format.proofs.TraceTheorems.{trace-within}
 use Rattle.vob24.specs.Refusals
 use Rattle.vob24.specs.Settings.{Settings, max_pack_bytes}

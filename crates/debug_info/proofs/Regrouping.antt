@@ -9,7 +9,7 @@ use Rattle.format.specs.Trace.{Settled, refused, taken, settle}
 use Rattle.format.specs.Format.{Value, pair, number, Rule, count, Format, leaf, seq, ◌▸◌, chain, times}
 use Rattle.format.specs.Reading.{little, part, trace}
 use Rattle.format.specs.Record.{words}
-use Rattle.format.proofs.SettleTheorems.{then_s}
+use Rattle.format.specs.SettleTheorems.{then_s}
 use Rattle.format.proofs.TraceTheorems.{leaf-ends, settle-seq}
 use Rattle.vob24.specs.Leaves.{source_u32}
 use Rattle.vob24.specs.Grammar as vob

@@ -13,7 +13,7 @@ use Rattle.format.specs.Format.{num}
 use Rattle.format.specs.Reading.{little, part, packed_step, trace_packed, trace_leaf, trace}
 use Rattle.format.specs.Record.{words, words_leaf}
 use Rattle.format.specs.Layout.{Bytes}
-use Rattle.format.proofs.SettleTheorems.{then_s, settle-bind}
+use Rattle.format.specs.SettleTheorems.{then_s, settle-bind}
 use Rattle.vob24.specs.Leaves.{source_u32}
 use Rattle.reader.specs.Contract.{ReadyAt}
 use Rattle.reader.specs.Leaves.{Fetches, Fetched}

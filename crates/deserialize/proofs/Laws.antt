@@ -10,7 +10,7 @@ use lib.Dec.{leb}
 use borrow.Author.Tests.{le-leb}
 use Rattle.format.specs.Format.{Value, first, second, number, Rule, count, Format, leaf, seq, times, entries}
 use Rattle.format.specs.Reading.{trace}
-use Rattle.format.proofs.SettleTheorems.{settle-taken}
+use Rattle.format.specs.SettleTheorems.{settle-taken}
 use Rattle.format.proofs.TraceTheorems.{seq-ends}
 use Rattle.vob24.specs.Settings as of
 use Rattle.vob24.specs.Settings.{Settings}

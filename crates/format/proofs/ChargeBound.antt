@@ -6,16 +6,12 @@ use Rattle.format.specs.Format.{Value, num, pair, number, first, second, Rule, W
 use Rattle.format.specs.Reading.{little, part, room, field, trace_ask, trace_leaf, trace}
 use Rattle.format.specs.Layout.{Bytes, bytes, Valid}
 use Rattle.format.proofs.TraceTheorems.{bind-out, leaf-ends, seq-ends, trace-within}
-use Rattle.format.proofs.ChargeSums.{charges_ask, free-guard, free-bind, packed-free}
+use Rattle.format.specs.ChargeSums.{charges_ask}
+use Rattle.format.proofs.ChargeSums.{free-guard, free-bind, packed-free}
 use Rattle.format.proofs.LayoutTheorems.{trace-placed}
-use Rattle.format.proofs.CountsCovered.{AtLeast, least_at, least-chain}
-
--- The charges of f are at most c, and k for each byte: of those it takes where it ends, of those that are left where it
--- stops.
-pub record Rated (c k : ℕ) (f : Format) : Type 0 where
-  pub stops : (s : List ℕ) (p : ℕ) → Bytes s → p ≤ length s → total (trace f s p) ≤ c + k * (length s - p)
-  pub ends : (s : List ℕ) (p : ℕ) {v : Value} {q : ℕ} → Bytes s → p ≤ length s → Ends (trace f s p) v q
-      → total (trace f s p) ≤ c + k * (q - p)
+use Rattle.format.specs.CountsCovered.{AtLeast}
+use Rattle.format.proofs.CountsCovered.{least_at, least-chain}
+use Rattle.format.specs.ChargeBound.{Rated}
 
 -- sequences
 

@@ -1,30 +1,11 @@
 -- The sum of a reading's charges as a function of the value that was read.
-use Rattle.std.specs.Prelude.{ℕ, suc, zero, ◌+◌, ◌-◌, ◌*◌, ◌≡◌, refl, List, [], ◌∷◌, Bool, true, false, length}
+use Rattle.std.specs.Prelude.{ℕ, suc, zero, ◌+◌, ◌≡◌, refl, List, [], ◌∷◌, Bool, true, false}
 use Rattle.std.proofs.Common.{◌∙◌, arith}
 use Rattle.format.specs.Trace.{Wrong, Trace, stop, end, charge, needs, bind, guard, amounts, sum, total, out, Ends}
-use Rattle.format.specs.Format.{Value, num, text, number, content, first, second, Ask, pay, deny, Leaf, fixed, mark, packed, string, payload, count, ask, Format, empty, leaf, seq}
+use Rattle.format.specs.Format.{Value, num, text, first, Ask, pay, deny, Leaf, fixed, mark, packed, string, payload, count, ask, Format, empty, leaf, seq}
 use Rattle.format.specs.Reading.{little, part, room, field, packed_step, trace_packed, trace_ask, trace_leaf, trace}
 use Rattle.format.proofs.TraceTheorems.{Ends-guard, part_length, room-ends, field-ends, seq-ends}
-
--- The charges that a format puts to a value.
-unfoldable pub charges_ask : List Ask → ℕ
-charges_ask [] = 0
-charges_ask (pay c n ∷ l) = n + charges_ask l
-charges_ask (deny w ∷ l) = charges_ask l
-
-unfoldable pub charges_leaf : Leaf → Value → ℕ
-charges_leaf (fixed w r) v = 0
-charges_leaf (mark m y) v = 0
-charges_leaf packed v = 0
-charges_leaf (string r c ok) v = length (content v)
-charges_leaf (payload r c) v = length (content v)
-charges_leaf (count r m c z) v = number v * z
-charges_leaf (ask l) v = charges_ask l
-
-unfoldable pub charges : Format → Value → ℕ
-charges empty v = 0
-charges (leaf l) v = charges_leaf l v
-charges (seq f g) v = charges f (first v) + charges (g (first v)) (second v)
+use Rattle.format.specs.ChargeSums.{charges_ask, charges_leaf, charges}
 
 -- no charge at all
 pub free-guard : {A : Type 0} (d : Bool) (w : Wrong) (p : ℕ) (t : Trace A) → total t ≡ 0 → total (guard d w p t) ≡ 0

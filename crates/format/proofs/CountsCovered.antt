@@ -1,20 +1,14 @@
 -- Formats whose counts ask for nothing that their items do not hold: what they ask against the bytes left is implied by
 -- the layout.
-use Rattle.std.specs.Prelude.{ℕ, suc, zero, ◌+◌, ◌-◌, ◌*◌, ◌/◌, ◌%◌, ◌≤◌, ◌≡◌, refl, ◌↔◌, List, [], ◌∷◌, Bool, true, false, length, get_or, ltb}
+use Rattle.std.specs.Prelude.{ℕ, suc, zero, ◌+◌, ◌*◌, ◌/◌, ◌%◌, ◌≤◌, ◌≡◌, refl, ◌↔◌, List, [], ◌∷◌, Bool, true, false, length, get_or, ltb}
 use Rattle.std.proofs.Common.{ap, sym, ◌∙◌, arith, length-append, length-take, length-drop}
 use Rattle.format.specs.Trace.{Wrong, pick, ended, Ends}
 use Rattle.format.specs.Format.{Value, number, content, first, second, Rule, Width, byte, half, word, long, option, Ask, fixed, mark, packed, string, payload, count, ask, Format, empty, leaf, seq, chain}
 use Rattle.format.specs.Reading.{size, trace}
 use Rattle.format.specs.Layout.{groups, Bytes, bytes_leaf, bytes, Valid, ahead_leaf, ahead}
-use Rattle.format.proofs.LayoutTheorems.{length_digits, At, trace-placed, placed-trace}
-
--- Every value of f takes at least k bytes.
-unfoldable pub AtLeast : ℕ → Format → Type 0
-AtLeast k f = (v : Value) (p : ℕ) → Valid f v p → k ≤ length (bytes f v)
-
--- No count of a value of f asks for bytes past the value.
-unfoldable pub Closed : Format → Type 0
-Closed f = (v : Value) (p : ℕ) → Valid f v p → ahead f v ≡ 0
+use Rattle.format.specs.LayoutTheorems.{At}
+use Rattle.format.proofs.LayoutTheorems.{length_digits, trace-placed, placed-trace}
+use Rattle.format.specs.CountsCovered.{AtLeast, Closed, All, done, also}
 
 pub least_at : (k : ℕ) (f : Format) → AtLeast k f → (v : Value) (p : ℕ) → Valid f v p → k ≤ length (bytes f v)
 unfolding AtLeast
@@ -131,10 +125,6 @@ closed-list r m c z f u x l k v p h =
     let a = closed-chain f u k (number (first v)) x (second v) _ h.2 in
     let b = least-chain m f u l (number (first v)) x (second v) _ h.2 in
     omega arith
-
-pub data All : List Format → Type 0 where
-  done : All []
-  also : {f : Format} {fs : List Format} → Closed f → All fs → All (f ∷ fs)
 
 pub closed-get : {fs : List Format} → All fs → (n : ℕ) → Closed (get_or fs n empty)
 closed-get done n = closed-empty

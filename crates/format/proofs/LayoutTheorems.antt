@@ -8,7 +8,9 @@ use Rattle.format.specs.Trace.{Wrong, Trace, needs, guard, pick, out, Ends}
 use Rattle.format.specs.Format.{Value, none, number, content, first, second, Ask, pay, Leaf, fixed, mark, packed, string, payload, count, ask, Format, empty, leaf, seq, deny}
 use Rattle.format.specs.Reading.{little, part, same, size, room, field, packed_step, trace_packed, trace_ask, trace_leaf, trace}
 use Rattle.format.specs.Layout.{digits, groups, Bytes, bytes_leaf, bytes, clear, ValidLeaf, Valid, ahead_leaf, ahead}
-use Rattle.format.proofs.TraceTheorems.{Ends-guard, guard-true, bind-out, Passed, part_length, field-ends, leaf-ends, Stepped, last, more, stepped, seq-read, seq-ends}
+use Rattle.format.specs.TraceTheorems.{Passed, Stepped, last, more}
+use Rattle.format.proofs.TraceTheorems.{Ends-guard, guard-true, bind-out, part_length, field-ends, leaf-ends, stepped, seq-read, seq-ends}
+use Rattle.format.specs.LayoutTheorems.{At, Placed}
 
 pub bytes_drop : (n : ℕ) (s : List ℕ) → Bytes s → Bytes (drop n s)
 bytes_drop zero s h = h
@@ -39,10 +41,6 @@ digits-little (b ∷ bs) h =
     let y : (b + 256 * little bs) / 256 ≡ little bs = omega (arith, h.0) in
     let z : b + 256 * little bs < 256 ^ suc (length bs) = omega (arith, h.0) in
     (rw (x, y, r.0), z)
-
--- these bytes stand at p
-abbrev pub At : List ℕ → ℕ → List ℕ → Type 0
-At s p bs = part s p (length bs) ≡ bs
 
 pub at_join : (s : List ℕ) (p : ℕ) (a b : List ℕ) → At s p a → At s (p + length a) b → At s p (a ++ b)
 at_join s p a b h k = rw (length-append, take-add, drop-drop, h, k)
@@ -226,12 +224,6 @@ groups-read (suc k) m s p n below least a fits = go (ltb n 128) (ltb→lt n 128)
         let v : 128 + n % 128 - 128 + 128 * (n / 128) ≡ n = omega arith in
         let o' = rw v at (step-more (ltb (128 + n % 128) 128) m (128 + n % 128) (p + 1) (trace_packed k 1 s (p + 1)) (not_T (ltb (128 + n % 128) 128) (λ t. let z = ltb→lt (128 + n % 128) 128 t in omega arith)) o) in
         rw q (field_out _ s p _ (omega arith) ∙ rw e o')
-
--- from the reading to the layout
-pub record Placed (s : List ℕ) (p q : ℕ) (bs : List ℕ) (more : ℕ) : Type 0 where
-  pub there : At s p bs
-  pub next : q ≡ p + length bs
-  pub room : p ≤ length s → q + more ≤ length s
 
 leaf-placed : (l : Leaf) (s : List ℕ) (p : ℕ) (v : Value) (q : ℕ) → Bytes s → Passed l s p v q
     → ValidLeaf l v p × Placed s p q (bytes_leaf l v) (ahead_leaf l v)

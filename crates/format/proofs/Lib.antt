@@ -1,4 +1,3 @@
-pub mod SettleTheorems
 pub mod TraceTheorems
 pub mod ChargeSums
 pub mod RecordTheorems

@@ -1,16 +1,10 @@
 -- Places: they never fall and stay within the file, in every reading.
 use Rattle.std.specs.Prelude.{ℕ, suc, zero, ◌+◌, ◌-◌, ◌*◌, ◌≤◌, List, [], ◌∷◌, Bool, true, false, length, T, leb}
 use Rattle.std.proofs.Common.{arith, leb→le}
-use Rattle.format.specs.Trace.{Wrong, wrong, unexpected_eof, invalid_source_integer, Trace, stop, end, charge, needs, bind, guard, pick, Settled, refused, taken, spent, settle}
+use Rattle.format.specs.Trace.{Wrong, wrong, unexpected_eof, invalid_source_integer, Trace, stop, end, charge, needs, bind, guard, pick, refused, spent, settle}
 use Rattle.format.specs.Format.{Ask, pay, deny, Leaf, fixed, mark, packed, string, payload, count, ask, Format, empty, leaf, seq}
 use Rattle.format.specs.Reading.{little, part, size, room, field, packed_step, trace_packed, trace_ask, trace_leaf, trace}
-
--- The places of a trace, from p on: none before its forerunner, none past e.
-unfoldable pub Rising : {A : Type 0} → ℕ → ℕ → Trace A → Type 0
-Rising p e (stop w q) = (p ≤ q) × (q ≤ e)
-Rising p e (end a q) = (p ≤ q) × (q ≤ e)
-Rising p e (charge c n q t) = (p ≤ q) × (q ≤ e) × Rising q e t
-Rising p e (needs n q t) = (p ≤ q) × (q ≤ e) × Rising q e t
+use Rattle.format.specs.PlacesRise.{Rising, place_of}
 
 rising-from : {A : Type 0} (p p' e : ℕ) (t : Trace A) → p ≤ p' → Rising p' e t → Rising p e t
 unfolding Rising
@@ -93,11 +87,6 @@ trace-rising empty s p h = rising-end p _ _ p (omega arith) h
 trace-rising (leaf l) s p h = rising-leaf l s p h
 trace-rising (seq f g) s p h =
     rising-bind p (length s) (trace f s p) _ (trace-rising f s p h) (λ v q i j. rising-bind q (length s) (trace (g v) s q) _ (trace-rising (g v) s q j) (λ w r i' j'. rising-end r _ _ r (omega arith) j'))
-
--- The place of an answer.
-unfoldable pub place_of : {A : Type 0} → Settled A → ℕ
-place_of (refused w p b) = p
-place_of (taken a p b) = p
 
 pub settle-within : {A : Type 0} (p e b : ℕ) (t : Trace A) → Rising p e t
     → (p ≤ place_of (settle b t)) × (place_of (settle b t) ≤ e)

@@ -1,12 +1,13 @@
 -- The record determines the value: the words, with the bytes of the texts that they point to, decode to what was read.
-use Rattle.std.specs.Prelude.{ℕ, suc, zero, ◌+◌, ◌-◌, ◌≡◌, refl, List, [], ◌++◌, drop}
+use Rattle.std.specs.Prelude.{ℕ, suc, zero, ◌+◌, ◌≡◌, refl, List, [], ◌++◌, drop}
 use Rattle.std.proofs.Common.{ap, sym, ◌∙◌, subst, append_assoc, append-nil, arith}
 use Rattle.std.proofs.Math.Dec.{eqb-suc-zero}
 use Rattle.format.specs.Trace.{pick, out, Ends}
 use Rattle.format.specs.Format.{Value, none, first, second, Width, byte, half, word, long, option, Leaf, fixed, mark, packed, string, payload, count, ask, Format, empty, leaf, seq}
 use Rattle.format.specs.Reading.{little, part, size, trace}
 use Rattle.format.specs.Record.{shown, words_leaf, words, unshown, words_of, decode_leaf, decode, Held}
-use Rattle.format.proofs.TraceTheorems.{Passed, part_length, leaf-ends, seq-ends}
+use Rattle.format.specs.TraceTheorems.{Passed}
+use Rattle.format.proofs.TraceTheorems.{part_length, leaf-ends, seq-ends}
 
 unshown-shown : (w : Width) (n : ℕ) (ws : List ℕ)
     → (unshown w (shown w n ++ ws) ≡ n) × (drop (words_of w) (shown w n ++ ws) ≡ ws)

@@ -1,13 +1,14 @@
 -- What is known of a reading that ends: leaf by leaf, then over any format.
-use Rattle.std.specs.Prelude.{ℕ, suc, zero, ◌+◌, ◌-◌, ◌*◌, ◌≤◌, ◌≡◌, refl, List, [], ◌∷◌, Bool, true, false, not, length, T, leb}
+use Rattle.std.specs.Prelude.{ℕ, suc, zero, ◌+◌, ◌-◌, ◌*◌, ◌≤◌, ◌≡◌, refl, List, [], ◌∷◌, Bool, true, false, length, T, leb}
 use Rattle.std.proofs.Common.{ap, ◌∙◌, subst₂, arith, length-append, length-take, length-drop, leb→le}
 use Rattle.std.proofs.Math.Path.{fun_ext}
 use Rattle.format.specs.Trace.{Wrong, wrong, unexpected_eof, Trace, stop, end, charge, needs, bind, guard, amounts, sum, total, out, Ends, taken, settle}
-use Rattle.format.specs.Format.{Value, none, num, text, pair, number, first, second, Width, byte, half, word, long, option, Ask, pay, deny, Leaf, fixed, mark, packed, string, payload, count, ask, Format, empty, leaf, seq}
-use Rattle.format.specs.Reading.{little, part, same, size, room, field, packed_step, trace_packed, trace_ask, trace_leaf, trace}
+use Rattle.format.specs.Format.{Value, none, num, pair, number, first, Width, byte, half, word, long, option, Ask, pay, deny, Leaf, fixed, mark, packed, string, payload, count, ask, Format, empty, leaf, seq}
+use Rattle.format.specs.Reading.{part, size, room, field, packed_step, trace_packed, trace_ask, trace_leaf, trace}
 use Rattle.format.specs.Record.{shown, words_leaf, words}
 use Rattle.format.specs.Layout.{clear}
-use Rattle.format.proofs.SettleTheorems.{then_s, settle-bind}
+use Rattle.format.specs.SettleTheorems.{then_s, settle-bind}
+use Rattle.format.specs.TraceTheorems.{Passed, Both, Stepped, last, more, Slim}
 
 -- The parts of a trace that ends.
 pub Ends-bind : {A B : Type 0} (t : Trace A) (k : A → ℕ → Trace B) {w : B} {r : ℕ} → Ends (bind t k) w r
@@ -37,18 +38,6 @@ pub guard-true : {A : Type 0} (d : Bool) (w : Wrong) (p : ℕ) (t : Trace A) →
 unfolding guard
 guard-true true w p t h = refl
 guard-true {A = A} false w p t h = elim h [ ]
-
-abbrev pub Passed : Leaf → List ℕ → ℕ → Value → ℕ → Type 0
-Passed (fixed w r) s p v q = (p + size w ≤ length s) × T (r.test (little (part s p (size w)))) × (v ≡ num (little (part s p (size w)))) × (q ≡ p + size w)
-Passed (mark m y) s p v q = (p + length m ≤ length s) × T (same (part s p (length m)) m) × (v ≡ none) × (q ≡ p + length m)
-Passed packed s p v q = (n : ℕ) × Ends (trace_packed 4 0 s p) n q × (v ≡ num n)
-Passed (string r c ok) s p v q =
-    (p + 4 + little (part s p 4) ≤ length s) × T (r.test (little (part s p 4))) × T (ok (part s (p + 4) (little (part s p 4)))) × (v ≡ text (p + 4) (part s (p + 4) (little (part s p 4)))) × (q ≡ p + 4 + little (part s p 4))
-Passed (payload r c) s p v q =
-    (p + 4 + little (part s p 4) ≤ length s) × T (r.test (little (part s p 4))) × (v ≡ text (p + 4) (part s (p + 4) (little (part s p 4)))) × (q ≡ p + 4 + little (part s p 4))
-Passed (count r m c z) s p v q =
-    (p + 4 + little (part s p 4) * m ≤ length s) × T (r.test (little (part s p 4))) × (v ≡ num (little (part s p 4))) × (q ≡ p + 4)
-Passed (ask l) s p v q = T (clear l) × (v ≡ none) × (q ≡ p)
 
 pub part_length : (s : List ℕ) (p n : ℕ) → p + n ≤ length s → length (part s p n) ≡ n
 part_length s p n h = simp (length-take, length-drop) (omega arith)
@@ -100,14 +89,6 @@ leaf-ends (count r m c z) s p h =
     (e.0, b.0, cc, cc)
 leaf-ends (ask l) s p h = ask-ends l p h
 
--- the two parts of a sequence that ends
-pub record Both (f : Format) (g : Value → Format) (s : List ℕ) (p : ℕ) (v : Value) (q : ℕ) : Type 0 where
-  pub mid : ℕ
-  pub fore : Ends (trace f s p) (first v) mid
-  pub back : Ends (trace (g (first v)) s mid) (second v) q
-  pub whole : v ≡ pair (first v) (second v)
-  pub sums : total (trace (seq f g) s p) ≡ total (trace f s p) + total (trace (g (first v)) s mid)
-
 -- a sequence is read where its parts are
 pub seq-read : (f : Format) (g : Value → Format) (s : List ℕ) (p : ℕ) {a b : Value} {m q : ℕ} → Ends (trace f s p) a m
     → Ends (trace (g a) s m) b q → Ends (trace (seq f g) s p) (pair a b) q × Both f g s p (pair a b) q
@@ -124,11 +105,6 @@ seq-ends f g s p {v} {q} h =
     let a = Ends-bind (trace f s p) (λ v q. bind (trace (g v) s q) (λ w r. end (pair v w) r)) h in
     let b = Ends-bind (trace (g a.0) s a.1) (λ w r. end (pair a.0 w) r) a.3 in
     subst₂ (Both f g s p) (cc) (cc) (seq-read f g s p a.2 b.2).1
-
--- a step of a packed number: its last byte, or one more
-pub data Stepped (d : Bool) (m b p : ℕ) (t : Trace ℕ) (n q : ℕ) : Type 0 where
-  last : T d → m ≤ b → n ≡ b → q ≡ p → Stepped d m b p t n q
-  more : T (not d) → (x : ℕ) → Ends t x q → n ≡ b - 128 + 128 * x → Stepped d m b p t n q
 
 pub stepped : (d : Bool) (m b p : ℕ) (t : Trace ℕ) {n q : ℕ} → Ends (packed_step d m b p t) n q → Stepped d m b p t n q
 unfolding packed_step out
@@ -173,10 +149,6 @@ trace-within (seq f g) s p {v} {q} h =
     let a = trace-within f s p r.fore in
     let b = trace-within (g (first v)) s r.mid r.back in
     (omega arith, λ x. b.1 (a.1 x))
-
--- No more words than bytes: a property of a format, that of its parts.
-pub record Slim (f : Format) : Type 0 where
-  pub most : (s : List ℕ) (p : ℕ) {v : Value} {q : ℕ} → Ends (trace f s p) v q → p + length (words f v) ≤ q
 
 slim-leaf : (l : Leaf) → Slim (leaf l)
 unfolding trace words words_leaf

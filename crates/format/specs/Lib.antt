@@ -5,3 +5,10 @@ pub mod Reading
 pub mod Record
 pub mod Layout
 -- theorems
+pub mod SettleTheorems
+pub mod TraceTheorems
+pub mod ChargeSums
+pub mod LayoutTheorems
+pub mod CountsCovered
+pub mod ChargeBound
+pub mod PlacesRise

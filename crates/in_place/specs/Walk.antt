@@ -5,7 +5,8 @@ use Rattle.std.proofs.Common.{ap, sym, ◌∙◌, subst, arith}
 use Rattle.format.specs.Trace.{Out, stopped, ended, out, Ends}
 use Rattle.format.specs.Format.{Value, none, num, pair, number, first, second, Rule, Leaf, count, Format, leaf, seq, chain, times, items, entries}
 use Rattle.format.specs.Reading.{little, part, trace}
-use Rattle.format.proofs.TraceTheorems.{Passed, leaf-ends, Both, seq-ends}
+use Rattle.format.specs.TraceTheorems.{Passed, Both}
+use Rattle.format.proofs.TraceTheorems.{leaf-ends, seq-ends}
 
 abbrev value_of : Out Value → Value
 value_of (stopped w p) = none

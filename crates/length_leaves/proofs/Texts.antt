@@ -10,7 +10,7 @@ use lib.ListN.{length, take, drop}
 use Rattle.format.specs.Trace.{wrong, unexpected_eof, invalid_utf8, Trace, end, charge, needs, bind, guard, settle}
 use Rattle.format.specs.Format.{Value, text, content, Rule, string, payload}
 use Rattle.format.specs.Reading.{little, part, room, field, trace_leaf}
-use Rattle.format.proofs.SettleTheorems.{then_s, settle-bind}
+use Rattle.format.specs.SettleTheorems.{then_s, settle-bind}
 use Rattle.vob24.specs.Utf8.{ill_formed, characters, scan, well_formed, is_text}
 use Rattle.utf8.specs.Answers.{scan_of, Tries, known}
 use Rattle.utf8.specs.declared.Tried.{Tried}

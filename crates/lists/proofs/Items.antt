@@ -13,7 +13,7 @@ use Rattle.format.specs.Trace.{settle, taken}
 use Rattle.format.specs.Format.{Value, num, pair, Rule, Width, byte, fixed, Format, leaf, ◌▸◌, chain, times}
 use Rattle.format.specs.Reading.{little, part, size, trace, trace_leaf}
 use Rattle.format.specs.Record.{words, words_leaf}
-use Rattle.format.proofs.SettleTheorems.{then_s}
+use Rattle.format.specs.SettleTheorems.{then_s}
 use Rattle.format.proofs.TraceTheorems.{settle-seq}
 use Rattle.vob24.specs.Leaves.{free, at_most}
 use Rattle.reader.specs.Contract.{ReadyAt, Takes, Reads}

@@ -161,6 +161,7 @@ module _ {s t₀ : List ℕ} {d : Cursor} {n first : ℕ} {t : List ℕ} {r : St
               }
           go (Taken c) (Refused x) (refuses y) p f = apart (sym f)
           go (Refused x) (Refused z) skips p f = apart (sym f)
+          go (Refused x) (Taken g) x5 p f = elim x5 [ ]
 
 pub ruleset unjudged = (unjudged-start, unjudged-done, unjudged-behind, unjudged-last, unjudged-refused, unjudged-more)
 

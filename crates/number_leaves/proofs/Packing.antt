@@ -10,7 +10,7 @@ use lib.Pow.{pow-add, pow_mono}
 use Rattle.format.specs.Trace.{Wrong, wrong, unexpected_eof, invalid_source_integer, end, settle, refused, taken}
 use Rattle.format.specs.Format.{num, packed}
 use Rattle.format.specs.Reading.{packed_step, trace_packed, trace_leaf}
-use Rattle.format.proofs.SettleTheorems.{then_s, settle-bind}
+use Rattle.format.specs.SettleTheorems.{then_s, settle-bind}
 use Rattle.reader.specs.Contract.{refusal, ReadyAt}
 use Rattle.reader.specs.Leaves.{Fetched, Short, Fetches, Answers, answered, denied}
 use Rattle.reader.specs.declared.Cursor.{Cursor}

@@ -6,7 +6,7 @@ use mathlib.Core.Bool.{Bool}
 use native.Mathlib.Omega.{arith}
 use lib.ListN.{length}
 use Rattle.format.specs.Trace.{refused, taken, settle}
-use Rattle.format.proofs.SettleTheorems.{settle-taken}
+use Rattle.format.specs.SettleTheorems.{settle-taken}
 use Rattle.format.specs.Format.{Value, entries}
 use Rattle.format.specs.Reading.{part, trace}
 use Rattle.vob24.specs.Settings.{Settings, starting_budget}

@@ -10,7 +10,7 @@ use Rattle.format.proofs.LayoutTheorems.{same-eq}
 use Rattle.vob24.specs.Utf8.{well_formed}
 use Rattle.vob24.specs.Settings.{Settings}
 use Rattle.alike.specs.Decompositions.{decompositions, base_of, mark_of, decomposed, fold, scalars, alike}
-use Rattle.alike.specs.Table as table
+use Rattle.alike.proofs.Table as table
 use Rattle.alike.specs.Table.{RowOf}
 use Rattle.alike.specs.Alike.{tables, Pair, None, Not, alike_outcome}
 use Rattle.folding.specs.Bytes.{fold_bytes}

@@ -7,14 +7,16 @@ use Rattle.std.proofs.Math.Dec.{nleb→lt}
 use Rattle.format.specs.Trace.{Wrong, Trace, pick, amounts, total, stopped, out, Ends, Settled, refused, taken, settle}
 use Rattle.format.specs.Format.{Value, Format}
 use Rattle.format.specs.Record.{words, decode, Held}
-use Rattle.format.proofs.SettleTheorems.{settle-taken}
+use Rattle.format.specs.SettleTheorems.{settle-taken}
 use Rattle.format.proofs.ChargeSums.{trace-charges}
-use Rattle.format.proofs.PlacesRise.{Rising, place_of, settle-within}
+use Rattle.format.specs.PlacesRise.{Rising, place_of}
+use Rattle.format.proofs.PlacesRise.{settle-within}
 use Rattle.vob24.specs.Refusals
-use Rattle.vob24.proofs.PackCost.{Costs}
+use Rattle.vob24.specs.PackCost.{Costs}
 use Rattle.vob24.specs.Calls.{Answer, Taken, Refused, Outcome, no_room_for, closing}
 use Rattle.vob24.proofs.CallTheorems as of
-use Rattle.vob24.proofs.CallTheorems.{left_of, Account, IsTaken, IsBroke, Reads, taken-record, call-texts, call-record, call-cost}
+use Rattle.vob24.specs.CallTheorems.{left_of, Account, IsTaken, IsBroke, Reads}
+use Rattle.vob24.proofs.CallTheorems.{taken-record, call-texts, call-record, call-cost}
 use Rattle.vob24_theorems.specs.RefusalNumbers.{Listed}
 
 -- "A refusal changes no lent memory, an acceptance only the tape's counted words": the tape at entry, and at exit.

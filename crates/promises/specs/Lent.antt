@@ -16,7 +16,7 @@ use Rattle.vob24.specs.Grammar.{Section, externs, section}
 use Rattle.vob24.specs.Cost.{section_cost, section_record_cost}
 use Rattle.vob24.specs.Calls as vob
 use Rattle.vob24.specs.Calls.{Taken, Refused, no_room_for}
-use Rattle.vob24.proofs.CallTheorems.{left_of, Account, IsBroke}
+use Rattle.vob24.specs.CallTheorems.{left_of, Account, IsBroke}
 use Rattle.vob24_theorems.specs.RefusalNumbers.{Answered}
 use Rattle.vob24_theorems.specs.HostCalls.{Claims, base_section}
 use Rattle.calls.specs.Contract.{answer_of, SectionCall}

@@ -6,7 +6,7 @@ use Rattle.std.proofs.Common.{ap, ◌∙◌, arith}
 use Rattle.format.specs.Trace.{Wrong, wrong, total, Settled, refused, taken, settle}
 use Rattle.format.specs.Format.{Value, start, content, entries}
 use Rattle.format.specs.Layout.{Bytes}
-use Rattle.format.proofs.SettleTheorems.{settle-taken}
+use Rattle.format.specs.SettleTheorems.{settle-taken}
 use Rattle.vob24.specs.Refusals
 use Rattle.vob24.specs.Settings.{Settings, ExternDef, size_of, starting_budget}
 use Rattle.vob24.specs.Grammar.{artifacts}

@@ -14,7 +14,7 @@ use Rattle.vob24.specs.Cost.{pack_cost, record_cost}
 use Rattle.vob24.proofs.PackCost.{pack-costs}
 use Rattle.vob24.specs.Calls as vob
 use Rattle.vob24.specs.Calls.{Taken, Refused, no_room_for, whole_trace}
-use Rattle.vob24.proofs.CallTheorems.{left_of, Account, IsBroke}
+use Rattle.vob24.specs.CallTheorems.{left_of, Account, IsBroke}
 use Rattle.vob24_theorems.specs.Theorems as spec
 use Rattle.vob24_theorems.specs.RefusalNumbers.{Answered, read-numbered, whole-listed}
 use Rattle.vob24_theorems.specs.HostCalls.{Claims, some-claim, Counts, base_read, read-claims, read-as-before}

@@ -9,7 +9,7 @@ use Rattle.format.specs.Format.{Value}
 use Rattle.format.specs.Reading.{little, part}
 use Rattle.format.specs.Record.{words, decode, Held}
 use Rattle.format.specs.Layout.{Bytes, Valid, bytes}
-use Rattle.format.proofs.LayoutTheorems.{At}
+use Rattle.format.specs.LayoutTheorems.{At}
 use Rattle.vob24.specs.Refusals
 use Rattle.vob24.specs.Settings.{Settings, ExternDef, Licensed, size_of, max_pack_bytes}
 use Rattle.vob24.specs.Grammar.{Section, externs, section}
@@ -17,7 +17,7 @@ use Rattle.vob24.specs.Cost.{section_cost, section_record_cost}
 use Rattle.vob24.proofs.PackCost.{section-costs}
 use Rattle.vob24.specs.Calls as vob
 use Rattle.vob24.specs.Calls.{Taken, Refused, no_room_for, section_trace}
-use Rattle.vob24.proofs.CallTheorems.{left_of, Account, IsBroke}
+use Rattle.vob24.specs.CallTheorems.{left_of, Account, IsBroke}
 use Rattle.vob24_theorems.specs.Theorems as spec
 use Rattle.vob24_theorems.specs.RefusalNumbers.{Answered, section-numbered, section-listed}
 use Rattle.vob24_theorems.specs.HostCalls.{Claims, some-claim, base_section, section-claims, section-as-before}

@@ -7,7 +7,7 @@ use native.Mathlib.Omega.{arith}
 use Rattle.format.specs.Trace.{Settled, refused, taken, settle, Ends}
 use Rattle.format.specs.Format.{Value, pair, first, second, number, Rule, count, Format, leaf, seq, times}
 use Rattle.format.specs.Reading.{trace}
-use Rattle.format.proofs.SettleTheorems.{then_s, settle-taken}
+use Rattle.format.specs.SettleTheorems.{then_s, settle-taken}
 use Rattle.format.proofs.TraceTheorems.{settle-seq}
 use Rattle.reader.specs.Contract.{refusal, Refuses, Reads, takes, refuses, skips, Reader, On, NumberOf}
 use Rattle.reader.specs.declared.Cursor.{Cursor}

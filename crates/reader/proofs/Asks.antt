@@ -10,7 +10,7 @@ use Rattle.format.specs.Trace.{Wrong, settle, refused, taken, spent, pick, Ends}
 use Rattle.format.specs.Format.{Value, none, Ask, pay, deny, Format, leaf, ask, seq}
 use Rattle.format.specs.Reading.{trace, trace_ask, trace_leaf}
 use Rattle.format.specs.Record.{words, words_leaf}
-use Rattle.format.proofs.SettleTheorems.{then_s}
+use Rattle.format.specs.SettleTheorems.{then_s}
 use Rattle.vob24.specs.Questions.{refuse_unless}
 use Rattle.reader.specs.Contract.{refusal, Ready, ReadyAt, Reads, takes, refuses, skips, Reader, Paid, Asks, passes, denies, Behind, Follows}
 use Rattle.reader.specs.declared.Cursor.{Cursor}

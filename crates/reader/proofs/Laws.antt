@@ -10,7 +10,7 @@ use Rattle.format.specs.Trace.{settle, Ends}
 use Rattle.format.specs.Format.{Value, none, pair, Format, empty, seq, chain, times}
 use Rattle.format.specs.Reading.{trace}
 use Rattle.format.specs.Record.{words}
-use Rattle.format.proofs.SettleTheorems.{then_s, settle-taken}
+use Rattle.format.specs.SettleTheorems.{then_s, settle-taken}
 use Rattle.format.proofs.TraceTheorems.{settle-seq, trace-within, slim}
 use Rattle.reader.specs.Contract.{step_of, Ready, ReadyAt, Takes, Refuses, Reads, takes, refuses, skips, Reader, ComesTo, ReadsOf, got, lost, NumberOf}
 use Rattle.reader.specs.declared.Cursor.{Cursor}

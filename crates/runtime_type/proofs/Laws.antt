@@ -1,9 +1,8 @@
 -- The laws of runtime types: their lists' places, their records.
-use Prim.Native.Nat.{ℕ, suc, zero, ◌+◌, ◌-◌, ◌*◌, ◌≤◌}
+use Prim.Native.Nat.{ℕ, suc, zero, ◌+◌, ◌-◌, ◌*◌}
 use mathlib.Core.Path.{◌≡◌, refl, ◌∙◌}
 use mathlib.Core.List.{List}
 use native.Mathlib.Omega.{arith}
-use native.Mathlib.Nat.{le_antisymm}
 use Rattle.format.specs.Format.{Value, counted, word, Format}
 use Rattle.vob24.specs.Refusals.{invalid_packed_value_rttid}
 use Rattle.vob24.specs.Settings.{Settings}
@@ -19,7 +18,7 @@ use Rattle.reader.specs.declared.Number.TheVariants.{Got}
 use Rattle.reader.proofs.Leaves.{got-up, not-up}
 use Rattle.reader.specs.Recorded.{no_list}
 use Rattle.reader.specs.declared.ListAt.{ListAt}
-use Rattle.reader.proofs.Recording.{list-place, above}
+use Rattle.reader.proofs.Recording.{list-place}
 use Rattle.runtime_type.specs.declared.OptionalId.TheVariants.{Absent, Id}
 use Rattle.runtime_type.specs.declared.RuntimeType.{RuntimeType}
 use Rattle.runtime_type.specs.declared.RuntimeTypeRecord.{RuntimeTypeRecord}
@@ -42,16 +41,6 @@ pub listed_two : {k : RuntimeType} {i j : ListAt} {p q p' m n : ℕ} → i ≡ r
     → j ≡ record { start = q + 4; count = n } → p ≡ p' → q ≡ past_rttids p m
     → ◌≡◌ {A = RuntimeTypeRecord} (record { kind = k; first = i; second = j }) (two_of k p' m n)
 listed_two e i h y = rw (e, i, y, h)
-
--- ---- a record by its tag
-
--- the tag that is left for the last arm
-pub last-tag : {n : ℕ} → n ≤ 12 → (n ≡ 0 → ⊥) → (n ≡ 1 → ⊥) → (n ≡ 2 → ⊥) → (n ≡ 3 → ⊥) → (n ≡ 4 → ⊥) → (n ≡ 5 → ⊥)
-    → (n ≡ 6 → ⊥) → (n ≡ 7 → ⊥) → (n ≡ 8 → ⊥) → (n ≡ 9 → ⊥) → (n ≡ 10 → ⊥) → (n ≡ 11 → ⊥) → n ≡ 12
-last-tag {n} h a b c d e f g i j k l m =
-    let z : 0 ≤ n = omega arith in
-    let x : 12 ≤ n = above (above (above (above (above (above (above (above (above (above (above (above z a) b) c) d) e) f) g) i) j) k) l) m in
-    le_antisymm h x
 
 -- ---- an item of the list that is refused
 

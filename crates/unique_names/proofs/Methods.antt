@@ -132,6 +132,7 @@ module _ {s t₀ : List ℕ} {r₀ : Step} {n from : ℕ} {t : List ℕ} {r : St
               }
           go (Taken c) (Refused x) (refuses y) u v k e = apart e refl
           go (Refused x) (Refused z) skips u v k e = apart e refl
+          go (Refused x) (Taken g) x7 u v k e = elim x7 [ ]
 
   pub methods-done : n ≤ i → Reader (chain new_method also_seen [] n) s r₀ t₀ r t
   methods-done h = chained-done (omega arith) l.chained

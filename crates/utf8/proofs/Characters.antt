@@ -9,7 +9,8 @@ use lib.ListN.{length, get_or, take, drop}
 use Rattle.format.specs.Trace.{pick}
 use Rattle.vob24.specs.Utf8.{Scan, lead, want, characters, scan_from, scan}
 use Rattle.vob24.specs.Ranges.{inside, lt-or-ge}
-use Rattle.vob24.proofs.Rows.{Row, r00, r80, rc2, re0, re1, red, ree, rf0, rf1, rf4, rf5, row}
+use Rattle.vob24.specs.Rows.{Row, r00, r80, rc2, re0, re1, red, ree, rf0, rf1, rf4, rf5}
+use Rattle.vob24.proofs.Rows.{row}
 use Rattle.utf8_parts.specs.Parts.{Ascii, Stands, Standing, is_trailing, trailing_in, Tests}
 use Rattle.utf8_parts.specs.declared.Part.{Part}
 use Rattle.utf8_parts.proofs.Bytes.{low-join, trailing-yes, trailing-no, trailing_in-add, standing-none, standing-join, tests-at}

@@ -1,11 +1,11 @@
 -- What a reading charges is document 01's cost of what it read.
-use Rattle.std.specs.Prelude.{ℕ, suc, zero, ◌+◌, ◌-◌, ◌*◌, min, ◌≡◌, refl, Bool, true, false, length, get_or, eqb}
+use Rattle.std.specs.Prelude.{ℕ, suc, zero, ◌+◌, ◌*◌, min, ◌≡◌, refl, Bool, true, false, length, get_or, eqb}
 use Rattle.std.proofs.Common.{ap, ap₂, sym, ◌∙◌, mul_assoc}
 use mathlib.Core.List.{List, [], ◌∷◌, ◌++◌, map}
 use native.Mathlib.Omega.{arith}
 use Rattle.format.specs.Trace.{Wrong, wrong, pick, sum}
 use Rattle.format.specs.Format.{Value, number, content, first, second, Rule, Width, Ask, fixed, packed, string, count, Format, empty, leaf, seq, ◌▸◌, chain, times, items, entries, counted}
-use Rattle.format.proofs.ChargeSums.{charges_ask, charges_leaf, charges}
+use Rattle.format.specs.ChargeSums.{charges_ask, charges_leaf, charges}
 use Rattle.vob24.specs.Refusals
 use Rattle.vob24.specs.Settings as of
 use Rattle.vob24.specs.Settings.{Settings, size_of}
@@ -16,10 +16,7 @@ use Rattle.vob24.specs.Grammar as g
 use Rattle.vob24.specs.Grammar.{Section, name, structs, interfaces, named_types, itabs, runtime_types, well_known, constants, globals, functions, externs, entry, island_init, artifacts, files, function_locations, inline_sources}
 use Rattle.vob24.specs.Cost as cost
 use Rattle.vob24.specs.Cost.{text_cost, nothing, list_cost, variant_cost, optional_cost, pack_cost, section_cost, part_of}
-
--- Whatever the value, the format charges c of it.
-pub record Costs (f : Format) (c : Value → ℕ) : Type 0 where
-  pub is : (v : Value) → charges f v ≡ c v
+use Rattle.vob24.specs.PackCost.{Costs}
 
 chain-costs : {S : Type 0} {f : S → Format} {c : Value → ℕ} (u : S → Value → S) → ((x : S) → Costs (f x) c)
     → (n : ℕ) (x : S) (v : Value) → charges (chain f u x n) v ≡ sum (map c (items n v))

@@ -11,7 +11,10 @@ pub mod Calls
 -- theorems
 pub mod SizeTable
 pub mod Ranges
+pub mod Rows
 pub mod Packed
 pub mod MarkedCases
 pub mod Examples
 pub mod Accessors
+pub mod PackCost
+pub mod CallTheorems

@@ -6,7 +6,7 @@ use Rattle.format.specs.Trace.{Wrong, wrong, unexpected_eof, invalid_source_inte
 use Rattle.format.specs.Format.{num, leaf, packed}
 use Rattle.format.specs.Reading.{part, room, field, packed_step, trace_packed, trace_leaf, trace}
 use Rattle.format.specs.Layout.{groups, Bytes, Valid, bytes, bytes_leaf}
-use Rattle.format.proofs.LayoutTheorems.{At}
+use Rattle.format.specs.LayoutTheorems.{At}
 use Rattle.format.proofs.CountsCovered.{closed-packed, layout-iff}
 use Rattle.vob24.specs.Leaves.{source_u32}
 

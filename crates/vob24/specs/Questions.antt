@@ -1,7 +1,7 @@
 -- The questions that the pack puts to what was read: repeated names, transfer words, counts that must agree.
 use Rattle.std.specs.Prelude.{ℕ, ◌+◌, List, [], ◌∷◌, ◌++◌, Bool, true, false, length, eqb}
 use Rattle.format.specs.Trace.{Wrong, wrong, pick}
-use Rattle.format.specs.Format.{Value, number, start, content, Ask, pay, deny}
+use Rattle.format.specs.Format.{Value, start, content, Ask, pay, deny}
 use Rattle.format.specs.Reading.{same}
 use Rattle.vob24.specs.Refusals.{duplicate_struct_field, duplicate_interface_method, duplicate_runtime_struct_field, invalid_function_metadata, invalid_instruction_metadata, host_calls, struct_field_key, slot_count}
 use Rattle.vob24.specs.Leaves.{packed_ok}

@@ -11,7 +11,7 @@ use Rattle.format.specs.Format.{Value, none, num, pair, number, first, second, R
 use Rattle.format.specs.Reading.{little, part, trace_ask, trace_leaf, trace}
 use Rattle.format.specs.Record.{words_leaf, words}
 use Rattle.format.specs.Layout.{Valid}
-use Rattle.format.proofs.SettleTheorems.{then_s, settle-bind}
+use Rattle.format.specs.SettleTheorems.{then_s, settle-bind}
 use Rattle.format.proofs.TraceTheorems.{guard-true, settle-seq}
 use Rattle.vob24.specs.Refusals
 use Rattle.vob24.specs.Settings as of

@@ -11,9 +11,10 @@ use Rattle.format.specs.Trace.{Wrong, wrong, Trace, end, guard, pick, Settled, r
 use Rattle.format.specs.Format.{Value, pair, mark, Format, leaf, seq, ◌▸◌, counted}
 use Rattle.format.specs.Reading.{trace}
 use Rattle.format.specs.Record.{words_leaf, words}
-use Rattle.format.proofs.SettleTheorems.{then_s, settle-taken}
+use Rattle.format.specs.SettleTheorems.{then_s, settle-taken}
 use Rattle.format.proofs.TraceTheorems.{leaf-ends, trace-within, slim, settle-seq}
-use Rattle.format.proofs.ChargeSums.{charges_leaf, charges, trace-charges}
+use Rattle.format.specs.ChargeSums.{charges_leaf, charges}
+use Rattle.format.proofs.ChargeSums.{trace-charges}
 use Rattle.vob24.specs.Refusals
 use Rattle.vob24.specs.Settings.{Settings, max_pack_bytes}
 use Rattle.vob24.specs.Grammar.{Section, name, structs, interfaces, named_types, itabs, runtime_types, well_known, constants, globals, functions, externs, entry, island_init, artifacts, files, function_locations, inline_sources, section, after_functions, sections, magic, version, pack}

@@ -7,7 +7,7 @@ use Rattle.format.specs.Trace.{Wrong, wrong, pick, refused, taken, settle}
 use Rattle.format.specs.Format.{Value, none, num, text, pair, content, start, first, second, number, items, entries}
 use Rattle.format.specs.Reading.{part, same}
 use Rattle.format.specs.Record.{Held}
-use Rattle.format.proofs.SettleTheorems.{settle-taken}
+use Rattle.format.specs.SettleTheorems.{settle-taken}
 use Rattle.format.proofs.LayoutTheorems.{same-eq, same_refl}
 use Rattle.vob24.specs.Refusals
 use Rattle.vob24.specs.Settings.{Settings, starting_budget}

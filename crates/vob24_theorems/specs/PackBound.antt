@@ -9,9 +9,11 @@ use Rattle.format.specs.Format.{Value, number, content, first, second, Rule, Wid
 use Rattle.format.specs.Reading.{trace}
 use Rattle.format.specs.Layout.{digits, Bytes, bytes_leaf, bytes, Valid}
 use Rattle.format.proofs.LayoutTheorems.{length_digits}
-use Rattle.format.proofs.ChargeSums.{charges_ask}
-use Rattle.format.proofs.CountsCovered.{AtLeast, least-fore, least-packed, one-fixed, one-string, one-count}
-use Rattle.format.proofs.ChargeBound.{Rated, rated-up, rated-seq, rated-plain, rated-empty, rated-fixed, rated-mark, rated-packed, rated-string, rated-payload, rated-ask, rated-list, rated-few, rated-none, entries-under, counted-under}
+use Rattle.format.specs.ChargeSums.{charges_ask}
+use Rattle.format.specs.CountsCovered.{AtLeast}
+use Rattle.format.proofs.CountsCovered.{least-fore, least-packed, one-fixed, one-string, one-count}
+use Rattle.format.specs.ChargeBound.{Rated}
+use Rattle.format.proofs.ChargeBound.{rated-up, rated-seq, rated-plain, rated-empty, rated-fixed, rated-mark, rated-packed, rated-string, rated-payload, rated-ask, rated-list, rated-few, rated-none, entries-under, counted-under}
 use Rattle.vob24.specs.Refusals
 use Rattle.vob24.specs.Settings as of
 use Rattle.vob24.specs.Settings.{Settings, Licensed, size_of, max_pack_bytes}

@@ -5,7 +5,8 @@ use Rattle.std.proofs.Common.{arith, eqb→eq}
 use Rattle.format.specs.Trace.{wrong, pick}
 use Rattle.format.specs.Format.{number, Rule, byte, word, Format, ◌▸◌, counted}
 use Rattle.format.specs.Layout.{bytes_leaf, bytes, clear, Valid, ahead_leaf, ahead}
-use Rattle.format.proofs.CountsCovered.{AtLeast, Closed, All, least_zero, least-fixed, least-string, least-seq, least-fore, closed-seq, closed-fixed, closed-get, closed}
+use Rattle.format.specs.CountsCovered.{AtLeast, Closed, All}
+use Rattle.format.proofs.CountsCovered.{least_zero, least-fixed, least-string, least-seq, least-fore, closed-seq, closed-fixed, closed-get, closed}
 use Rattle.vob24.specs.Refusals
 use Rattle.vob24.specs.Settings.{Settings}
 use Rattle.vob24.specs.Leaves.{choose}

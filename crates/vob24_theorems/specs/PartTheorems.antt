@@ -4,7 +4,7 @@ use Rattle.std.proofs.Common.{ap, ap₂, sym, ◌∙◌, arith, leb→le, le→l
 use Rattle.format.specs.Trace.{Wrong, wrong, unexpected_eof, Trace, end, charge, needs, guard, pick, Settled, refused, taken, spent, settle}
 use Rattle.format.specs.Format.{Value, num, pair, first, second, Rule, count, Format, leaf, seq, ◌▸◌}
 use Rattle.format.specs.Reading.{little, part, room, field, trace_leaf, trace}
-use Rattle.format.proofs.SettleTheorems.{then_s}
+use Rattle.format.specs.SettleTheorems.{then_s}
 use Rattle.format.proofs.TraceTheorems.{guard-true, settle-seq}
 
 -- The value of a first part joined with that of the second; the second part, from where the first one ended.

@@ -8,7 +8,8 @@ use Rattle.std.proofs.Math.ListN.{length}
 use Rattle.format.specs.Trace.{pick}
 use Rattle.vob24.specs.Utf8.{want, lead, Scan, ill_formed, characters, scan_from, scan, is_text, well_formed, encode, Scalar, Encodes, none, more}
 use Rattle.vob24.specs.Ranges.{inside, lt-or-ge}
-use Rattle.vob24.proofs.Rows.{Row, row, r00, r80, rc2, re0, re1, red, ree, rf0, rf1, rf4, rf5, lead00, leadc2, leade0, leade1, leaded, leadee, leadf0, leadf1, leadf4}
+use Rattle.vob24.specs.Rows.{Row, r00, r80, rc2, re0, re1, red, ree, rf0, rf1, rf4, rf5}
+use Rattle.vob24.proofs.Rows.{row, lead00, leadc2, leade0, leade1, leaded, leadee, leadf0, leadf1, leadf4}
 
 -- The scan where a character begins, after k characters.
 abbrev from : ℕ → List ℕ → Scan

@@ -11,20 +11,22 @@ use Rattle.format.specs.Format.{Value}
 use Rattle.format.specs.Reading.{part, trace}
 use Rattle.format.specs.Record.{Held}
 use Rattle.format.specs.Layout.{Bytes, Valid, bytes}
-use Rattle.format.proofs.SettleTheorems.{then_s, settle-bind}
+use Rattle.format.specs.SettleTheorems.{then_s, settle-bind}
 use Rattle.format.proofs.TraceTheorems.{Ends-bind, bind-out, Ends-guard, guard-true, trace-within}
-use Rattle.format.proofs.LayoutTheorems.{At}
+use Rattle.format.specs.LayoutTheorems.{At}
 use Rattle.format.proofs.CountsCovered.{layout-iff}
 use Rattle.format.proofs.RecordTheorems.{trace-held}
 use Rattle.format.proofs.ChargeBound.{guard-under, end-free}
-use Rattle.format.proofs.PlacesRise.{Rising, rising-bind, rising-guard, rising-end, trace-rising}
+use Rattle.format.specs.PlacesRise.{Rising}
+use Rattle.format.proofs.PlacesRise.{rising-bind, rising-guard, rising-end, trace-rising}
 use Rattle.vob24.specs.Refusals
 use Rattle.vob24.specs.Settings.{Settings, Licensed, max_pack_bytes}
 use Rattle.vob24.specs.Grammar.{Section, section, pack}
 use Rattle.vob24_theorems.specs.PackLayout.{closed-section, closed-pack}
 use Rattle.vob24_theorems.specs.PackBound.{section-bound, pack-bound}
 use Rattle.vob24.specs.Calls.{Taken, too_large, whole_trace, section_trace, section_outcome}
-use Rattle.vob24.proofs.CallTheorems.{only-when, Reads}
+use Rattle.vob24.specs.CallTheorems.{Reads}
+use Rattle.vob24.proofs.CallTheorems.{only-when}
 
 -- a last question charges nothing
 judged : (t : Trace Value) (d : Value → ℕ → Bool) (w : Value → ℕ → Wrong)
