@@ -40,7 +40,7 @@ above : (x b r : ℕ) → b < 256 → x ≡ b + 256 * r → x / 256 ≡ r
 above x b r h e = omega arith
 
 -- x is the number of the w bytes from p on
-packs-settles : {k m x v j : ℕ} (w : ℕ) (s : List ℕ) (p : ℕ) → Packs k m x v j → j ≤ w → p + w ≤ length s
+packs-settles : (w : ℕ) (s : List ℕ) (p : ℕ) {k m x v j : ℕ} → Packs k m x v j → j ≤ w → p + w ≤ length s
     → Bytes (read w s p) → x ≡ little (read w s p) → (b : ℕ) → settle b (trace_packed k m s p) ≡ taken v (p + j) b
 unfolding trace_packed packed_step settle then_s little
 packs-settles zero s p (last h l) i r y e b = absurd (omega arith)

@@ -98,6 +98,7 @@ tag-range n h i = let e : leb n 5 ≡ false = lt-leb n 5 i in go (leb 9 n) refl 
   where
     go : (d : Bool) → leb 9 n ≡ d → T (pick d (leb n 18) false) → (9 ≤ n) × (n ≤ 18)
     go true e h = (leb→le 9 n (rw e tt), leb→le n 18 h)
+    go false e h = elim h [ ]
 
 -- none of these
 abbrev none_of : Type 0 → List ℕ → ℕ → Type 0

@@ -1,0 +1,9 @@
+use Rattle.reader.proofs.Laws.{Turns}
+use Rattle.functions.specs.Formats.{transfer_format}
+use Rattle.functions.proofs.number_transfer_types.Given as goal
+
+abbrev pub invariant-loop : goal.invariant-loop
+invariant-loop l = Turns transfer_format l.s l.initial.tape l.initial.here l.initial.k l.tape l.here l.k
+
+abbrev pub decreases-loop : goal.decreases-loop
+decreases-loop l = l.k
