@@ -2,7 +2,7 @@
 use Prim.Native.Nat.{ℕ, ◌+◌, ◌≤◌, ◌<◌}
 use mathlib.Core.Path.{◌≡◌, refl}
 use mathlib.Core.Bool.{Bool, true, false}
-use mathlib.Core.List.{List, [], ◌∷◌}
+use mathlib.Core.List.{List}
 use native.Mathlib.Omega.{arith}
 use lib.Dec.{T, leb, eqb, leb→le}
 use lib.ListN.{get_or}
@@ -20,10 +20,9 @@ use Rattle.reader.specs.declared.Step.{Step}
 use Rattle.reader.specs.declared.Step.TheVariants.{Taken}
 use Rattle.reader.specs.declared.Number.{Number}
 use Rattle.reader.specs.declared.Number.TheVariants.{Got}
-use Rattle.reader.proofs.Parts.{tag-ok}
 use Rattle.reader.specs.Recorded.{no_list, Recorded}
 use Rattle.reader.specs.declared.ListAt.{ListAt}
-use Rattle.reader.proofs.Recording.{recorded_then, recorded_place, recorded_last, recorded_two, last_two, last_three, fixed-place, list-place, above, variant_at}
+use Rattle.reader.proofs.Recording.{recorded_then, recorded_place, recorded_last, recorded_two, last_two, last_three, fixed-place, list-place, variant_at}
 use Rattle.metadata.specs.Records.{two_layouts, elem_layout, map_get, slot_layout, iface_assert, call_iface, bare_of, one_of, two_of, elem_of, map_get_of, slot_of, assert_of, call_iface_of, metadata_records, metadata_of}
 use Rattle.metadata.specs.declared.Metadata.{Metadata}
 use Rattle.metadata.specs.declared.Metadata.TheVariants as kind
@@ -92,26 +91,10 @@ unfolding metadata metadata_of
 metadata_at set k e i h m = variant_at (metadata_variants set) metadata_records (bare_of kind.None) k e i h m
 
 -- a tag of metadata is at most 5, or from 9 to 18
-tag-range : (n : ℕ) → T (pick (leb n 5) true (pick (leb 9 n) (leb n 18) false)) → 5 < n → (9 ≤ n) × (n ≤ 18)
+pub tag-range : (n : ℕ) → T (pick (leb n 5) true (pick (leb 9 n) (leb n 18) false)) → 5 < n → (9 ≤ n) × (n ≤ 18)
 unfolding pick
 tag-range n h i = let e : leb n 5 ≡ false = lt-leb n 5 i in go (leb 9 n) refl (rw e at h)
   where
     go : (d : Bool) → leb 9 n ≡ d → T (pick d (leb n 18) false) → (9 ≤ n) × (n ≤ 18)
     go true e h = (leb→le 9 n (rw e tt), leb→le n 18 h)
     go false e h = elim h [ ]
-
--- none of these
-abbrev none_of : Type 0 → List ℕ → ℕ → Type 0
-none_of N [] n = N
-none_of N (k ∷ ks) n = none_of (N × (n ≡ k → ⊥)) ks n
-
--- so the last arm is 18
-pub last-tag : {s : List ℕ} {c d : Cursor} {q : Number} {n : ℕ} {t t₁ : List ℕ} → q ≡ Got n d
-    → NumberOf metadata_tagged number s c t q t₁
-    → none_of (Unit {0}) (0 ∷ 1 ∷ 2 ∷ 3 ∷ 4 ∷ 5 ∷ 9 ∷ 10 ∷ 11 ∷ 12 ∷ 13 ∷ 14 ∷ 15 ∷ 16 ∷ 17 ∷ []) n → n ≡ 18
-last-tag {n = n} e h r =
-    let z : 0 ≤ n = omega arith in
-    let a : 6 ≤ n = above (above (above (above (above (above z r.0.0.0.0.0.0.0.0.0.0.0.0.0.0.1) r.0.0.0.0.0.0.0.0.0.0.0.0.0.1) r.0.0.0.0.0.0.0.0.0.0.0.0.1) r.0.0.0.0.0.0.0.0.0.0.0.1) r.0.0.0.0.0.0.0.0.0.0.1) r.0.0.0.0.0.0.0.0.0.1 in
-    let b = tag-range n (tag-ok e h) (omega arith) in
-    let g : 18 ≤ n = above (above (above (above (above (above (above (above (above b.0 r.0.0.0.0.0.0.0.0.1) r.0.0.0.0.0.0.0.1) r.0.0.0.0.0.0.1) r.0.0.0.0.0.1) r.0.0.0.0.1) r.0.0.0.1) r.0.0.1) r.0.1) r.1 in
-    omega arith

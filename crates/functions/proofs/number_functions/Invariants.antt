@@ -3,8 +3,8 @@ use Rattle.reader.proofs.Laws.{Turns}
 use Rattle.functions.specs.Formats.{function_format}
 use Rattle.functions.proofs.number_functions.Given as goal
 
-abbrev pub invariant-loop : goal.invariant-loop
-invariant-loop l = Turns (function_format (settings_of l.set)) l.s l.initial.tape l.initial.here l.initial.k l.tape l.here l.k
+abbrev pub invariant-loop-k : goal.invariant-loop-k
+invariant-loop-k l = Turns (function_format (settings_of l.set)) l.s l.initial.tape l.initial.here l.initial.k l.tape l.here l.k
 
-abbrev pub decreases-loop : goal.decreases-loop
-decreases-loop l = l.k
+abbrev pub decreases-loop-k : goal.decreases-loop-k
+decreases-loop-k l = l.k

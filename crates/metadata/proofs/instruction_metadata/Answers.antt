@@ -2,8 +2,10 @@ use Rattle.vob24.specs.Grammar.{metadata}
 use Rattle.reader.proofs.Reading.{reading}
 use Rattle.reader.proofs.Laws.{got-ready}
 use Rattle.reader.proofs.Recording.{recorded_empty, recording}
-use Rattle.metadata.proofs.Shapes.{metadata_at, last-tag}
+use Rattle.reader.proofs.Parts.{tag-ok}
+use Rattle.metadata.proofs.Shapes.{metadata_at, tag-range}
 use Rattle.std.proofs.Common.{rules}
+use Rattle.std.proofs.Common.{◌≤◌, ◌≡◌, arith}
 use Rattle.metadata.proofs.instruction_metadata.Goals as goal
 
 pub returns-in_default : goal.returns-in_default
@@ -56,4 +58,8 @@ pub returns-in-17 : goal.returns-in-17
 returns-in-17 c = metadata_at _ 17 c.in-Got.is c.in-17.is c.number_metadata_tag-q.ensures c.call_iface_layout.ensures
 
 pub returns-in_default-tag : goal.returns-in_default-tag
-returns-in_default-tag c = metadata_at _ 18 c.in-Got.is (last-tag c.in-Got.is c.number_metadata_tag-q.ensures c.in_default-tag.rest) c.number_metadata_tag-q.ensures c.select_exec_layout.ensures
+returns-in_default-tag c =
+    let late : 6 ≤ c.in-Got.tag = omega arith in
+    let most = tag-range c.in-Got.tag (tag-ok c.in-Got.is c.number_metadata_tag-q.ensures) late in
+    let last : c.in-Got.tag ≡ 18 = omega (arith, most) in
+    metadata_at _ 18 c.in-Got.is last c.number_metadata_tag-q.ensures c.select_exec_layout.ensures
