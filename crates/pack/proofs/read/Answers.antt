@@ -1,0 +1,22 @@
+use Rattle.calls.proofs.Laws.{opens_at, read-since, read-refused, read_taken}
+use Rattle.std.proofs.Common.{rules}
+use Rattle.vob24.specs.Settings.{settings_of}
+use Rattle.pack.proofs.read.Goals as goal
+
+pub read_once-requires : goal.read_once-requires
+read_once-requires c = opens_at (search rules) (search rules)
+
+pub returns-then-pack-le-SMALL : goal.returns-then-pack-le-SMALL
+unfolding settings_of
+returns-then-pack-le-SMALL c = search rules
+
+pub closed_whole-answer-requires-clause-since : goal.closed_whole-answer-requires-clause-since
+closed_whole-answer-requires-clause-since c = read-since _ (c.opening_whole-start).ensures c.deserialize-first.ensures
+
+pub returns-in_default : goal.returns-in_default
+unfolding settings_of
+returns-in_default c = read-refused _ (c.opening_whole-start).ensures c.deserialize-first.ensures (search rules) c.closed_whole-answer.ensures c.in_default.is
+
+pub returns : goal.returns
+unfolding settings_of
+returns c = read_taken _ (c.opening_whole-start).ensures c.deserialize-first.ensures (search rules) c.closed_whole-answer.ensures c.in-Taken.is c.deserialize.ensures
