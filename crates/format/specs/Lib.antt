@@ -4,7 +4,7 @@ pub mod Format
 pub mod Reading
 pub mod Record
 pub mod Layout
--- theorems
+-- theorems, and what those of proofs/ speak of
 pub mod SettleTheorems
 pub mod TraceTheorems
 pub mod ChargeSums

@@ -8,7 +8,7 @@ pub mod Questions
 pub mod Grammar
 pub mod Cost
 pub mod Calls
--- theorems
+-- theorems, and what those of proofs/ speak of
 pub mod SizeTable
 pub mod Ranges
 pub mod Rows
