@@ -21,9 +21,10 @@ fn step(pack: &[u8], section: Section, from: Position, tape: &mut [u32]) -> Lent
         result.answer result.next tape.new }
 {
     let answer = sections::read_section(pack, section, from.place, from.budget, tape);
+    let next = position::moved(from, answer);
     Lent {
         answer: answer,
-        next: position::moved(from, answer),
+        next: next,
     }
 }
 
