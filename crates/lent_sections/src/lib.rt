@@ -37,7 +37,7 @@ pub fn read_section(pack: &[u8], section: Section, at: &mut Position, tape: &mut
     d.answer
 }
 
-// By value, through the lent call, so that the borrow checker covers whoever calls this one.
+// By value, through the lent call, for a caller that has no position to lend.
 pub fn read_section_at(pack: &[u8], section: Section, from: Position, tape: &mut [u32]) -> Lent
     ensures { LentCall (functions_of section) (section_of section) pack.now from tape.old
         result.answer result.next tape.new }
