@@ -3,7 +3,7 @@
 
 usage: changes.py [--allow LIST] [--request 1] OLD [NEW]
 OLD and NEW are folders of stored lists, or commits of this repository (their crates/replay/data); NEW is by default the
-lists of now. A case is a call: kind, the pack's bytes with the edit applied, section, tape, name, budget, place
+folder of now, answers. A case is a call: kind, the pack's bytes with the edit applied, section, tape, name, budget, place
 and functions. Its file and its index do not matter.
 
 Prints a table of the changes by old and new number (0: taken), for equal numbers with the fields that moved, how many
@@ -121,7 +121,7 @@ def main():
     parser.add_argument("--allow")
     parser.add_argument("--request", choices=["1"])
     parser.add_argument("old")
-    parser.add_argument("new", nargs="?", default=os.path.join(HERE, "../..", DATA))
+    parser.add_argument("new", nargs="?", default=os.path.join(HERE, "..", "answers"))
     args = parser.parse_args()
     old_lists, new_lists = lists(args.old), lists(args.new)
     if not old_lists or not new_lists:

@@ -1,10 +1,11 @@
 #!/usr/bin/env python3
 """Whether the facts that stand in more than one file agree: sizes and their names, refusal numbers, contexts, the order of the
-sections, limits and the starting budget, over .rt, .antt, .h, .rs, .py and .md. Part of the gate.
+sections, limits and the starting budget, over .rt, .antt, .h, .rs, .py and .md; and both copies of the stored lists. Part of the gate.
 
 usage: constants.py [ROOT]    prints one line; each difference, and status 1, where there is one
 """
 
+import hashlib
 import re
 import sys
 from pathlib import Path
@@ -177,7 +178,15 @@ for what, places in {
 }.items():
     agree(what, {path: [number(n) for n in re.findall(pattern, text(path), re.M)] for path, pattern in places})
 
+# The stored lists: those that the replay reads, and the oracle's.
+def stored(folder):
+    return [(path.name, hashlib.sha256(path.read_bytes()).hexdigest()) for path in sorted((ROOT / folder).glob("*.bin"))]
+
+
+lists = stored("crates/replay/data")
+agree("stored lists", {"crates/replay/data": lists, "oracle/answers": stored("oracle/answers")})
+
 if differences:
     sys.exit(1)
 print(f"constants: {count} sizes, {len(limits)} limits, {len(rattle(text(numbers).split('// Contexts')[0]))} refusal numbers, "
-      f"{len(contexts)} contexts and 17 sections agree")
+      f"{len(contexts)} contexts, 17 sections and {len(lists)} stored lists agree")

@@ -42,5 +42,5 @@ def main(program, lists):
 if __name__ == "__main__":
     if len(sys.argv) < 2:
         sys.exit(__doc__)
-    stored = [os.path.join(HERE, "../../crates/replay/data", name) for name in ("packcheck.bin", "corpus.bin")]
+    stored = [os.path.join(HERE, "..", "answers", name) for name in ("packcheck.bin", "corpus.bin")]
     sys.exit(main(sys.argv[1], sys.argv[2:] or stored))

@@ -521,7 +521,7 @@ def main(args):
         path, args = args[1], args[2:]
     if any(arg.startswith("-") for arg in args):
         sys.exit(__doc__)
-    lists = args or [os.path.join(HERE, "../../crates/replay/data", name) for name in ("tapes.bin", "packcheck.bin", "sections.bin")]
+    lists = args or [os.path.join(HERE, "..", "answers", name) for name in ("tapes.bin", "packcheck.bin", "sections.bin")]
     sources = os.path.join(ROOT, os.environ.get("VOB_SRC") or "../shared/docs/src")
     tapes, packs, count, met, where = 0, set(), 0, set(), "the document"
     try:

@@ -19,7 +19,7 @@ LONGEST = 1500
 
 def seeds(folder):
     folder.mkdir(parents=True, exist_ok=True)
-    for path in (ORACLE.parent / "crates/replay/data").glob("*.bin"):
+    for path in (ORACLE / "answers").glob("*.bin"):
         for record in records(path):
             # What a text is read from alone is no pack.
             if record.kind != "text" and len(record.pack) <= LONGEST:
