@@ -1,10 +1,5 @@
 -- The laws of lists that were read, and of the place past their items.
-use Prim.Native.Nat.{ℕ, suc, zero, ◌+◌, ◌-◌, ◌≤◌, ◌<◌}
-use mathlib.Core.Path.{◌≡◌, refl, ap, sym, ◌∙◌}
-use mathlib.Core.List.{List}
-use native.Mathlib.Omega.{arith}
-use lib.Dec.{T}
-use lib.ListN.{length}
+use Rattle.std.proofs.Common.{ℕ, suc, zero, ◌+◌, ◌-◌, ◌≤◌, ◌<◌, ◌≡◌, refl, ap, sym, ◌∙◌, List, arith, T, length}
 use Rattle.format.specs.Trace.{out, Ends}
 use Rattle.format.specs.Format.{Value, num, number, first, second, Ask, Rule, count, Format, leaf, seq, ◌▸◌, chain, times, entries}
 use Rattle.format.specs.Reading.{little, part, trace}
@@ -100,22 +95,26 @@ unfolding last_at
 last_none f zero s p h = refl
 last_none f (suc k) s p h = absurd (omega arith)
 
-pub leaving-items : {f : Format} {s : List ℕ} {p n : ℕ} → Items f n s p → Leaving f s (last_at f n s p) p n
-leaving-items h = record { items = h; last = refl }
+pub leaving-items : {f : Format} {s : List ℕ} {p n : ℕ} → Items f n s p → Leaving f s (last_at f n s p) p (n - 0)
+leaving-items {n = n} h = let e : n - 0 ≡ n = omega arith in record { items = rw e h; last = rw e }
 
 pub leaving-list : {g f : Format} {s : List ℕ} {p n : ℕ} → Placed g s p → ListStands g f s p → WordIs s p n
-    → Leaving f s (next_at g s p) (p + 4) n
-leaving-list h l w = rw w.is (record { items = record { small = h.small; all = l.all }; last = l.next })
+    → Leaving f s (next_at g s p) (p + 4) (n - 0)
+leaving-list {n = n} h l w = let e : n - 0 ≡ n = omega arith in rw (e, w.is) (record { items = record { small = h.small; all = l.all }; last = l.next })
 
-module _ {f : Format} {s : List ℕ} {end p k : ℕ} where
-  module _ (h : 0 < k) (l : Leaving f s end p k) where
+-- of n items, i are passed
+module _ {f : Format} {s : List ℕ} {end p n i : ℕ} (l : Leaving f s end p (n - i)) where
+  module _ (h : i < n) where
     pub leaving-here : Placed f s p
-    leaving-here = items-here h l.items
+    leaving-here = items-here (omega arith) l.items
 
-    pub leaving-more : {q : ℕ} → Past f s p q → Leaving f s end q (k - 1)
-    leaving-more w = record { items = items-next h l.items w; last = l.last ∙ last_more f k s p h ∙ rw w.is }
+    pub leaving-more : {q : ℕ} → Past f s p q → Leaving f s end q (n - (i + 1))
+    leaving-more w =
+        let m : 0 < n - i = omega arith in
+        let e : n - i - 1 ≡ n - (i + 1) = omega arith in
+        rw (← e) (record { items = items-next m l.items w; last = l.last ∙ last_more f (n - i) s p m ∙ rw w.is })
 
-  pub leaving-done : k ≤ 0 → Leaving f s end p k → p ≡ end
-  leaving-done h l = sym (l.last ∙ last_none f k s p h)
+  pub leaving-done : n ≤ i → p ≡ end
+  leaving-done h = sym (l.last ∙ last_none f (n - i) s p (omega arith))
 
 pub ruleset leaving = (leaving-items, leaving-list, leaving-here, leaving-more, leaving-done)

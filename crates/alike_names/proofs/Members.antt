@@ -1,10 +1,5 @@
 -- The laws of records that have a table: where it stands, that its names are new, and the walk over it.
-use Prim.Native.Nat.{ℕ, ◌+◌, ◌≤◌}
-use mathlib.Core.Path.{◌≡◌, refl, ap, sym, ◌∙◌}
-use mathlib.Core.List.{List, [], ◌∷◌, map}
-use native.Mathlib.Omega.{arith}
-use lib.ListN.{length, get_or}
-use borrow.Author.Tests.{eq-eqb, ne_eqb}
+use Rattle.std.proofs.Common.{ℕ, ◌+◌, ◌≤◌, ◌≡◌, refl, ap, sym, ◌∙◌, List, [], ◌∷◌, map, arith, length, get_or, eq-eqb, ne_eqb, ControlFlow, Continue, Break}
 use Rattle.format.specs.Trace.{pick, Ends}
 use Rattle.format.specs.Format.{Value, num, number, first, second, count, Format, leaf, chain, items, entries}
 use Rattle.format.specs.Reading.{little, part, trace}
@@ -14,7 +9,7 @@ use Rattle.vob24.specs.Refusals.{named_method_map}
 use Rattle.vob24.specs.Settings.{Settings, max_pack_bytes}
 use Rattle.vob24.specs.Fields.{variant_of, new_method_of, interface_of, runtime_interface_of}
 use Rattle.vob24.specs.Leaves.{free}
-use Rattle.vob24.specs.Grammar.{field_name, method_name, slot_types, field_index, struct, method_set, interface, method_size, methods, named_type, runtime_interface, runtime_type, new_method, also_seen, section, structs, interfaces, named_types, runtime_types}
+use Rattle.vob24.specs.Grammar.{field_name, method_name, slot_types, field_index, struct, method_set, interface, method_size, methods, named_type, runtime_interface, runtime_type, new_method, also_seen}
 use Rattle.alike.specs.Alike.{field_table, interface_tables, method_table, runtime_tables, pair_in}
 use Rattle.alike_theorems.specs.NewNames.{AllNew, keys-new, names-new}
 use Rattle.reader.proofs.Gather.{read_take}
@@ -27,9 +22,8 @@ use Rattle.in_place.specs.Contract.{WordIs, Placed}
 use Rattle.in_place.proofs.Places.{number-stands}
 use Rattle.alike_names.specs.Contract.{table_of, TableAt, Walks, past, TableWalk}
 use Rattle.alike_names.specs.Tables.{variant, OtherAt, struct_tables, named_tables, WalksAt}
-use Rattle.alike_names.specs.declared.Walk.{Walk}
-use Rattle.alike_names.specs.declared.Walk.TheVariants.{Found, Past}
-use Rattle.alike_names.proofs.Lists.{behind, ListStands, list-stands, asked-stands}
+use Rattle.alike_names.specs.declared.AlikeNames.{AlikeNames}
+use Rattle.alike_names.proofs.Lists.{behind, list-stands, asked-stands}
 use Rattle.alike_names.proofs.Sizes.{sized-number, sized-list}
 use Rattle.alike_names.proofs.NewNames.{methods-stand}
 use Rattle.alike_names.proofs.Pairs.{walks-found, walks-then}
@@ -51,7 +45,7 @@ module _ {i : Item} {t : List Value} {s : List ℕ} {p q : ℕ} (h : TableStands
   pub table_at : TableAt i n s (p + 4)
   table_at = rw w.is (record { items = record { small = h.small; all = h.all }; new = rw h.table at h.new })
 
-  pub table-walks : {x : Walk} → TableWalk i n s (p + 4) x → Walks (t ∷ []) q x
+  pub table-walks : {x : ControlFlow AlikeNames ℕ} → TableWalk i n s (p + 4) x → Walks (t ∷ []) q x
   table-walks {x} a = rw (h.table, h.next) (rw w.is at a.walks)
 
 -- ---- structs
@@ -91,7 +85,7 @@ module _ (set : Settings) {s : List ℕ} {p : ℕ} (h : Placed (struct set) s p)
     pub struct-here : TableIn (struct set) StructField field_table s p (p + 4 + m)
     struct-here = rw w.is struct-table
 
-    pub struct-walks : {n : ℕ} {x : Walk} → WordIs s (p + 4 + m) n → TableWalk StructField n s (p + 4 + m + 4) x
+    pub struct-walks : {n : ℕ} {x : ControlFlow AlikeNames ℕ} → WordIs s (p + 4 + m) n → TableWalk StructField n s (p + 4 + m + 4) x
         → WalksAt (struct set) struct_tables s p x
     struct-walks v a = record { walks = table-walks struct-here v a }
 
@@ -150,22 +144,22 @@ module _ (set : Settings) {s : List ℕ} {p : ℕ} (h : Placed (interface set) s
   pub interface-names : TableStands Name (listed_names (value_at (interface set) s p)) s (p + 4 + m) (interface-stands set h).mid
   interface-names = rw w.is (interface-stands set h).names
 
-  module _ {n : ℕ} {x : Walk} (v : WordIs s (p + 4 + m) n) (a : TableWalk Name n s (p + 4 + m + 4) x) where
-    pub interface-found : {b k c l : ℕ} → x ≡ Found b k c l → WalksAt (interface set) interface_tables s p x
-    interface-found e = rw e (record { walks = walks-found (_ ∷ []) (_ ∷ []) (rw e at (table-walks interface-names v a)) })
+  module _ {n : ℕ} {x : ControlFlow AlikeNames ℕ} (v : WordIs s (p + 4 + m) n) (a : TableWalk Name n s (p + 4 + m + 4) x) where
+    pub interface-found : {y : AlikeNames} → x ≡ Break y → WalksAt (interface set) interface_tables s p (Break y)
+    interface-found e = record { walks = walks-found (_ ∷ []) (_ ∷ []) (rw e at (table-walks interface-names v a)) }
 
-    module _ {q : ℕ} (e : x ≡ Past q) where
-      names-past : Walks (listed_names (value_at (interface set) s p) ∷ []) (interface-stands set h).mid (Past q)
+    module _ {q : ℕ} (e : x ≡ Continue q) where
+      names-past : Walks (listed_names (value_at (interface set) s p) ∷ []) (interface-stands set h).mid (Continue q)
       names-past = rw e at (table-walks interface-names v a)
 
       pub interface-methods : TableIn (interface set) InterfaceMethod listed_methods s p q
       interface-methods = go names-past
         where
-          go : {t : List Value} → Walks (t ∷ []) (interface-stands set h).mid (Past q)
+          go : {t : List Value} → Walks (t ∷ []) (interface-stands set h).mid (Continue q)
               → TableIn (interface set) InterfaceMethod listed_methods s p q
           go (past i j) = rw j (interface-stands set h).methods
 
-      pub interface-walks : {k : ℕ} {y : Walk} → WordIs s q k → TableWalk InterfaceMethod k s (q + 4) y
+      pub interface-walks : {k : ℕ} {y : ControlFlow AlikeNames ℕ} → WordIs s q k → TableWalk InterfaceMethod k s (q + 4) y
           → WalksAt (interface set) interface_tables s p y
       interface-walks u b = record { walks = walks-then (_ ∷ []) (_ ∷ []) names-past (table-walks interface-methods u b) }
 
@@ -209,7 +203,7 @@ module _ (set : Settings) {s : List ℕ} {p : ℕ} (h : Placed (named_type set) 
   pub named_here : TableIn (named_type set) NamedMethod method_table s p (p + 4 + m + 8)
   named_here = rw w.is (named_table set h)
 
-  pub named-walks : {n : ℕ} {x : Walk} → WordIs s (p + 4 + m + 8) n → TableWalk NamedMethod n s (p + 4 + m + 8 + 4) x
+  pub named-walks : {n : ℕ} {x : ControlFlow AlikeNames ℕ} → WordIs s (p + 4 + m + 8) n → TableWalk NamedMethod n s (p + 4 + m + 8 + 4) x
       → WalksAt (named_type set) named_tables s p x
   named-walks v a = record { walks = table-walks named_here v a }
 
@@ -265,7 +259,7 @@ module _ (set : Settings) {s : List ℕ} {p : ℕ} (h : Placed (runtime_type set
           next = (rw e at r.next) ∙ b.next ∙ a.next;
         })
 
-    pub runtime-walks : {n : ℕ} {x : Walk} → WordIs s (p + 5) n → TableWalk RuntimeMethod n s (p + 5 + 4) x
+    pub runtime-walks : {n : ℕ} {x : ControlFlow AlikeNames ℕ} → WordIs s (p + 5) n → TableWalk RuntimeMethod n s (p + 5 + 4) x
         → WalksAt (runtime_type set) runtime_tables s p x
     unfolding pick
     runtime-walks w a = record { walks = rw (eq-eqb _ _ ((runtime-stands set h).tag ∙ e)) (table-walks runtime-table w a) }
@@ -276,28 +270,8 @@ module _ (set : Settings) {s : List ℕ} {p : ℕ} (h : Placed (runtime_type set
     other_at = let r = runtime-stands set h in record { other = e; within = r.room; placed = r.part }
 
     pub other-walks : {q : ℕ} → place.Past (variant set (get_or s p 0)) s (p + 1) q
-        → WalksAt (runtime_type set) runtime_tables s p (Past q)
+        → WalksAt (runtime_type set) runtime_tables s p (Continue q)
     unfolding pick pair_in
     other-walks w =
         let r = runtime-stands set h in
         record { walks = rw (ne_eqb _ _ (λ i. e (sym r.tag ∙ i))) (past refl (w.is ∙ sym r.next)) }
-
--- ---- the sections
-
-module _ (set : Settings) {s : List ℕ} {p : ℕ} where
-  pub structs-list : Placed (section set 0 structs) s p → ListStands (section set 0 structs) (struct set) s p
-  unfolding section
-  structs-list h = list-stands h.stands
-
-  pub interfaces-list : Placed (section set 0 interfaces) s p → ListStands (section set 0 interfaces) (interface set) s p
-  unfolding section
-  interfaces-list h = list-stands h.stands
-
-  pub named-types-list : Placed (section set 0 named_types) s p → ListStands (section set 0 named_types) (named_type set) s p
-  unfolding section
-  named-types-list h = list-stands h.stands
-
-  pub runtime-types-list : Placed (section set 0 runtime_types) s p
-      → ListStands (section set 0 runtime_types) (runtime_type set) s p
-  unfolding section
-  runtime-types-list h = list-stands h.stands

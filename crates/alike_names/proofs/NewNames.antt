@@ -1,8 +1,6 @@
 -- The methods of a named type, each with its question behind it: they stand as items of `method`, and their names are
 -- new.
-use Prim.Native.Nat.{ℕ, suc, zero}
-use mathlib.Core.Path.{◌≡◌, refl, ap, sym, ◌∙◌, subst}
-use mathlib.Core.List.{List, map}
+use Rattle.std.proofs.Common.{ℕ, suc, zero, ◌≡◌, refl, ap, sym, ◌∙◌, subst, List, map}
 use Rattle.format.specs.Trace.{out, Ends}
 use Rattle.format.specs.Format.{Value, content, first, Ask, ask, leaf, chain, items}
 use Rattle.format.specs.Reading.{trace_leaf, trace}

@@ -1,13 +1,7 @@
 -- The laws of the search of one table: names alike are keys that repeat, and the nearest of them is the pair's earlier
 -- name.
-use Prim.Native.Nat.{ℕ, zero, suc, ◌+◌, ◌-◌, ◌/◌, ◌%◌, ◌≤◌, ◌<◌}
-use mathlib.Core.Path.{◌≡◌, refl, ap, sym, ◌∙◌}
-use mathlib.Core.List.{List, [], ◌∷◌, ◌++◌, map}
-use mathlib.Core.Bool.{Bool, true, false, not}
-use native.Mathlib.Omega.{arith}
-use native.Mathlib.Numerals.{add-one}
-use lib.Dec.{T, eqb}
-use borrow.Author.Tests.{eq-eqb, not-false}
+use Rattle.std.proofs.Common.{ℕ, zero, suc, ◌+◌, ◌-◌, ◌/◌, ◌%◌, ◌≤◌, ◌<◌, ◌≡◌, refl, ap, sym, ◌∙◌, List, [], ◌∷◌, ◌++◌, map, Bool, true, false, not, arith, add-one, T, eqb, eq-eqb, Continue, Break, Option, Some, None}
+use Rattle.std.proofs.lemmas.Bool.{not-false}
 use Rattle.format.specs.Trace.{pick}
 use Rattle.format.specs.Format.{Value, content, first, Format, seq}
 use Rattle.format.specs.Reading.{same}
@@ -42,8 +36,6 @@ use Rattle.alike_names.specs.Contract.{table_of, TableAt, found, past, TableWalk
 use Rattle.alike_names.specs.Search.{All, ItemsWithout, Repeats, name_at, NearerIs, PartnerIs}
 use Rattle.alike_names.specs.Search as search
 use Rattle.alike_names.specs.Tables.{PastItems}
-use Rattle.alike_names.specs.declared.search.Clear.{Clear}
-use Rattle.alike_names.specs.declared.Walk.{Walk}
 
 -- ---- all values of a list
 
@@ -343,14 +335,14 @@ module _ (i : Item) (s : List ℕ) (from n : ℕ) where
 
 module _ {i : Item} {n : ℕ} {s : List ℕ} {from : ℕ} where
   walk_none : {q : ℕ} → pair_after [] (table_of i (items_at (format_of i) n s from)) ≡ none → q ≡ last_at (format_of i) n s from
-      → TableWalk i n s from (Walk.Past q)
+      → TableWalk i n s from (Continue q)
   unfolding pair_in
   walk_none e h = record { walks = past (rw e) h }
 
   -- no repeat
   pub table_none : {q k : ℕ} → Items (format_of i) n s from → FirstRepeat (keys_at (Alike i) s from) n k → n ≤ k
       → PastItems (format_of i) n s from q
-      → TableWalk i n s from (Walk.Past q)
+      → TableWalk i n s from (Continue q)
   unfolding pair_after
   table_none {q} {k} a f h w =
       let c = (came-to i s from n n (omega arith) a (λ j l. f.new j (omega (arith, f.within)))).1 in
@@ -359,7 +351,7 @@ module _ {i : Item} {n : ℕ} {s : List ℕ} {from : ℕ} where
   -- item k is the first that repeats one before it, and stands at p; the one at b is its partner
   pub table-found : {k p b x y : ℕ} → Items (format_of i) n s from → FirstRepeat (keys_at (Alike i) s from) n k → k < n
       → PastItems (format_of i) k s from p → PartnerIs i s from k p b → WordIs s b x → WordIs s p y
-      → TableWalk i n s from (Walk.Found (b + 4) x (p + 4) y)
+      → TableWalk i n s from (Break (record { earlier = record { start = b + 4; length = x }; later = record { start = p + 4; length = y } }))
   unfolding pair_in
   table-found {k} {p} {b} {x} {y} a f h w r u v =
       let g = format_of i in
@@ -370,7 +362,7 @@ module _ {i : Item} {n : ℕ} {s : List ℕ} {from : ℕ} where
       let t = repeats-among i s from k p w.is (f.found h) in
       let e = c ∙ ap (pair_after (table_of i (items_at g k s from))) (ap (table_of i) m ∙ table-in i (value_at g s p) (items_at g (n - k - 1) s (next_at g s p)) t.0) ∙ pair-here (name_at i s b) (name_at i s p) _ _ r.nearest in
       let late = walking_here h l in
-      record { walks = found {a = b + 4} {m = x} {b = p + 4} {n = y} (rw e (spans r.placed late u v)) }
+      record { walks = found (rw e (spans r.placed late u v)) }
     where
       spans : Placed (format_of i) s b → Placed (format_of i) s p → {x y : ℕ} → WordIs s b x → WordIs s p y
           → shown (pair (name_at i s b) (name_at i s p)) ≡ alike.Pair (b + 4) x (p + 4) y
@@ -425,9 +417,9 @@ module _ {K : List ℕ → Type 0} (apart : Apart K) where
   both-kept i search.none search.none = search.none
   both-kept i (search.also f r) (search.also g d) = search.also (record { kind = f; formed = g }) (both-kept i r d)
 
-pub table-apart : {i : Item} {n low high : ℕ} {s : List ℕ} {from end : ℕ} {q : Clear} → Apart (Without low high)
-    → TableAt i n s from → ItemsWithout i n low high s from q → q ≡ Clear.Past end
-    → TableWalk i n s from (Walk.Past end)
+pub table-apart : {i : Item} {n low high : ℕ} {s : List ℕ} {from end : ℕ} {q : Option ℕ} → Apart (Without low high)
+    → TableAt i n s from → ItemsWithout i n low high s from q → q ≡ Some end
+    → TableWalk i n s from (Continue end)
 table-apart {i} {n} {s = s} {from = from} {end = end} a t w e =
     let x = w.all end e in
     let k = both-kept a i x.0 (items-formed i n s from t.items.all) in
@@ -458,10 +450,10 @@ module _ {i : Item} {low high : ℕ} {s : List ℕ} {from n : ℕ} where
         let b : items_at f (k + 1) s from ≡ items_at f k s from ++ (value_at f s p ∷ []) = ap (λ j. items_at f j s from) (add-one k) ∙ items-snoc f k s from ∙ rw (← l.walk.here) in
         record { walk = walking-next h l.walk w; all = rw b (all_snoc l.all y) }
 
-    pub passing-done : n ≤ k → k ≤ n → ItemsWithout i n low high s from (Clear.Past p)
+    pub passing-done : n ≤ k → k ≤ n → ItemsWithout i n low high s from (Some p)
     passing-done h j = let e : k ≡ n = omega arith in record { all = λ z r. let t : z ≡ p = cc in (rw e at l.all, t ∙ rw e at l.walk.here) }
 
-  pub passing-not : ItemsWithout i n low high s from Clear.Not
+  pub passing-not : ItemsWithout i n low high s from None
   passing-not = record { all = λ z r. let t : ◌≡◌ {A = ℕ} 0 1 = cc in absurd (omega arith) }
 
 pub ruleset passings = (passing-start, passing-here, passing-text, passing-more, passing-done, passing-not)

@@ -1,9 +1,5 @@
 -- The laws of parts that have a fixed size: where they end, and lists of them.
-use Prim.Native.Nat.{ℕ, suc, zero, ◌+◌, ◌*◌, ◌≤◌}
-use mathlib.Core.Path.{◌≡◌, ◌∙◌}
-use mathlib.Core.List.{List}
-use native.Mathlib.Omega.{arith}
-use lib.ListN.{length}
+use Rattle.std.proofs.Common.{ℕ, suc, zero, ◌+◌, ◌*◌, ◌≤◌, ◌≡◌, ◌∙◌, List, arith, length}
 use Rattle.format.specs.Trace.{out}
 use Rattle.format.specs.Format.{Value, Width, Rule, fixed, Format, empty, leaf, seq}
 use Rattle.format.specs.Reading.{little, part, size, trace}

@@ -1,9 +1,5 @@
 -- What is passed over: itabs, and runtime types that are no interface.
-use Prim.Native.Nat.{ℕ, suc, zero, ◌+◌, ◌≤◌}
-use mathlib.Core.Path.{◌≡◌, refl, sym, ◌∙◌}
-use mathlib.Core.List.{List, [], ◌∷◌, ◌++◌, map}
-use native.Mathlib.Omega.{arith}
-use lib.ListN.{length, get_or, take}
+use Rattle.std.proofs.Common.{ℕ, suc, zero, ◌+◌, ◌≤◌, ◌≡◌, refl, sym, ◌∙◌, List, [], ◌∷◌, ◌++◌, map, arith, length, get_or, take}
 use Rattle.format.specs.Format.{Width, Rule, fixed, Format, empty, leaf, seq, ◌▸◌, entries}
 use Rattle.format.specs.Reading.{size}
 use Rattle.vob24.specs.Settings.{Settings, U32, StructField}

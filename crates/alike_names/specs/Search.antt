@@ -1,5 +1,5 @@
 -- The contracts of the search of one table.
-use Rattle.std.specs.Prelude.{ℕ, ◌≡◌, List, [], ◌∷◌, true}
+use Rattle.std.specs.Prelude.{ℕ, ◌≡◌, List, [], ◌∷◌, Option, Some, true}
 use Rattle.format.specs.Trace.{pick}
 use Rattle.format.specs.Format.{Value, content}
 use Rattle.format.specs.Reading.{same}
@@ -13,7 +13,6 @@ use Rattle.in_place.specs.Contract.{Placed}
 use Rattle.repeat_search.specs.Keys.{repeat_at}
 use Rattle.repeat_search.specs.Tables.{keys_at, Standing}
 use Rattle.alike_names.specs.Contract.{table_of}
-use Rattle.alike_names.specs.declared.search.Clear.{Clear}
 
 -- All of them have this property.
 pub data All (P : Value → Type 0) : List Value → Type 0 where
@@ -21,8 +20,8 @@ pub data All (P : Value → Type 0) : List Value → Type 0 where
   also : {v : Value} {vs : List Value} → P v → All P vs → All P (v ∷ vs)
 
 -- If q is a place, it is the one past the items, and no name of theirs has a byte from low to high.
-pub record ItemsWithout (i : Item) (n low high : ℕ) (s : List ℕ) (from : ℕ) (q : Clear) : Type 0 where
-  pub all : (end : ℕ) → q ≡ Clear.Past end
+pub record ItemsWithout (i : Item) (n low high : ℕ) (s : List ℕ) (from : ℕ) (q : Option ℕ) : Type 0 where
+  pub all : (end : ℕ) → q ≡ Some end
       → All (λ v. Without low high (content (name_of i v))) (items_at (format_of i) n s from)
       × (end ≡ last_at (format_of i) n s from)
 

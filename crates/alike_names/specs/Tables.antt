@@ -1,6 +1,7 @@
 -- The contracts of the walks over the records and sections that have tables, and of what is passed over between them.
-use Rattle.std.specs.Prelude.{ℕ, ◌+◌, ◌*◌, ◌≤◌, ◌≡◌, length, get_or}
-use mathlib.Core.List.{List, [], ◌∷◌, flat_map}
+use Rattle.std.specs.Prelude.{ℕ, ◌+◌, ◌*◌, ◌≤◌, ◌≡◌, List, [], ◌∷◌, length, get_or}
+use mathlib.Core.List.{flat_map}
+use Rattle.std.specs.declared.ops.ControlFlow.{ControlFlow}
 use Rattle.format.specs.Format.{Value, Format, empty, entries}
 use Rattle.format.specs.Reading.{little, part}
 use Rattle.vob24.specs.Settings.{Settings, max_pack_bytes}
@@ -9,7 +10,7 @@ use Rattle.alike.specs.Alike.{field_table, interface_tag, method_table, tables}
 use Rattle.in_place.specs.Walk.{value_at, next_at, last_at}
 use Rattle.in_place.specs.Contract.{Placed}
 use Rattle.alike_names.specs.Contract.{Walks}
-use Rattle.alike_names.specs.declared.Walk.{Walk}
+use Rattle.alike_names.specs.declared.AlikeNames.{AlikeNames}
 
 -- ---- what is passed over
 
@@ -51,10 +52,10 @@ abbrev pub tables_in : (Value → List (List Value)) → Value → List (List Va
 tables_in ts v = flat_map ts (entries v)
 
 -- What a walk over the tables of the f at p tells.
-pub record WalksAt (f : Format) (ts : Value → List (List Value)) (s : List ℕ) (p : ℕ) (q : Walk) : Type 0 where
+pub record WalksAt (f : Format) (ts : Value → List (List Value)) (s : List ℕ) (p : ℕ) (q : ControlFlow AlikeNames ℕ) : Type 0 where
   pub walks : Walks (ts (value_at f s p)) (next_at f s p) q
 
 -- What a walk over all tables of a pack tells; it ends past the runtime types.
-pub record PackWalk (set : Settings) (s : List ℕ) (q : Walk) : Type 0 where
+pub record PackWalk (set : Settings) (s : List ℕ) (q : ControlFlow AlikeNames ℕ) : Type 0 where
   pub end : ℕ
   pub walks : Walks (tables (value_at (pack set) s 0)) end q

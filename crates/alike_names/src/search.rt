@@ -5,32 +5,26 @@ ghost use Rattle.alike_names.specs.Search.{ItemsWithout, Repeats, PartnerIs, Nea
 ghost use Rattle.in_place.specs.Items.{format_of};
 ghost use Rattle.in_place.specs.Contract.{Items, TwoPlaced};
 
-use crate::Walk;
 use crate::skips::past_items;
+use crate::{AlikeNames, Walk};
 use in_place::{Item, Table};
+use reader::Span;
+use std::ops::ControlFlow;
 
 // The place past the items, where no name has a byte of the range that was asked for.
-#[derive(Clone, Copy)]
-enum Clear {
-    Past(usize),
-    Not,
-}
-
-fn items_without(s: &[u8], item: Item, from: usize, n: usize, low: u8, high: u8) -> Clear
+fn items_without(s: &[u8], item: Item, from: usize, n: usize, low: u8, high: u8) -> Option<usize>
     requires { Items (format_of item) n s.now from }
     ensures { ItemsWithout item n low high s.now from result }
 {
     let mut p = from;
-    let mut i = 0;
-    while i < n {
+    for _ in 0..n {
         let len = in_place::word_at(s, p);
         if !folding::without(s, p + 4, len, low, high) {
-            return Clear::Not;
+            return None;
         }
         p = in_place::past(s, item, p);
-        i += 1;
     }
-    Clear::Past(p)
+    Some(p)
 }
 
 // The last of the first i items from `from` on whose name is alike to that of item i, which stands at p.
@@ -40,11 +34,9 @@ fn partner(s: &[u8], item: Item, from: usize, i: usize, p: usize) -> usize
 {
     let mut best = p;
     let mut at = from;
-    let mut k = 0;
-    while k < i {
+    for _ in 0..i {
         best = nearer(s, item, p, at, best);
         at = in_place::past(s, item, at);
-        k += 1;
     }
     best
 }
@@ -66,24 +58,26 @@ pub(crate) fn table(s: &[u8], item: Item, from: usize, n: usize) -> Walk
     requires { TableAt item n s.now from }
     ensures { TableWalk item n s.now from result }
 {
-    if let Clear::Past(end) = items_without(s, item, from, n, 195, 197) {
-        return Walk::Past(end);
+    if let Some(end) = items_without(s, item, from, n, 195, 197) {
+        return ControlFlow::Continue(end);
     }
-    if let Clear::Past(end) = items_without(s, item, from, n, 204, 204) {
-        return Walk::Past(end);
+    if let Some(end) = items_without(s, item, from, n, 204, 204) {
+        return ControlFlow::Continue(end);
     }
     let i = repeat_search::first_repeat(s, Table::Alike(item), from, n);
     if n <= i {
-        return Walk::Past(past_items(s, item, from, n));
+        return ControlFlow::Continue(past_items(s, item, from, n));
     }
     let p = past_items(s, item, from, i);
     let a = partner(s, item, from, i, p);
-    let earlier = a + 4;
-    let later = p + 4;
-    Walk::Found(
-        earlier,
-        in_place::word_at(s, a),
-        later,
-        in_place::word_at(s, p),
-    )
+    ControlFlow::Break(AlikeNames {
+        earlier: Span {
+            start: a + 4,
+            length: in_place::word_at(s, a),
+        },
+        later: Span {
+            start: p + 4,
+            length: in_place::word_at(s, p),
+        },
+    })
 }

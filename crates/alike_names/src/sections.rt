@@ -1,86 +1,39 @@
-// The tables of a section: a count, and so many records.
+// The tables of a section: a count, and so many records of one kind.
+ghost use Rattle.std.specs.Prelude.{ℕ, List};
+ghost use Rattle.format.specs.Format.{Value, Format};
 ghost use Rattle.vob24.specs.Settings.{settings_of};
-ghost use Rattle.vob24.specs.Grammar.{section, structs as structs_of, interfaces as interfaces_of, named_types, runtime_types};
-ghost use Rattle.alike.specs.Alike.{interface_tables, runtime_tables};
+ghost use Rattle.vob24.specs.Settings as vob;
+ghost use Rattle.vob24.specs.Grammar.{list};
 ghost use Rattle.in_place.specs.Contract.{Placed};
-ghost use Rattle.alike_names.specs.Tables.{struct_tables, named_tables, tables_in, WalksAt};
+ghost use Rattle.alike_names.specs.Tables.{tables_in, WalksAt};
 
 use crate::Walk;
-use crate::records::{interface, named_type, runtime_type, structure};
+use std::ops::ControlFlow;
 use vob24_data::Settings;
 
-pub(crate) fn structs(s: &[u8], set: &Settings, p: usize) -> Walk
-    requires { Placed (section (settings_of set.now) 0 structs_of) s.now p }
-    ensures { WalksAt (section (settings_of set.now) 0 structs_of) (tables_in struct_tables)
-        s.now p result }
-{
-    let n = in_place::word_at(s, p);
-    let mut k = n;
-    let mut at = p + 4;
-    while 0 < k {
-        let walk = structure(s, set, at);
-        let Walk::Past(next) = walk else {
-            return walk;
-        };
-        at = next;
-        k -= 1;
-    }
-    Walk::Past(at)
+pub(crate) trait Record {
+    // The kind of its charge, its format, and its tables.
+    ghost kind: { ℕ };
+
+    ghost form: { vob.Settings → Format };
+
+    ghost tables_of: { Value → List (List Value) };
+
+    // The tables of the record at p.
+    fn walk(s: &[u8], set: &Settings, p: usize) -> Walk
+        requires { Placed (form (settings_of set.now)) s.now p }
+        ensures { WalksAt (form (settings_of set.now)) tables_of s.now p result };
 }
 
-pub(crate) fn interfaces(s: &[u8], set: &Settings, p: usize) -> Walk
-    requires { Placed (section (settings_of set.now) 0 interfaces_of) s.now p }
-    ensures { WalksAt (section (settings_of set.now) 0 interfaces_of) (tables_in interface_tables)
+pub(crate) fn records<R: Record>(s: &[u8], set: &Settings, p: usize) -> Walk
+    requires { Placed (list (settings_of set.now) R.kind (R.form (settings_of set.now))) s.now p }
+    ensures { WalksAt (list (settings_of set.now) R.kind (R.form (settings_of set.now))) (tables_in R.tables_of)
         s.now p result }
 {
     let n = in_place::word_at(s, p);
-    let mut k = n;
     let mut at = p + 4;
-    while 0 < k {
-        let walk = interface(s, set, at);
-        let Walk::Past(next) = walk else {
-            return walk;
-        };
-        at = next;
-        k -= 1;
+    for _ in 0..n {
+        at = R::walk(s, set, at)?;
     }
-    Walk::Past(at)
-}
-
-pub(crate) fn named_types(s: &[u8], set: &Settings, p: usize) -> Walk
-    requires { Placed (section (settings_of set.now) 0 named_types) s.now p }
-    ensures { WalksAt (section (settings_of set.now) 0 named_types) (tables_in named_tables)
-        s.now p result }
-{
-    let n = in_place::word_at(s, p);
-    let mut k = n;
-    let mut at = p + 4;
-    while 0 < k {
-        let walk = named_type(s, set, at);
-        let Walk::Past(next) = walk else {
-            return walk;
-        };
-        at = next;
-        k -= 1;
-    }
-    Walk::Past(at)
-}
-
-pub(crate) fn runtime_types(s: &[u8], set: &Settings, p: usize) -> Walk
-    requires { Placed (section (settings_of set.now) 0 runtime_types) s.now p }
-    ensures { WalksAt (section (settings_of set.now) 0 runtime_types) (tables_in runtime_tables)
-        s.now p result }
-{
-    let n = in_place::word_at(s, p);
-    let mut k = n;
-    let mut at = p + 4;
-    while 0 < k {
-        let walk = runtime_type(s, set, at);
-        let Walk::Past(next) = walk else {
-            return walk;
-        };
-        at = next;
-        k -= 1;
-    }
-    Walk::Past(at)
+    ControlFlow::Continue(at)
 }

@@ -14,10 +14,8 @@ pub(crate) fn past_items(s: &[u8], item: Item, from: usize, n: usize) -> usize
     ensures { PastItems (format_of item) n s.now from result }
 {
     let mut p = from;
-    let mut k = n;
-    while 0 < k {
+    for _ in 0..n {
         p = in_place::past(s, item, p);
-        k -= 1;
     }
     p
 }
@@ -37,11 +35,9 @@ pub(crate) fn past_itabs(s: &[u8], set: &Settings, p: usize) -> usize
     ensures { Past (section (settings_of set.now) 0 itabs) s.now p result }
 {
     let n = in_place::word_at(s, p);
-    let mut k = n;
     let mut at = p + 4;
-    while 0 < k {
+    for _ in 0..n {
         at = past_words(s, at + 4);
-        k -= 1;
     }
     at
 }

@@ -8,10 +8,9 @@ ghost use Rattle.lookup.specs.Look.{found_of};
 ghost use Rattle.alike_names.specs.Contract as alike;
 ghost use Rattle.c_answers.specs.Numbers.{numbers_of, found_numbers, alike_numbers};
 
-use alike_names::Alike;
-use calls::Answer;
-use lookup::Found;
-use reader::Refusal;
+use alike_names::AlikeNames;
+use calls::Taken;
+use reader::{Refusal, Span};
 
 // Taken: number 0, then words, bytes taken, charged, left, 0; found: 0, start, length, and zeros; a pair of names alike:
 // 0, 1, start and length of the earlier, of the later; none: zeros. Refused: the number, then c, d1, d2, place, left.
@@ -26,8 +25,17 @@ pub struct VobAnswer {
     pub value5: u64,
 }
 
+const ZEROS: VobAnswer = VobAnswer {
+    number: 0,
+    value1: 0,
+    value2: 0,
+    value3: 0,
+    value4: 0,
+    value5: 0,
+};
+
 fn refused(x: Refusal) -> VobAnswer
-    ensures { result ≡ numbers_of (answer_of (Answer.Refused x)) }
+    ensures { result ≡ numbers_of (answer_of (Err x)) }
 {
     VobAnswer {
         number: x.number,
@@ -39,63 +47,53 @@ fn refused(x: Refusal) -> VobAnswer
     }
 }
 
-pub fn shown(answer: Answer) -> VobAnswer
-    ensures { result ≡ numbers_of (answer_of answer) }
-{
-    match answer {
-        Answer::Refused(x) => refused(x),
-        Answer::Taken {
-            words,
-            bytes,
-            charged,
-            left,
-        } => VobAnswer {
-            number: 0,
-            value1: words as u64,
-            value2: bytes as u64,
-            value3: charged,
-            value4: left,
-            value5: 0,
-        },
+impl From<Result<Taken, Refusal>> for VobAnswer {
+    ghost from_gives = { λ answer r. r ≡ numbers_of (answer_of answer) };
+
+    fn from(answer: Result<Taken, Refusal>) -> VobAnswer {
+        match answer {
+            Err(x) => refused(x),
+            Ok(taken) => VobAnswer {
+                value1: taken.words as u64,
+                value2: taken.bytes as u64,
+                value3: taken.charged,
+                value4: taken.left,
+                ..ZEROS
+            },
+        }
     }
 }
 
-pub fn shown_found(found: Found) -> VobAnswer
-    ensures { result ≡ found_numbers (found_of found) }
-{
-    match found {
-        Found::Not(x) => refused(x),
-        Found::At(start, length) => VobAnswer {
-            number: 0,
-            value1: start as u64,
-            value2: length as u64,
-            value3: 0,
-            value4: 0,
-            value5: 0,
-        },
+impl From<Result<Span, Refusal>> for VobAnswer {
+    ghost from_gives = { λ found r. r ≡ found_numbers (found_of found) };
+
+    fn from(found: Result<Span, Refusal>) -> VobAnswer {
+        match found {
+            Err(x) => refused(x),
+            Ok(payload) => VobAnswer {
+                value1: payload.start as u64,
+                value2: payload.length as u64,
+                ..ZEROS
+            },
+        }
     }
 }
 
-pub fn shown_alike(answer: Alike) -> VobAnswer
-    ensures { result ≡ alike_numbers (alike.answer_of answer) }
-{
-    match answer {
-        Alike::Not(x) => refused(x),
-        Alike::None => VobAnswer {
-            number: 0,
-            value1: 0,
-            value2: 0,
-            value3: 0,
-            value4: 0,
-            value5: 0,
-        },
-        Alike::Pair(earlier, earlier_length, later, later_length) => VobAnswer {
-            number: 0,
-            value1: 1,
-            value2: earlier as u64,
-            value3: earlier_length as u64,
-            value4: later as u64,
-            value5: later_length as u64,
-        },
+impl From<Result<Option<AlikeNames>, Refusal>> for VobAnswer {
+    ghost from_gives = { λ answer r. r ≡ alike_numbers (alike.answer_of answer) };
+
+    fn from(answer: Result<Option<AlikeNames>, Refusal>) -> VobAnswer {
+        match answer {
+            Err(x) => refused(x),
+            Ok(None) => ZEROS,
+            Ok(Some(names)) => VobAnswer {
+                number: 0,
+                value1: 1,
+                value2: names.earlier.start as u64,
+                value3: names.earlier.length as u64,
+                value4: names.later.start as u64,
+                value5: names.later.length as u64,
+            },
+        }
     }
 }

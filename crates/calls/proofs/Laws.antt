@@ -1,14 +1,9 @@
 -- The laws of the public calls: a first pass with no tape, the questions around it, a second pass.
-use Prim.Native.Nat.{ℕ, ◌+◌, ◌-◌, ◌≤◌, ◌<◌}
-use mathlib.Core.Path.{◌≡◌, refl, ap, sym, ◌∙◌}
-use mathlib.Core.List.{List, [], ◌∷◌, ◌++◌}
-use mathlib.Core.Bool.{Bool, true, false, not}
-use native.Mathlib.Omega.{arith}
-use native.Mathlib.Nat.{zero-add}
-use lib.ListN.{length, drop}
+use Rattle.std.proofs.Common.{ℕ, ◌+◌, ◌-◌, ◌≤◌, ◌<◌, ◌≡◌, refl, ap, sym, ◌∙◌, List, [], ◌∷◌, ◌++◌, Bool, true, false, not, arith, zero-add, length, drop, T, leb, eqb, leb→le, le-leb, eq-eqb, ne_eqb, Ok, Err}
+use Rattle.std.specs.Result.{IsErrAnd}
+use lib.Dec.{nleb→lt}
+use borrow.Author.Tests.{lt-leb}
 use lib.Seq.{sets-eq, paste, take-append_seam}
-use lib.Dec.{T, leb, eqb, leb→le, nleb→lt}
-use borrow.Author.Tests.{le-leb, lt-leb, eq-eqb, ne_eqb}
 use Rattle.format.specs.Trace.{wrong, Trace, guard, refused, taken, settle, pick}
 use Rattle.format.specs.Format.{Value, Format}
 use Rattle.format.specs.Reading.{trace}
@@ -20,56 +15,55 @@ use Rattle.vob24.specs.Settings.{Settings, max_pack_bytes}
 use Rattle.vob24.specs.Grammar.{Section, section, pack}
 use Rattle.vob24.specs.Calls as vob
 use Rattle.vob24_theorems.specs.Theorems.{whole-settled, section-alone}
-use Rattle.reader.specs.Contract.{refusal, wrong_of, ReadyAt, Takes, Reads, takes, refuses, skips, Reader}
+use Rattle.reader.specs.Contract.{refusal, wrong_of, ReadyAt, Takes, Reads, takes, refuses, skips, Reader, Step}
 use Rattle.reader.specs.Accepted.{Accepted}
 use Rattle.reader.proofs.Accepting.{taken-accepted}
+use Rattle.reader.proofs.Errors.{handed}
 use Rattle.reader.specs.declared.Cursor.{Cursor}
 use Rattle.reader.specs.declared.Refusal.{Refusal}
-use Rattle.reader.specs.declared.Step.{Step}
-use Rattle.reader.specs.declared.Step.TheVariants.{Taken, Refused}
-use Rattle.calls.specs.Contract.{answer_of, from, opened, Opens, ended, closed, Ends, Closes, Since, StaysWithin, ReadCall, SectionCall}
-use Rattle.calls.specs.declared.Answer.{Answer}
+use Rattle.calls.specs.Contract.{Answer, answer_of, from, opened, Opens, ended, closed, Ends, Closes, Since, StaysWithin, ReadCall, SectionCall}
+use Rattle.calls.specs.declared.Taken as call
 
 -- ---- the three questions
 
 module _ {s : List ℕ} {p b : ℕ} where
-  pub opens-long : max_pack_bytes < length s → Opens s p b (Refused (refusal (vob.too_large (length s)) p b))
+  pub opens-long : max_pack_bytes < length s → Opens s p b (Err (refusal (vob.too_large (length s)) p b))
   unfolding opened pick
   opens-long h = record { is = rw (lt-leb _ _ h); ready = tt }
 
   pub opens-past : length s ≤ max_pack_bytes → length s < p
-      → Opens s p b (Refused (refusal (wrong Refusals.unexpected_eof 0) p b))
+      → Opens s p b (Err (refusal (wrong Refusals.unexpected_eof 0) p b))
   unfolding opened pick
   opens-past h i = record { is = rw (le-leb _ _ h, lt-leb _ _ i); ready = tt }
 
-  pub opens_at : length s ≤ max_pack_bytes → p ≤ length s → Opens s p b (Taken (from p b))
+  pub opens_at : length s ≤ max_pack_bytes → p ≤ length s → Opens s p b (Ok (from p b))
   unfolding opened pick
   opens_at h i = record { is = rw (le-leb _ _ h, le-leb _ _ i); ready = record { small = h; within = i; behind = omega arith } }
 
 module _ {n : ℕ} {r : Step} where
-  pub ends-refused : {x : Refusal} → r ≡ Refused x → Ends n r r
-  ends-refused e = rw e record { is = refl }
+  pub ends-refused : {x : Refusal} {q : Step} → r ≡ Err x → IsErrAnd q (λ y. y ≡ x) → Ends n r q
+  ends-refused {q = q} e i = record { is = handed q i ∙ rw e }
 
-  pub ends_at : {c : Cursor} → r ≡ Taken c → c.place ≡ n → Ends n r (Taken c)
+  pub ends_at : {c : Cursor} → r ≡ Ok c → c.place ≡ n → Ends n r (Ok c)
   unfolding pick
   ends_at {c} e h = record { is = rw (e, eq-eqb c.place n h) }
 
-  pub ends-past : {c : Cursor} → r ≡ Taken c → (c.place ≡ n → ⊥)
-      → Ends n r (Refused (refusal (wrong Refusals.trailing_bytes (n - c.place)) c.place c.left))
+  pub ends-past : {c : Cursor} → r ≡ Ok c → (c.place ≡ n → ⊥)
+      → Ends n r (Err (refusal (wrong Refusals.trailing_bytes (n - c.place)) c.place c.left))
   unfolding pick
   ends-past {c} e h = record { is = rw (e, ne_eqb c.place n h) }
 
 module _ {p b room : ℕ} {r : Step} where
-  pub closes-refused : {x : Refusal} → r ≡ Refused x → Closes p b room r (Answer.Refused x)
-  closes-refused e = record { is = rw e }
+  pub closes-refused : {x : Refusal} {q : Answer} → r ≡ Err x → IsErrAnd q (λ y. y ≡ x) → Closes p b room r q
+  closes-refused {q = q} e i = record { is = handed q i ∙ rw e }
 
-  pub closes-short : {c : Cursor} → r ≡ Taken c → room < c.at
-      → Closes p b room r (Answer.Refused (refusal (vob.no_room_for c.at room) c.place c.left))
+  pub closes-short : {c : Cursor} → r ≡ Ok c → room < c.at
+      → Closes p b room r (Err (refusal (vob.no_room_for c.at room) c.place c.left))
   unfolding pick
   closes-short e h = record { is = rw (e, lt-leb _ _ h) }
 
-  pub closes-taken : {c : Cursor} → r ≡ Taken c → c.at ≤ room
-      → Closes p b room r (Answer.Taken c.at (c.place - p) (b - c.left) c.left)
+  pub closes-taken : {c : Cursor} → r ≡ Ok c → c.at ≤ room
+      → Closes p b room r (Ok (record { words = c.at; bytes = c.place - p; charged = b - c.left; left = c.left }))
   unfolding pick
   closes-taken e h = record { is = rw (e, le-leb _ _ h) }
 
@@ -80,22 +74,22 @@ module _ {n p b : ℕ} {r r' : Step} (g : Ends n r r') where
   pub closes-ended : {room : ℕ} {q : Answer} → Closes p b room r' q → Closes p b room (ended n r) q
   closes-ended {room} m = record { is = m.is ∙ ap (closed p b room) g.is }
 
-pub ruleset questions = (opens-long, opens-past, opens_at, ends-refused, ends_at, ends-past, closes-refused, closes-short, closes-taken)
+pub ruleset questions = (opens-long, opens-past, opens_at)
 
 -- ---- the passes
 
 -- What a first pass has come to: the budget settles the call's charge list so.
 pub data Passed (f : Format) (t : Trace Value) (s : List ℕ) (p b : ℕ) (start : Step) : Step → Type 0 where
-  passed : {v : Value} {c : Cursor} → start ≡ Taken (from p b) → settle b t ≡ taken v c.place c.left
+  passed : {v : Value} {c : Cursor} → start ≡ Ok (from p b) → settle b t ≡ taken v c.place c.left
       → settle b (trace f s p) ≡ taken v c.place c.left → c.at ≡ length (words f v)
-      → Passed f t s p b start (Taken c)
-  denied : {x : Refusal} → settle b t ≡ refused (wrong_of x) x.place x.left → Passed f t s p b start (Refused x)
+      → Passed f t s p b start (Ok c)
+  denied : {x : Refusal} → settle b t ≡ refused (wrong_of x) x.place x.left → Passed f t s p b start (Err x)
 
 -- how a call opened
 data Opened (s : List ℕ) (p b : ℕ) : Step → Type 0 where
-  long : max_pack_bytes < length s → Opened s p b (Refused (refusal (vob.too_large (length s)) p b))
-  past : length s ≤ max_pack_bytes → length s < p → Opened s p b (Refused (refusal (wrong Refusals.unexpected_eof 0) p b))
-  at : length s ≤ max_pack_bytes → p ≤ length s → Opened s p b (Taken (from p b))
+  long : max_pack_bytes < length s → Opened s p b (Err (refusal (vob.too_large (length s)) p b))
+  past : length s ≤ max_pack_bytes → length s < p → Opened s p b (Err (refusal (wrong Refusals.unexpected_eof 0) p b))
+  at : length s ≤ max_pack_bytes → p ≤ length s → Opened s p b (Ok (from p b))
 
 opened-as : (s : List ℕ) (p b : ℕ) → Opened s p b (opened s p b)
 unfolding opened pick
@@ -103,7 +97,7 @@ opened-as s p b = go (leb (length s) max_pack_bytes) (leb→le _ _) (nleb→lt _
   where
     go : (d : Bool) → (T d → length s ≤ max_pack_bytes) → (T (not d) → max_pack_bytes < length s) → (e : Bool)
         → (T e → p ≤ length s) → (T (not e) → length s < p)
-        → Opened s p b (pick d (pick e (Taken (from p b)) (Refused (refusal (wrong Refusals.unexpected_eof 0) p b))) (Refused (refusal (vob.too_large (length s)) p b)))
+        → Opened s p b (pick d (pick e (Ok (from p b)) (Err (refusal (wrong Refusals.unexpected_eof 0) p b))) (Err (refusal (vob.too_large (length s)) p b)))
     go true x y true z w = at (x tt) (z tt)
     go true x y false z w = past (x tt) (w tt)
     go false x y e z w = long (y tt)
@@ -138,7 +132,7 @@ module _ (set : Settings) (s : List ℕ) (b : ℕ) where
   -- the whole pack, with the question after it
   judged : {t : List ℕ} {v : Value} {c : Cursor} {e : List ℕ} → length s ≤ max_pack_bytes
       → Takes (pack set) s (from 0 b) t v c e → (d : Bool) → eqb c.place (length s) ≡ d
-      → Passed (pack set) (vob.whole_trace set s) s 0 b (Taken (from 0 b)) (pick d (Taken c) (Refused (refusal (wrong Refusals.trailing_bytes (length s - c.place)) c.place c.left)))
+      → Passed (pack set) (vob.whole_trace set s) s 0 b (Ok (from 0 b)) (pick d (Ok c) (Err (refusal (wrong Refusals.trailing_bytes (length s - c.place)) c.place c.left)))
   unfolding pick then_s guard settle
   judged {v = v} {c = c} h k true i = passed {v = v} {c = c} refl (whole-settled set s b h ∙ rw (k.settles, i)) k.settles (k.moves ∙ zero-add _)
   judged {c = c} h k false i = denied {x = refusal (wrong Refusals.trailing_bytes (length s - c.place)) c.place c.left} (whole-settled set s b h ∙ rw (k.settles, i))
@@ -158,30 +152,30 @@ module _ {f : Format} {t : Trace Value} {s : List ℕ} {p b : ℕ} {r₀ : Step}
   passed-since (passed {v = v} {c = c} _ _ i _) =
       let k = (settle-taken b (trace f s p) v c.place c.left).0 i in
       record { place = λ c' e. let x : c' ≡ c = cc in rw x (omega (arith, (trace-within f s p k.0).0)); left = λ c' e. let x : c' ≡ c = cc in rw x (omega (arith, k.2)) }
-  passed-since (denied i) = record { place = λ c e. let no : ◌≡◌ {A = ℕ} 0 1 = cc in absurd (omega arith); left = λ c e. let no : ◌≡◌ {A = ℕ} 0 1 = cc in absurd (omega arith) }
+  passed-since (denied i) = record { place = λ c e. let no : ⊥ = cc in absurd no; left = λ c e. let no : ⊥ = cc in absurd no }
 
   -- what a first pass has taken is not refused in a second
-  passed-accepted : {g : Bool} {r : Step} {c : Cursor} → Passed f t s p b r₀ r → r ≡ Taken c → Accepted g f s r₀
+  passed-accepted : {g : Bool} {r : Step} {c : Cursor} → Passed f t s p b r₀ r → r ≡ Ok c → Accepted g f s r₀
   passed-accepted (passed o _ i _) e = taken-accepted o i
-  passed-accepted (denied i) e = let no : ◌≡◌ {A = ℕ} 0 1 = cc in absurd (omega arith)
+  passed-accepted (denied i) e = let no : ⊥ = cc in absurd no
 
 -- the question of room, answered either way
 data Closed (p b room : ℕ) (c : Cursor) : Answer → Type 0 where
-  fits : c.at ≤ room → Closed p b room c (Answer.Taken c.at (c.place - p) (b - c.left) c.left)
-  short : room < c.at → Closed p b room c (Answer.Refused (refusal (vob.no_room_for c.at room) c.place c.left))
+  fits : c.at ≤ room → Closed p b room c (Ok (record { words = c.at; bytes = c.place - p; charged = b - c.left; left = c.left }))
+  short : room < c.at → Closed p b room c (Err (refusal (vob.no_room_for c.at room) c.place c.left))
 
-closed-as : (p b room : ℕ) (c : Cursor) → Closed p b room c (closed p b room (Taken c))
+closed-as : (p b room : ℕ) (c : Cursor) → Closed p b room c (closed p b room (Ok c))
 unfolding pick
 closed-as p b room c = go (leb c.at room) (leb→le _ _) (nleb→lt _ _)
   where
     go : (d : Bool) → (T d → c.at ≤ room) → (T (not d) → room < c.at)
-        → Closed p b room c (pick d (Answer.Taken c.at (c.place - p) (b - c.left) c.left) (Answer.Refused (refusal (vob.no_room_for c.at room) c.place c.left)))
+        → Closed p b room c (pick d (Ok (record { words = c.at; bytes = c.place - p; charged = b - c.left; left = c.left })) (Err (refusal (vob.no_room_for c.at room) c.place c.left)))
     go true x y = fits (x tt)
     go false x y = short (y tt)
 
 -- a pass over a tape that has the room writes the record
 written : {f : Format} {s : List ℕ} {p b : ℕ} {tape : List ℕ} {v : Value} {q l : ℕ} {r : Step} {t₂ : List ℕ}
-    → settle b (trace f s p) ≡ taken v q l → length (words f v) ≤ length tape → Reads f s (Taken (from p b)) tape r t₂
+    → settle b (trace f s p) ≡ taken v q l → length (words f v) ≤ length tape → Reads f s (Ok (from p b)) tape r t₂
     → t₂ ≡ words f v ++ drop (length (words f v)) tape
 written {f} {tape = tape} {v = v} i h (takes {v = u} k) =
     let e : v ≡ u = cc (i, k.settles) in
@@ -191,7 +185,7 @@ written i h (refuses k) = let z : ◌≡◌ {A = ℕ} 0 1 = cc (i, k.settles) in
 
 -- What a call that takes w words leaves on the tape: they are the record's.
 record Recorded (f : Format) (s : List ℕ) (p b : ℕ) (r₀ : Step) (tape : List ℕ) (w : ℕ) (t₂ : List ℕ) : Type 0 where
-  is : (v : Value) (k o : ℕ) → r₀ ≡ Taken (from p b) → settle b (trace f s p) ≡ taken v k o
+  is : (v : Value) (k o : ℕ) → r₀ ≡ Ok (from p b) → settle b (trace f s p) ≡ taken v k o
       → length (words f v) ≤ length tape → w ≡ length (words f v) → t₂ ≡ words f v ++ drop (length (words f v)) tape
 
 module _ {f : Format} {s : List ℕ} {p b : ℕ} {r₀ r : Step} {tape t₂ : List ℕ} {w : ℕ} where
@@ -210,58 +204,58 @@ module _ {f : Format} {s : List ℕ} {p b : ℕ} {r₀ r : Step} {tape t₂ : Li
             y ∙ rw (u, j, take-append_seam, zero-add);
       }
 
-closed-taken : (p b room : ℕ) (r : Step) {q : Answer} {w i n l : ℕ} → q ≡ closed p b room r → q ≡ Answer.Taken w i n l
-    → (c : Cursor) × (r ≡ Taken c) × (w ≡ c.at) × (c.at ≤ room)
-closed-taken p b room (Refused x) e j = let no : ◌≡◌ {A = ℕ} 0 1 = cc in absurd (omega arith)
-closed-taken p b room (Taken c) {w = w} e j = go (closed-as p b room c) (sym e ∙ j)
+closed-taken : (p b room : ℕ) (r : Step) {q : Answer} {w : call.Taken} → q ≡ closed p b room r → q ≡ Ok w
+    → (c : Cursor) × (r ≡ Ok c) × (w.words ≡ c.at) × (c.at ≤ room)
+closed-taken p b room (Err x) e j = let no : ⊥ = cc in absurd no
+closed-taken p b room (Ok c) {w = w} e j = go (closed-as p b room c) (sym e ∙ j)
   where
-    go : {a : Answer} {i n l : ℕ} → Closed p b room c a → a ≡ Answer.Taken w i n l
-        → (d : Cursor) × (Taken c ≡ Taken d) × (w ≡ d.at) × (d.at ≤ room)
+    go : {a : Answer} → Closed p b room c a → a ≡ Ok w
+        → (d : Cursor) × (◌≡◌ {A = Step} (Ok c) (Ok d)) × (w.words ≡ d.at) × (d.at ≤ room)
     go (fits h) j = (c, refl, cc, h)
-    go (short h) j = let no : ◌≡◌ {A = ℕ} 0 1 = cc in absurd (omega arith)
+    go (short h) j = let no : ⊥ = cc in absurd no
 
 module _ (f : Format) (t : Trace Value) (p b : ℕ) (tape : List ℕ) where
   closing-denied : {x : Refusal} → settle b t ≡ refused (wrong_of x) x.place x.left
-      → vob.closing f p b tape (settle b t) ≡ record { answer = answer_of (Answer.Refused x); tape = tape }
+      → vob.closing f p b tape (settle b t) ≡ record { answer = answer_of (Err x); tape = tape }
   closing-denied i = ap (vob.closing f p b tape) i
 
   closing-short : {v : Value} {c : Cursor} → settle b t ≡ taken v c.place c.left → c.at ≡ length (words f v)
       → length tape < c.at
-      → vob.closing f p b tape (settle b t) ≡ record { answer = answer_of (Answer.Refused (refusal (vob.no_room_for c.at (length tape)) c.place c.left)); tape = tape }
+      → vob.closing f p b tape (settle b t) ≡ record { answer = answer_of (Err (refusal (vob.no_room_for c.at (length tape)) c.place c.left)); tape = tape }
   unfolding pick
   closing-short {v} {c} i m h = let h' : length tape < length (words f v) = omega arith in ap (vob.closing f p b tape) i ∙ rw (lt-leb _ _ h', m)
 
   closing-fits : {v : Value} {c : Cursor} → settle b t ≡ taken v c.place c.left → c.at ≡ length (words f v)
       → c.at ≤ length tape
-      → vob.closing f p b tape (settle b t) ≡ record { answer = answer_of (Answer.Taken c.at (c.place - p) (b - c.left) c.left); tape = words f v ++ drop (length (words f v)) tape }
+      → vob.closing f p b tape (settle b t) ≡ record { answer = answer_of (Ok (record { words = c.at; bytes = c.place - p; charged = b - c.left; left = c.left })); tape = words f v ++ drop (length (words f v)) tape }
   unfolding pick
   closing-fits {v} {c} i m h = let h' : length (words f v) ≤ length tape = omega arith in ap (vob.closing f p b tape) i ∙ rw (le-leb _ _ h', m)
 
   -- refused: the tape is as it was
   short-so : {v : Value} {c : Cursor} {q : Answer} {x : Refusal} → settle b t ≡ taken v c.place c.left
-      → c.at ≡ length (words f v) → Closed p b (length tape) c q → q ≡ Answer.Refused x
+      → c.at ≡ length (words f v) → Closed p b (length tape) c q → q ≡ Err x
       → vob.closing f p b tape (settle b t) ≡ record { answer = answer_of q; tape = tape }
   short-so i m (fits h) e = let z : ◌≡◌ {A = ℕ} 0 1 = cc in absurd (omega arith)
   short-so i m (short h) e = closing-short i m h
 
   refused-so : {s : List ℕ} {r₀ r : Step} {q : Answer} {x : Refusal} → Passed f t s p b r₀ r
-      → q ≡ closed p b (length tape) r → q ≡ Answer.Refused x
+      → q ≡ closed p b (length tape) r → q ≡ Err x
       → vob.closing f p b tape (settle b t) ≡ record { answer = answer_of q; tape = tape }
   refused-so (denied {x = y} i) e j = closing-denied i ∙ rw e
   refused-so (passed {c = c} o i k m) e j = rw e (short-so i m (closed-as p b (length tape) c) (sym e ∙ j))
 
-  fits-so : {v : Value} {c : Cursor} {q : Answer} {t₂ : List ℕ} {w n m l : ℕ}
+  fits-so : {v : Value} {c : Cursor} {q : Answer} {t₂ : List ℕ} {w : call.Taken}
       → settle b t ≡ taken v c.place c.left → c.at ≡ length (words f v) → Closed p b (length tape) c q
-      → q ≡ Answer.Taken w n m l
-      → (length (words f v) ≤ length tape → w ≡ length (words f v) → t₂ ≡ words f v ++ drop (length (words f v)) tape)
+      → q ≡ Ok w
+      → (length (words f v) ≤ length tape → w.words ≡ length (words f v) → t₂ ≡ words f v ++ drop (length (words f v)) tape)
       → vob.closing f p b tape (settle b t) ≡ record { answer = answer_of q; tape = t₂ }
-  fits-so i j (short h) e z = let no : ◌≡◌ {A = ℕ} 0 1 = cc in absurd (omega arith)
+  fits-so i j (short h) e z = let no : ⊥ = cc in absurd no
   fits-so i j (fits h) e z = closing-fits i j h ∙ rw (z (omega arith) (cc))
 
-  taken-so : {s : List ℕ} {r₀ r : Step} {q : Answer} {t₂ : List ℕ} {w n m l : ℕ} → Passed f t s p b r₀ r
-      → q ≡ closed p b (length tape) r → q ≡ Answer.Taken w n m l → Recorded f s p b r₀ tape w t₂
+  taken-so : {s : List ℕ} {r₀ r : Step} {q : Answer} {t₂ : List ℕ} {w : call.Taken} → Passed f t s p b r₀ r
+      → q ≡ closed p b (length tape) r → q ≡ Ok w → Recorded f s p b r₀ tape w.words t₂
       → vob.closing f p b tape (settle b t) ≡ record { answer = answer_of q; tape = t₂ }
-  taken-so (denied i) e j z = let no : ◌≡◌ {A = ℕ} 0 1 = cc in absurd (omega arith)
+  taken-so (denied i) e j z = let no : ⊥ = cc in absurd no
   taken-so (passed {c = c} o i k m) e j z = rw e (fits-so i m (closed-as p b (length tape) c) (sym e ∙ j) (z.is _ _ _ o k))
 
 nil : (e : List ℕ) → length e ≡ 0 → e ≡ []
@@ -277,19 +271,19 @@ module _ (set : Settings) (n : ℕ) (x : Section) {s : List ℕ} {p b : ℕ} {r�
   pub section-since : Since p b r
   section-since = passed-since section-passed
 
-  pub section-accepted : {g : Bool} {room : ℕ} {q : Answer} {w i c l : ℕ} → Closes p b room r q
-      → q ≡ Answer.Taken w i c l → Accepted g (section set n x) s r₀
+  pub section-accepted : {g : Bool} {room : ℕ} {q : Answer} {w : call.Taken} → Closes p b room r q
+      → q ≡ Ok w → Accepted g (section set n x) s r₀
   section-accepted {room = room} m j = passed-accepted section-passed (closed-taken p b room r m.is j).1
 
   module _ {t : List ℕ} {q : Answer} (z : length e ≡ 0) (m : Closes p b (length (e ++ t)) r q) where
-    pub section-refused : {y : Refusal} → q ≡ Answer.Refused y → SectionCall set n x s p b t q (e ++ t)
+    pub section-refused : {y : Refusal} → q ≡ Err y → SectionCall set n x s p b t (Err y) (e ++ t)
     unfolding vob.section_outcome
-    section-refused j = let i = nil e z in record { is = rw i (refused-so _ _ p b t section-passed (m.is ∙ rw i) j) }
+    section-refused j = let i = nil e z in rw (← j) (record { is = rw i (refused-so _ _ p b t section-passed (m.is ∙ rw i) j) })
 
-    pub section-taken : {w i c l : ℕ} {r₂ : Step} {t₂ : List ℕ} → q ≡ Answer.Taken w i c l
-        → Reader (section set n x) s r₀ (e ++ t) r₂ t₂ → SectionCall set n x s p b t q t₂
+    pub section-taken : {w : call.Taken} {r₂ : Step} {t₂ : List ℕ} → q ≡ Ok w
+        → Reader (section set n x) s r₀ (e ++ t) r₂ t₂ → SectionCall set n x s p b t (Ok w) t₂
     unfolding vob.section_outcome
-    section-taken j k₂ = let i = nil e z in record { is = taken-so _ _ p b t section-passed (m.is ∙ rw i) j (twice (rw i at k₂.reads)) }
+    section-taken j k₂ = let i = nil e z in rw (← j) (record { is = taken-so _ _ p b t section-passed (m.is ∙ rw i) j (twice (rw i at k₂.reads)) })
 
 -- ---- the call on a whole pack
 
@@ -307,18 +301,18 @@ module _ (set : Settings) {s : List ℕ} {b : ℕ} {r₀ r : Step} {t₀ e : Lis
   read-since = passed-since whole-passed
 
   module _ {t : List ℕ} {q : Answer} (z : length e ≡ 0) (m : Closes 0 b (length (e ++ t)) (ended (length s) r) q) where
-    pub read-refused : {y : Refusal} → q ≡ Answer.Refused y → ReadCall set s b t q (e ++ t)
+    pub read-refused : {y : Refusal} → q ≡ Err y → ReadCall set s b t (Err y) (e ++ t)
     unfolding vob.read_outcome
-    read-refused j = let i = nil e z in record { is = rw i (refused-so _ _ 0 b t whole-passed (m.is ∙ rw i) j) }
+    read-refused j = let i = nil e z in rw (← j) (record { is = rw i (refused-so _ _ 0 b t whole-passed (m.is ∙ rw i) j) })
 
-    pub read_taken : {w i c l : ℕ} {r₂ : Step} {t₂ : List ℕ} → q ≡ Answer.Taken w i c l
-        → Reader (pack set) s r₀ (e ++ t) r₂ t₂ → ReadCall set s b t q t₂
+    pub read_taken : {w : call.Taken} {r₂ : Step} {t₂ : List ℕ} → q ≡ Ok w
+        → Reader (pack set) s r₀ (e ++ t) r₂ t₂ → ReadCall set s b t (Ok w) t₂
     unfolding vob.read_outcome
-    read_taken j k₂ = let i = nil e z in record { is = taken-so _ _ 0 b t whole-passed (m.is ∙ rw i) j (twice (rw i at k₂.reads)) }
+    read_taken j k₂ = let i = nil e z in rw (← j) (record { is = taken-so _ _ 0 b t whole-passed (m.is ∙ rw i) j (twice (rw i at k₂.reads)) })
 
-  module _ {room : ℕ} {q : Answer} {w i n l : ℕ} (m : Closes 0 b room (ended (length s) r) q) (j : q ≡ Answer.Taken w i n l) where
+  module _ {room : ℕ} {q : Answer} {w : call.Taken} (m : Closes 0 b room (ended (length s) r) q) (j : q ≡ Ok w) where
     -- a call that takes a pack has the room
-    pub read-room : w ≤ room
+    pub read-room : w.words ≤ room
     read-room = let d = closed-taken 0 b room (ended (length s) r) m.is j in omega (arith, d.2, d.3)
 
     pub read-accepted : {g : Bool} → Accepted g (pack set) s r₀
@@ -326,17 +320,17 @@ module _ (set : Settings) {s : List ℕ} {b : ℕ} {r₀ r : Step} {t₀ e : Lis
 
   -- a small pack: read over a tape of its own
   module _ {t : List ℕ} {q : Answer} (m : Closes 0 b (length t) (ended (length s) r) q) where
-    pub small-refused : {y : Refusal} → q ≡ Answer.Refused y → ReadCall set s b t q t
+    pub small-refused : {y : Refusal} → q ≡ Err y → ReadCall set s b t (Err y) t
     unfolding vob.read_outcome
-    small-refused j = record { is = refused-so _ _ 0 b t whole-passed m.is j }
+    small-refused j = rw (← j) (record { is = refused-so _ _ 0 b t whole-passed m.is j })
 
-    pub small-taken : {w i c l : ℕ} {t₂ : List ℕ} → w ≤ length t₀ → q ≡ Answer.Taken w i c l → t₂ ≡ paste t 0 e w
-        → ReadCall set s b t (Answer.Taken w i c l) t₂
+    pub small-taken : {w : call.Taken} {t₂ : List ℕ} → w.words ≤ length t₀ → q ≡ Ok w → t₂ ≡ paste t 0 e w.words
+        → ReadCall set s b t (Ok w) t₂
     unfolding vob.read_outcome
     small-taken {t₂ = t₂} h j y = let a : ReadCall set s b t q t₂ = record { is = taken-so _ _ 0 b t whole-passed m.is j (once h k.reads y) } in rw j at a
 
     -- and a second time, where its record is longer than that
-    pub small-again : {w i c l : ℕ} {r₂ : Step} {t₂ : List ℕ} → q ≡ Answer.Taken w i c l
-        → Reader (pack set) s r₀ t r₂ t₂ → ReadCall set s b t (Answer.Taken w i c l) t₂
+    pub small-again : {w : call.Taken} {r₂ : Step} {t₂ : List ℕ} → q ≡ Ok w
+        → Reader (pack set) s r₀ t r₂ t₂ → ReadCall set s b t (Ok w) t₂
     unfolding vob.read_outcome
     small-again {t₂ = t₂} j k₂ = let a : ReadCall set s b t q t₂ = record { is = taken-so _ _ 0 b t whole-passed m.is j (twice k₂.reads) } in rw j at a

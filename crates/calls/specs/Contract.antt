@@ -1,20 +1,22 @@
 -- The contracts of the public calls: the answer and the tape at exit are the outcome that vob24 defines.
-use Rattle.std.specs.Prelude.{ℕ, ◌-◌, ◌≤◌, ◌≡◌, List, length, leb, eqb}
+use Rattle.std.specs.Prelude.{ℕ, ◌-◌, ◌≤◌, ◌≡◌, List, Result, Ok, Err, length, leb, eqb}
 use Rattle.format.specs.Trace.{wrong, pick}
 use Rattle.vob24.specs.Refusals
 use Rattle.vob24.specs.Settings.{Settings, max_pack_bytes}
 use Rattle.vob24.specs.Grammar.{Section}
 use Rattle.vob24.specs.Calls as vob
-use Rattle.reader.specs.Contract.{refusal, wrong_of, Ready}
+use Rattle.reader.specs.Contract.{refusal, wrong_of, Ready, Step}
 use Rattle.reader.specs.declared.Cursor.{Cursor}
-use Rattle.reader.specs.declared.Step.{Step}
-use Rattle.reader.specs.declared.Step.TheVariants.{Taken, Refused}
-use Rattle.calls.specs.declared.Answer.{Answer}
+use Rattle.reader.specs.declared.Refusal.{Refusal}
+use Rattle.calls.specs.declared.Taken as call
 
--- Document 01's number and values for each case of an answer.
+-- What a public call answers: what it has taken, or the refusal. Document 01's number and values for each case.
+abbrev pub Answer : Type 0
+Answer = Result call.Taken Refusal
+
 abbrev pub answer_of : Answer → vob.Answer
-answer_of (Answer.Taken w n c l) = vob.Taken w n c l
-answer_of (Answer.Refused x) = vob.Refused (wrong_of x) x.place x.left
+answer_of (Ok x) = vob.Taken x.words x.bytes x.charged x.left
+answer_of (Err x) = vob.Refused (wrong_of x) x.place x.left
 
 -- THE contract of the call on a whole pack.
 pub record ReadCall (set : Settings) (s : List ℕ) (b : ℕ) (t : List ℕ) (q : Answer) (t' : List ℕ) : Type 0 where
@@ -32,8 +34,8 @@ from p b = record { place = p; left = b; at = 0 }
 unfoldable pub opened : List ℕ → ℕ → ℕ → Step
 opened s p b =
     pick (leb (length s) max_pack_bytes)
-    (pick (leb p (length s)) (Taken (from p b)) (Refused (refusal (wrong Refusals.unexpected_eof 0) p b)))
-    (Refused (refusal (vob.too_large (length s)) p b))
+    (pick (leb p (length s)) (Ok (from p b)) (Err (refusal (wrong Refusals.unexpected_eof 0) p b)))
+    (Err (refusal (vob.too_large (length s)) p b))
 
 pub record Opens (s : List ℕ) (p b : ℕ) (r : Step) : Type 0 where
   pub is : r ≡ opened s p b
@@ -41,16 +43,16 @@ pub record Opens (s : List ℕ) (p b : ℕ) (r : Step) : Type 0 where
 
 -- Nothing after the end.
 abbrev pub ended : ℕ → Step → Step
-ended n (Taken c) = pick (eqb c.place n) (Taken c) (Refused (refusal (wrong Refusals.trailing_bytes (n - c.place)) c.place c.left))
-ended n (Refused x) = Refused x
+ended n (Ok c) = pick (eqb c.place n) (Ok c) (Err (refusal (wrong Refusals.trailing_bytes (n - c.place)) c.place c.left))
+ended n (Err x) = Err x
 
 -- The answer after a first pass, from the length of the tape.
 abbrev pub closed : ℕ → ℕ → ℕ → Step → Answer
-closed p b room (Taken c) =
+closed p b room (Ok c) =
     pick (leb c.at room)
-    (Answer.Taken c.at (c.place - p) (b - c.left) c.left)
-    (Answer.Refused (refusal (vob.no_room_for c.at room) c.place c.left))
-closed p b room (Refused x) = Answer.Refused x
+    (Ok (record { words = c.at; bytes = c.place - p; charged = b - c.left; left = c.left }))
+    (Err (refusal (vob.no_room_for c.at room) c.place c.left))
+closed p b room (Err x) = Err x
 
 pub record Ends (n : ℕ) (r q : Step) : Type 0 where
   pub is : q ≡ ended n r
@@ -60,9 +62,9 @@ pub record Closes (p b room : ℕ) (r : Step) (q : Answer) : Type 0 where
 
 -- A pass gives back no byte and no budget.
 pub record Since (p b : ℕ) (r : Step) : Type 0 where
-  pub place : (c : Cursor) → r ≡ Taken c → p ≤ c.place
-  pub left : (c : Cursor) → r ≡ Taken c → c.left ≤ b
+  pub place : (c : Cursor) → r ≡ Ok c → p ≤ c.place
+  pub left : (c : Cursor) → r ≡ Ok c → c.left ≤ b
 
 -- It stays within n bytes.
 pub record StaysWithin (n : ℕ) (r : Step) : Type 0 where
-  pub place : (c : Cursor) → r ≡ Taken c → c.place ≤ n
+  pub place : (c : Cursor) → r ≡ Ok c → c.place ≤ n

@@ -11,15 +11,13 @@ use reader::{Cursor, Refusal, Step, numbers};
 
 const MAX_PACK_BYTES: usize = 134_217_728;
 
-#[derive(Clone, Copy)]
-pub enum Answer {
-    Taken {
-        words: usize,
-        bytes: usize,
-        charged: u64,
-        left: u64,
-    },
-    Refused(Refusal),
+// Words on the tape, bytes of the pack, the sum charged, and the budget left.
+#[derive(Clone, Copy, PartialEq, Eq, Debug)]
+pub struct Taken {
+    pub words: usize,
+    pub bytes: usize,
+    pub charged: u64,
+    pub left: u64,
 }
 
 // Question 1, then a place past the end; both show place and budget as given.
@@ -28,7 +26,7 @@ pub fn opening(pack: &[u8], place: usize, budget: u64) -> Step
 {
     let n = pack.len();
     if MAX_PACK_BYTES < n {
-        return Step::Refused(Refusal {
+        return Err(Refusal {
             number: numbers::INPUT_TOO_LARGE,
             context: 0,
             detail1: n as u64,
@@ -38,7 +36,7 @@ pub fn opening(pack: &[u8], place: usize, budget: u64) -> Step
         });
     }
     if n < place {
-        return Step::Refused(Refusal {
+        return Err(Refusal {
             number: numbers::UNEXPECTED_EOF,
             context: 0,
             detail1: 0,
@@ -47,7 +45,7 @@ pub fn opening(pack: &[u8], place: usize, budget: u64) -> Step
             left: budget,
         });
     }
-    Step::Taken(Cursor {
+    Ok(Cursor {
         place,
         left: budget,
         at: 0,
@@ -59,14 +57,12 @@ pub fn ended(first: Step, length: usize) -> Step
     requires { StaysWithin length first }
     ensures { Ends length first result }
 {
-    let Step::Taken(c) = first else {
-        return first;
-    };
+    let c = first?;
     let place = c.place;
     if place == length {
-        return first;
+        return Ok(c);
     }
-    Step::Refused(Refusal {
+    Err(Refusal {
         number: numbers::TRAILING_BYTES,
         context: 0,
         detail1: (length - place) as u64,
@@ -77,32 +73,28 @@ pub fn ended(first: Step, length: usize) -> Step
 }
 
 // The tape long enough? The answer of a call after its first pass.
-pub fn closed(first: Step, place: usize, budget: u64, room: usize) -> Answer
+pub fn closed(first: Step, place: usize, budget: u64, room: usize) -> Result<Taken, Refusal>
     requires { Since place budget first }
     ensures { Closes place budget room first result }
 {
-    match first {
-        Step::Refused(x) => Answer::Refused(x),
-        Step::Taken(c) => {
-            let words = c.at;
-            if room < words {
-                return Answer::Refused(Refusal {
-                    number: numbers::NO_ROOM,
-                    context: 0,
-                    detail1: words as u64,
-                    detail2: room as u64,
-                    place: c.place,
-                    left: c.left,
-                });
-            }
-            Answer::Taken {
-                words,
-                bytes: c.place - place,
-                charged: budget - c.left,
-                left: c.left,
-            }
-        }
+    let c = first?;
+    let words = c.at;
+    if room < words {
+        return Err(Refusal {
+            number: numbers::NO_ROOM,
+            context: 0,
+            detail1: words as u64,
+            detail2: room as u64,
+            place: c.place,
+            left: c.left,
+        });
     }
+    Ok(Taken {
+        words,
+        bytes: c.place - place,
+        charged: budget - c.left,
+        left: c.left,
+    })
 }
 
 // The first n words of a tape, to another.
@@ -110,11 +102,7 @@ pub fn copy_record(from: &[u32], n: usize, to: &mut [u32])
     requires { (n ≤ length from.now) × (n ≤ length to.old) }
     ensures { to.new ≡ paste to.old 0 from.now n }
 {
-    let mut i = 0;
-    while i < n {
-        to[i] = from[i];
-        i += 1;
-    }
+    to[..n].copy_from_slice(&from[..n]);
 }
 
 // ---- the call on a whole pack
@@ -125,7 +113,7 @@ pub fn opening_whole(pack: &[u8], budget: u64) -> Step
     opening(pack, 0, budget)
 }
 
-pub fn closed_whole(first: Step, length: usize, budget: u64, room: usize) -> Answer
+pub fn closed_whole(first: Step, length: usize, budget: u64, room: usize) -> Result<Taken, Refusal>
     requires stays_within { StaysWithin length first }
     requires since { Since 0 budget (ended length first) }
     ensures { Closes 0 budget room (ended length first) result }

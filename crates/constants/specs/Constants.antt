@@ -9,25 +9,13 @@ use Rattle.vob24.specs.Settings as of
 use Rattle.vob24.specs.Settings.{Settings}
 use Rattle.vob24.specs.Fields.{variant_of}
 use Rattle.vob24.specs.Grammar as vob
-use Rattle.reader.specs.declared.Step.{Step}
-use Rattle.reader.specs.declared.Step.TheVariants.{Taken, Refused}
 use Rattle.constants.specs.declared.answers.Constant.{Constant}
-use Rattle.constants.specs.declared.answers.ConstantRead.{ConstantRead}
 
 abbrev pub constant_format : Format
 constant_format = vob.constant
 
 abbrev pub constant_list : Settings → Format
 constant_list set = vob.list set of.Constant vob.constant
-
-abbrev pub step_of_constant : ConstantRead → Step
-step_of_constant (ConstantRead.Got x c) = Taken c
-step_of_constant (ConstantRead.Not x) = Refused x
-
--- where it is refused, nothing is said of this
-abbrev pub record_of_constant : ConstantRead → Constant
-record_of_constant (ConstantRead.Got x c) = x
-record_of_constant (ConstantRead.Not x) = Constant.Nil
 
 -- what stands behind the tag
 abbrev pub bool_of : Value → Constant

@@ -1,17 +1,10 @@
-// The answer for a constant, and the answer of its reader.
-use reader::{Cursor, Refusal};
+// The answer for a constant: in a file of its own, as a name that differs from `constant` in case alone.
 
-#[derive(Clone, Copy)]
+#[derive(Clone, Copy, PartialEq, Debug)]
 pub enum Constant {
     Nil,
     Bool(bool),
     Int(i64),
     Float(f64),
     Text { start: usize, length: usize },
-}
-
-#[derive(Clone, Copy)]
-pub enum ConstantRead {
-    Got(Constant, Cursor),
-    Not(Refusal),
 }

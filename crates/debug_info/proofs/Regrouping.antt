@@ -1,4 +1,5 @@
 -- Parts read one after the other, grouped otherwise: the same words, the same place and budget, or the same refusal.
+use Rattle.std.specs.Prelude.{Ok, Err}
 use Prim.Native.Nat.{ℕ, suc, zero, ◌+◌, ◌*◌, ◌<◌, ◌^◌}
 use mathlib.Core.Path.{◌≡◌, refl, ap, sym, ◌∙◌}
 use mathlib.Core.List.{List}
@@ -13,20 +14,16 @@ use Rattle.format.specs.SettleTheorems.{then_s}
 use Rattle.format.proofs.TraceTheorems.{leaf-ends, settle-seq}
 use Rattle.vob24.specs.Leaves.{source_u32}
 use Rattle.vob24.specs.Grammar as vob
-use Rattle.reader.specs.Contract.{wrong_of, Ready, Takes, Refuses, Reads, takes, refuses, skips, Reader, NumberOf}
+use Rattle.reader.specs.Contract.{wrong_of, Ready, Takes, Refuses, Reads, takes, refuses, skips, Reader, NumberOf, Step, Read}
 use Rattle.reader.specs.declared.Cursor.{Cursor}
 use Rattle.reader.specs.declared.Refusal.{Refusal}
-use Rattle.reader.specs.declared.Step.{Step}
-use Rattle.reader.specs.declared.Step.TheVariants.{Taken, Refused}
-use Rattle.reader.specs.declared.Number.{Number}
-use Rattle.reader.specs.declared.Number.TheVariants.{Got}
 use Rattle.reader.proofs.Laws.{sets-append, takes-ends, ready_at, got_of, then_reads, then-takes, then-refuses, seq-refuses}
 use Rattle.debug_info.specs.DebugInfo.{location_format}
 
 -- A reading of a sequence is one of its first part, and then one of the rest.
 data Parted (f : Format) (g : Value → Format) (s : List ℕ) (c : Cursor) (t : List ℕ) : Step → List ℕ → Type 0 where
-  stops : {x : Refusal} {t' : List ℕ} → Refuses f s c x → Parted f g s c t (Refused x) t'
-  goes : {v : Value} {d : Cursor} {t₁ t' : List ℕ} {q : Step} → Takes f s c t v d t₁ → Reads (g v) s (Taken d) t₁ q t'
+  stops : {x : Refusal} {t' : List ℕ} → Refuses f s c x → Parted f g s c t (Err x) t'
+  goes : {v : Value} {d : Cursor} {t₁ t' : List ℕ} {q : Step} → Takes f s c t v d t₁ → Reads (g v) s (Ok d) t₁ q t'
       → Parted f g s c t q t'
 
 module _ (f : Format) (g : Value → Format) (s : List ℕ) (c : Cursor) (t : List ℕ) where
@@ -34,18 +31,18 @@ module _ (f : Format) (g : Value → Format) (s : List ℕ) (c : Cursor) (t : Li
       → Takes f s c t v (record { place = p; left = l; at = c.at + length (words f v) }) (sets t c.at (words f v))
   first_taken e = record { settles = e; moves = refl; writes = refl }
 
-  parted-taken : {v : Value} {d : Cursor} {t' : List ℕ} → Takes (seq f g) s c t v d t' → Parted f g s c t (Taken d) t'
+  parted-taken : {v : Value} {d : Cursor} {t' : List ℕ} → Takes (seq f g) s c t v d t' → Parted f g s c t (Ok d) t'
   unfolding then_s words
   parted-taken {v} {d} {t'} h = go (settle c.left (trace f s c.place)) refl (sym (settle-seq c.left f g s c.place) ∙ h.settles)
     where
       go : (r : Settled Value) → settle c.left (trace f s c.place) ≡ r
           → then_s r (λ v q l. then_s (settle l (trace (g v) s q)) (λ w r m. taken (pair v w) r m)) ≡ taken v d.place d.left
-          → Parted f g s c t (Taken d) t'
+          → Parted f g s c t (Ok d) t'
       go (refused w p l) e k = let no : ◌≡◌ {A = ℕ} 0 1 = cc in absurd (omega arith)
       go (taken a p l) e k = on (settle l (trace (g a) s p)) refl k
         where
           on : (r : Settled Value) → settle l (trace (g a) s p) ≡ r
-              → then_s r (λ w r m. taken (pair a w) r m) ≡ taken v d.place d.left → Parted f g s c t (Taken d) t'
+              → then_s r (λ w r m. taken (pair a w) r m) ≡ taken v d.place d.left → Parted f g s c t (Ok d) t'
           on (refused w p' l') e' k' = let no : ◌≡◌ {A = ℕ} 0 1 = cc in absurd (omega arith)
           on (taken b p' l') e' k' =
               let i : p' ≡ d.place = cc in
@@ -57,30 +54,30 @@ module _ (f : Format) (g : Value → Format) (s : List ℕ) (c : Cursor) (t : Li
               record { settles = rw (← i, ← j) e'; moves = m ∙ omega (arith, length-append (words f a) (words (g a) b)); writes = w ∙ sets-append t c.at (words f a) (words (g a) b) } in
               goes (first_taken e) (takes k)
 
-  parted-refused : {x : Refusal} {t' : List ℕ} → Refuses (seq f g) s c x → Parted f g s c t (Refused x) t'
+  parted-refused : {x : Refusal} {t' : List ℕ} → Refuses (seq f g) s c x → Parted f g s c t (Err x) t'
   unfolding then_s
   parted-refused {x} {t'} h = go (settle c.left (trace f s c.place)) refl (sym (settle-seq c.left f g s c.place) ∙ h.settles)
     where
       go : (r : Settled Value) → settle c.left (trace f s c.place) ≡ r
           → then_s r (λ v q l. then_s (settle l (trace (g v) s q)) (λ w r m. taken (pair v w) r m)) ≡ refused (wrong_of x) x.place x.left
-          → Parted f g s c t (Refused x) t'
+          → Parted f g s c t (Err x) t'
       go (refused w p l) e k = stops (record { settles = e ∙ k })
       go (taken a p l) e k = on (settle l (trace (g a) s p)) refl k
         where
           on : (r : Settled Value) → settle l (trace (g a) s p) ≡ r
               → then_s r (λ w r m. taken (pair a w) r m) ≡ refused (wrong_of x) x.place x.left
-              → Parted f g s c t (Refused x) t'
+              → Parted f g s c t (Err x) t'
           on (refused w p' l') e' k' = goes (first_taken e) (refuses (record { settles = e' ∙ k' }))
           on (taken b p' l') e' k' = let no : ◌≡◌ {A = ℕ} 0 1 = cc in absurd (omega arith)
 
 parted : {f : Format} {g : Value → Format} {s : List ℕ} {c : Cursor} {t t' : List ℕ} {q : Step}
-    → Reads (seq f g) s (Taken c) t q t' → Parted f g s c t q t'
+    → Reads (seq f g) s (Ok c) t q t' → Parted f g s c t q t'
 parted {f} {g} {s} {c} {t} (takes h) = parted-taken f g s c t h
 parted {f} {g} {s} {c} {t} (refuses h) = parted-refused f g s c t h
 
 -- From a reading of one format to one of another.
 record Turned (f g : Format) : Type 0 where
-  turn : (s : List ℕ) (c : Cursor) (t t' : List ℕ) (q : Step) → Reads f s (Taken c) t q t' → Reads g s (Taken c) t q t'
+  turn : (s : List ℕ) (c : Cursor) (t t' : List ℕ) (q : Step) → Reads f s (Ok c) t q t' → Reads g s (Ok c) t q t'
 
 turned : {f g h : Format} → Turned f g → Turned g h → Turned f h
 turned a b = record { turn = λ s c t t' q r. b.turn s c t t' q (a.turn s c t t' q r) }
@@ -89,7 +86,7 @@ turn-rest : {f g h : Format} → Turned g h → Turned (f ▸ g) (f ▸ h)
 turn-rest {f} {g} {h} k = record { turn = λ s c t t' q r. go (parted r) }
   where
     go : {s : List ℕ} {c : Cursor} {t t' : List ℕ} {q : Step} → Parted f (λ _. g) s c t q t'
-        → Reads (f ▸ h) s (Taken c) t q t'
+        → Reads (f ▸ h) s (Ok c) t q t'
     go (stops e) = refuses (seq-refuses e)
     go (goes e m) = then_reads e (k.turn _ _ _ _ _ m)
 
@@ -97,12 +94,12 @@ turn-left : {f g h : Format} → Turned (f ▸ (g ▸ h)) ((f ▸ g) ▸ h)
 turn-left {f} {g} {h} = record { turn = λ s c t t' q r. go (parted r) }
   where
     on : {s : List ℕ} {c d : Cursor} {t t₁ t' : List ℕ} {v : Value} {q : Step} → Takes f s c t v d t₁
-        → Parted g (λ _. h) s d t₁ q t' → Reads ((f ▸ g) ▸ h) s (Taken c) t q t'
+        → Parted g (λ _. h) s d t₁ q t' → Reads ((f ▸ g) ▸ h) s (Ok c) t q t'
     on e (stops k) = refuses (seq-refuses (then-refuses e k))
     on e (goes k m) = then_reads (then-takes e k) m
 
     go : {s : List ℕ} {c : Cursor} {t t' : List ℕ} {q : Step} → Parted f (λ _. g ▸ h) s c t q t'
-        → Reads ((f ▸ g) ▸ h) s (Taken c) t q t'
+        → Reads ((f ▸ g) ▸ h) s (Ok c) t q t'
     go (stops e) = refuses (seq-refuses (seq-refuses e))
     go (goes e m) = on e (parted m)
 
@@ -129,8 +126,8 @@ locations-of n e h = record { reads = go (rw e at h.reads); ready = h.ready }
     go (refuses k) = (in-fives n).turn _ _ _ _ _ (refuses k)
 
 -- a list's count is within the pack, so that five times as much is a 64-bit number
-pub numbers_fit : {ρ : Rule} {k z : ℕ} {s : List ℕ} {r : Step} {c d : Cursor} {t t₁ : List ℕ} {q : Number} {n : ℕ}
-    → Ready s r → r ≡ Taken c → q ≡ Got n d → NumberOf (leaf (count ρ 1 k z)) number s c t q t₁ → n * 5 < 2 ^ 64
+pub numbers_fit : {ρ : Rule} {k z : ℕ} {s : List ℕ} {r : Step} {c d : Cursor} {t t₁ : List ℕ} {q : Read ℕ} {n : ℕ}
+    → Ready s r → r ≡ Ok c → q ≡ Ok (n, d) → NumberOf (leaf (count ρ 1 k z)) number s c t q t₁ → n * 5 < 2 ^ 64
 unfolding trace
 numbers_fit {ρ} {k} {z} {s} {r} {c} {d} {t} {t₁} {q} {n} y i e h =
     let g = got_of e h in

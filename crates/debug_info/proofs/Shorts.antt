@@ -1,4 +1,5 @@
 -- The laws of short packed numbers: read off the eight bytes that begin with them.
+use Rattle.std.specs.Prelude.{Ok}
 use Prim.Native.Nat.{ℕ, suc, zero, ◌+◌, ◌-◌, ◌*◌, ◌/◌, ◌%◌, ◌≤◌, ◌<◌}
 use mathlib.Core.Path.{◌≡◌, refl, sym, ◌∙◌}
 use mathlib.Core.Bool.{Bool, true, false}
@@ -15,11 +16,9 @@ use Rattle.format.specs.Record.{words, words_leaf}
 use Rattle.format.specs.Layout.{Bytes}
 use Rattle.format.specs.SettleTheorems.{then_s, settle-bind}
 use Rattle.vob24.specs.Leaves.{source_u32}
-use Rattle.reader.specs.Contract.{ReadyAt}
+use Rattle.reader.specs.Contract.{ReadyAt, Read}
 use Rattle.reader.specs.Leaves.{Fetches, Fetched}
 use Rattle.reader.specs.declared.Cursor.{Cursor}
-use Rattle.reader.specs.declared.Number.{Number}
-use Rattle.reader.specs.declared.Number.TheVariants.{Got}
 use Rattle.reader.proofs.Gather.{read, read_take}
 use Rattle.reader.proofs.Leaves.{fetched}
 use Rattle.reader.proofs.Settles.{guard-yes, field-yes}
@@ -131,7 +130,7 @@ runs-begun {s} {c} {w} {v = v} k r h i a =
     refl
 
 -- the eight bytes were there
-module _ {s : List ℕ} {c d : Cursor} {x : ℕ} {q : Number} (g : q ≡ Got x d) (f : Fetches 8 s c q) (r : ReadyAt s c) {n : ℕ} {t t' : List ℕ} {z : Rest} where
+module _ {s : List ℕ} {c d : Cursor} {x : ℕ} {q : Read ℕ} (g : q ≡ Ok (x, d)) (f : Fetches 8 s c q) (r : ReadyAt s c) {n : ℕ} {t t' : List ℕ} {z : Rest} where
   pub runs-eight : 8 ≤ n → bit_and x 9259542123273814144 ≡ 0 → Copied (1 ∷ []) 8 s c.place t c.at t'
       → z ≡ record { items = n - 8; at = advanced c 8 8 } → Runs source_u32 s c t n z t'
   runs-eight h o a e =

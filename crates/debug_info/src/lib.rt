@@ -3,46 +3,42 @@
 // debug_info/inline.rs.
 #![tactic(auto)]
 
-ghost use Rattle.std.specs.Prelude.{◌≡◌, ◌+◌, ◌*◌, ◌%◌, ◌≤◌, ◌<◌, min};
+ghost use Rattle.std.specs.Prelude.{Bool, IfSome, false, ◌≡◌, ◌+◌, ◌*◌, ◌%◌, ◌≤◌, ◌<◌};
 ghost use Rattle.format.specs.Format.{times};
 ghost use Rattle.vob24.specs.Settings.{settings_of};
-ghost use Rattle.vob24.specs.Leaves.{optional, source_u32};
+ghost use Rattle.vob24.specs.Leaves.{optional, source_u32, str};
 ghost use Rattle.reader.specs.Contract.{Ready, ReadyAt, Reader, NumberOf};
 ghost use Rattle.lists.specs.Runs.{Runs};
 ghost use Rattle.debug_info.specs.Packs.{Packs};
 ghost use Rattle.debug_info.specs.DebugInfo.{file_list, location_list, function_locations, span_format, frame_format, frame_list, entry_format, function_format, entries_of, function_list, inline_format};
 
-use lists::Rest;
-use reader::{Cursor, Number, Step, numbers, sizes};
+use lists::{Entry, Rest};
+use reader::{Cursor, Read, Step, numbers, sizes};
 use vob24_data::Settings;
+
+struct File;
+
+impl Entry for File {
+    ghost format = { λ _. str };
+
+    ghost again = { λ _. false };
+
+    fn read(&self, s: &[u8], r: Step, tape: &mut [u32]) -> Step {
+        fields::field_str(s, r, tape)
+    }
+}
 
 pub fn files(s: &[u8], set: &Settings, r: Step, tape: &mut [u32]) -> Step
     requires { Ready s.now r }
     ensures { Reader (file_list (settings_of set.now)) s.now r tape.old result
         tape.new }
 {
-    let Step::Taken(c) = r else {
-        return r;
-    };
-    let q = fields::number_count(s, set, c, sizes::STRING, tape);
-    let Number::Got(n, d) = q else {
-        return reader::step_of(q);
-    };
-    let mut k = n;
-    let mut here = Step::Taken(d);
-    while 0 < k {
-        here = fields::field_str(s, here, tape);
-        let Step::Taken(_) = here else {
-            return here;
-        };
-        k -= 1;
-    }
-    here
+    lists::read_list(s, set, r, sizes::STRING, &File, tape)
 }
 
 // ---- packed numbers
 
-// A packed number and its length; length 0: not one of 1 to 4 bytes.
+// A packed number and its length.
 #[derive(Clone, Copy)]
 struct Short {
     value: u32,
@@ -58,50 +54,49 @@ fn gathered(byte: u64, after: u32) -> u32
 }
 
 // The packed number that begins the eight bytes of x, where it has at most four: no fifth byte, so no test of one.
-fn short_number(x: u64) -> Short
-    ensures { (result.bytes ≤ 4) × (0 < result.bytes → Packs 4 0 x result.value result.bytes) }
+fn short_number(x: u64) -> Option<Short>
+    ensures { IfSome result (λ q. (q.bytes ≤ 4) × Packs 4 0 x q.value q.bytes) }
 {
-    let none = Short { value: 0, bytes: 0 };
     let a = x & 0xff;
     if a < 0x80 {
-        return Short {
+        return Some(Short {
             value: a as u32,
             bytes: 1,
-        };
+        });
     }
     let y = x >> 8;
     let b = y & 0xff;
     if b < 0x80 {
         if b == 0 {
-            return none;
+            return None;
         }
-        return Short {
+        return Some(Short {
             value: gathered(a, b as u32),
             bytes: 2,
-        };
+        });
     }
     let z = y >> 8;
     let c = z & 0xff;
     if c < 0x80 {
         if c == 0 {
-            return none;
+            return None;
         }
-        return Short {
+        return Some(Short {
             value: gathered(a, gathered(b, c as u32)),
             bytes: 3,
-        };
+        });
     }
     let d = z >> 8 & 0xff;
     if d < 0x80 {
         if d == 0 {
-            return none;
+            return None;
         }
-        return Short {
+        return Some(Short {
             value: gathered(a, gathered(b, gathered(c, d as u32))),
             bytes: 4,
-        };
+        });
     }
-    none
+    None
 }
 
 // From the next eight bytes: eight numbers of one byte each; else one of 1 to 4 bytes and, if it took one byte, a
@@ -110,8 +105,7 @@ fn short_numbers(s: &[u8], c: Cursor, n: u64, tape: &mut [u32]) -> Rest
     requires { ReadyAt s.now c × (0 < n) }
     ensures { Runs source_u32 s.now c tape.old n result tape.new × (result.items ≤ n) }
 {
-    let bytes = reader::read_u64(s, c);
-    let Number::Got(x, _) = bytes else {
+    let Ok((x, _)) = reader::read_u64(s, c) else {
         return Rest { items: n, at: c };
     };
     let place = c.place;
@@ -127,26 +121,22 @@ fn short_numbers(s: &[u8], c: Cursor, n: u64, tape: &mut [u32]) -> Rest
             }
         }
     }
-    let number = short_number(x);
-    let taken = number.bytes;
-    if taken == 0 {
+    let Some(first) = short_number(x) else {
         return Rest { items: n, at: c };
-    }
-    reader::put(tape, at, number.value);
-    if taken == 1 {
+    };
+    reader::put(tape, at, first.value);
+    if first.bytes == 1 {
         if 2 <= n {
-            let second = short_number(x >> 8);
-            let more = second.bytes;
-            if more != 0 {
+            if let Some(second) = short_number(x >> 8) {
                 reader::put(tape, at + 1, second.value);
-                return lists::remaining(c, n, 2, 1 + more, 2);
+                return lists::remaining(c, n, 2, 1 + second.bytes, 2);
             }
         }
     }
-    lists::remaining(c, n, 1, taken, 1)
+    lists::remaining(c, n, 1, first.bytes, 1)
 }
 
-// Short numbers, one after the other, as many as there are.
+// Short numbers, one after the other, as many as there are. A step takes one, two or eight, so that no range counts them.
 fn short_run(s: &[u8], c: Cursor, n: u64, tape: &mut [u32]) -> Rest
     requires { ReadyAt s.now c }
     ensures { Runs source_u32 s.now c tape.old n result tape.new × (result.items ≤ n) }
@@ -155,57 +145,49 @@ fn short_run(s: &[u8], c: Cursor, n: u64, tape: &mut [u32]) -> Rest
     let mut here = c;
     while 0 < k {
         let rest = short_numbers(s, here, k, tape);
-        let left = rest.items;
-        if left == k {
+        if rest.items == k {
             return rest;
         }
-        let next = rest.at;
-        here = next;
-        k = left;
+        here = rest.at;
+        k = rest.items;
     }
     Rest { items: k, at: here }
 }
 
-// n packed numbers, one after the other: short ones as runs, any other by its leaf.
-fn source_numbers(s: &[u8], r: Step, n: u64, tape: &mut [u32]) -> Step
-    requires { Ready s.now r }
-    ensures { Reader (times source_u32 n) s.now r tape.old result tape.new }
+// n packed numbers, one after the other: short ones as runs, any other by its leaf. A run takes any number of them, so
+// that no range counts the steps.
+fn source_numbers(s: &[u8], c: Cursor, n: u64, tape: &mut [u32]) -> Step
+    requires { ReadyAt s.now c }
+    ensures { Reader (times source_u32 n) s.now (Ok c) tape.old result tape.new }
 {
-    let Step::Taken(c) = r else {
-        return r;
-    };
     let first = short_run(s, c, n, tape);
-    let start = first.at;
     let mut k = first.items;
-    let mut here = Step::Taken(start);
+    let mut here = first.at;
     while 0 < k {
-        here = fields::field_source_u32(s, here, tape);
-        let Step::Taken(d) = here else {
-            return here;
-        };
+        let d = fields::field_source_u32(s, Ok(here), tape)?;
         let run = short_run(s, d, k - 1, tape);
-        let next = run.at;
-        here = Step::Taken(next);
+        here = run.at;
         k = run.items;
     }
-    here
+    Ok(here)
 }
 
 // One function's: pc, file_id, line, col and len of each, all packed. They are read as one run of numbers, which keeps
 // the loop tight.
-fn locations(s: &[u8], set: &Settings, r: Step, tape: &mut [u32]) -> Step
-    requires { Ready s.now r }
-    ensures { Reader (location_list (settings_of set.now)) s.now r tape.old result
-        tape.new }
-{
-    let Step::Taken(c) = r else {
-        return r;
-    };
-    let q = fields::number_count(s, set, c, sizes::DEBUG_LOC, tape);
-    let Number::Got(n, d) = q else {
-        return reader::step_of(q);
-    };
-    source_numbers(s, Step::Taken(d), n * 5, tape)
+#[derive(Drop)]
+struct Locations<'a> {
+    set: &'a Settings,
+}
+
+impl Entry for Locations<'_> {
+    ghost format = { λ x. location_list (settings_of x.set.now) };
+
+    ghost again = { λ _. false };
+
+    fn read(&self, s: &[u8], r: Step, tape: &mut [u32]) -> Step {
+        let (n, d) = fields::number_count(s, self.set, r?, sizes::DEBUG_LOC, tape)?;
+        source_numbers(s, d, n * 5, tape)
+    }
 }
 
 pub fn function_locations(s: &[u8], set: &Settings, r: Step, tape: &mut [u32]) -> Step
@@ -213,23 +195,7 @@ pub fn function_locations(s: &[u8], set: &Settings, r: Step, tape: &mut [u32]) -
     ensures { Reader (function_locations (settings_of set.now)) s.now r tape.old
         result tape.new }
 {
-    let Step::Taken(c) = r else {
-        return r;
-    };
-    let q = fields::number_count(s, set, c, sizes::FUNC_DEBUG_INFO, tape);
-    let Number::Got(n, d) = q else {
-        return reader::step_of(q);
-    };
-    let mut k = n;
-    let mut here = Step::Taken(d);
-    while 0 < k {
-        here = locations(s, set, here, tape);
-        let Step::Taken(_) = here else {
-            return here;
-        };
-        k -= 1;
-    }
-    here
+    lists::read_list(s, set, r, sizes::FUNC_DEBUG_INFO, &Locations { set }, tape)
 }
 
 // ---- inline sources
@@ -248,27 +214,25 @@ fn optional_span(s: &[u8], r: Step, tape: &mut [u32]) -> Step
     requires { Ready s.now r }
     ensures { Reader (optional span_format) s.now r tape.old result tape.new }
 {
-    let Step::Taken(c) = r else {
-        return r;
-    };
-    let q = fields::number_bool(s, c, tape);
-    let Number::Got(n, d) = q else {
-        return reader::step_of(q);
-    };
-    let here = Step::Taken(d);
+    let (n, d) = fields::number_bool(s, r?, tape)?;
     if n == 0 {
-        return here;
+        return Ok(d);
     }
-    span(s, here, tape)
+    span(s, Ok(d), tape)
 }
 
-fn inline_frame(s: &[u8], r: Step, tape: &mut [u32]) -> Step
-    requires { Ready s.now r }
-    ensures { Reader frame_format s.now r tape.old result tape.new }
-{
-    let parent = fields::field_u32(s, r, tape);
-    let function_id = fields::field_u32(s, parent, tape);
-    optional_span(s, function_id, tape)
+struct Frame;
+
+impl Entry for Frame {
+    ghost format = { λ _. frame_format };
+
+    ghost again = { λ _. false };
+
+    fn read(&self, s: &[u8], r: Step, tape: &mut [u32]) -> Step {
+        let parent = fields::field_u32(s, r, tape);
+        let function_id = fields::field_u32(s, parent, tape);
+        optional_span(s, function_id, tape)
+    }
 }
 
 fn inline_frames(s: &[u8], set: &Settings, r: Step, tape: &mut [u32]) -> Step
@@ -276,53 +240,40 @@ fn inline_frames(s: &[u8], set: &Settings, r: Step, tape: &mut [u32]) -> Step
     ensures { Reader (frame_list (settings_of set.now)) s.now r tape.old result
         tape.new }
 {
-    let Step::Taken(c) = r else {
-        return r;
-    };
     let most = vob24_data::inline_records(set);
-    let q = fields::number_debug_count(
+    let (n, d) = fields::number_debug_count(
         s,
         set,
-        c,
+        r?,
         numbers::INLINE_FRAMES,
         most,
         sizes::INLINE_SOURCE_FRAME,
         tape,
-    );
-    let Number::Got(n, d) = q else {
-        return reader::step_of(q);
-    };
-    let mut k = n;
-    let mut here = Step::Taken(d);
-    while 0 < k {
-        here = inline_frame(s, here, tape);
-        let Step::Taken(_) = here else {
-            return here;
-        };
-        k -= 1;
-    }
-    here
+    )?;
+    lists::entries(s, Ok(d), n, &Frame, tape)
 }
 
-fn inline_entry(s: &[u8], r: Step, tape: &mut [u32]) -> Step
-    requires { Ready s.now r }
-    ensures { Reader entry_format s.now r tape.old result tape.new }
-{
-    let pc = fields::field_u32(s, r, tape);
-    fields::field_u32(s, pc, tape)
+struct InlineEntry;
+
+impl Entry for InlineEntry {
+    ghost format = { λ _. entry_format };
+
+    ghost again = { λ _. false };
+
+    fn read(&self, s: &[u8], r: Step, tape: &mut [u32]) -> Step {
+        let pc = fields::field_u32(s, r, tape);
+        fields::field_u32(s, pc, tape)
+    }
 }
 
 // A function with at most `left` entries. Also returns their count.
-fn inline_function(s: &[u8], set: &Settings, c: Cursor, left: u64, tape: &mut [u32]) -> Number
+fn inline_function(s: &[u8], set: &Settings, c: Cursor, left: u64, tape: &mut [u32]) -> Read<u64>
     requires { ReadyAt s.now c }
     ensures { NumberOf (function_format (settings_of set.now) left) entries_of s.now c
         tape.old result tape.new }
 {
-    let p = fields::number_u32(s, c, tape);
-    let Number::Got(_, d) = p else {
-        return p;
-    };
-    let q = fields::number_debug_count(
+    let (_, d) = fields::number_u32(s, c, tape)?;
+    let (n, e) = fields::number_debug_count(
         s,
         set,
         d,
@@ -330,64 +281,36 @@ fn inline_function(s: &[u8], set: &Settings, c: Cursor, left: u64, tape: &mut [u
         left,
         sizes::INLINE_SOURCE_ENTRY,
         tape,
-    );
-    let Number::Got(n, e) = q else {
-        return q;
-    };
-    let mut k = n;
-    let mut here = Step::Taken(e);
-    while 0 < k {
-        here = inline_entry(s, here, tape);
-        let Step::Taken(_) = here else {
-            return reader::number_of(n, here);
-        };
-        k -= 1;
-    }
-    reader::number_of(n, here)
+    )?;
+    let g = lists::entries(s, Ok(e), n, &InlineEntry, tape)?;
+    Ok((n, g))
 }
 
-fn smaller(a: u64, b: u64) -> u64
-    ensures { result ≡ min a b }
-{
-    if a < b { a } else { b }
-}
-
-// The limit of the frames is also that of the functions, and of all their entries together.
+// The limit of the frames is also that of the functions, and of all their entries together: what one function leaves of
+// it is the limit of the next, so that they are not entries of a list.
 fn inline_functions(s: &[u8], set: &Settings, r: Step, functions: u64, tape: &mut [u32]) -> Step
     requires { Ready s.now r }
     ensures { Reader (function_list (settings_of set.now) functions) s.now r
         tape.old result tape.new }
 {
-    let Step::Taken(c) = r else {
-        return r;
-    };
     let all = vob24_data::inline_records(set);
-    let most = smaller(functions, all);
-    let q = fields::number_debug_count(
+    let (n, d) = fields::number_debug_count(
         s,
         set,
-        c,
+        r?,
         numbers::INLINE_FUNCTIONS,
-        most,
+        functions.min(all),
         sizes::INLINE_FUNCTION_SOURCES,
         tape,
-    );
-    let Number::Got(n, d) = q else {
-        return reader::step_of(q);
-    };
-    let mut k = n;
+    )?;
     let mut here = d;
     let mut left = all;
-    while 0 < k {
-        let p = inline_function(s, set, here, left, tape);
-        let Number::Got(m, e) = p else {
-            return reader::step_of(p);
-        };
+    for _ in 0..n {
+        let (m, e) = inline_function(s, set, here, left, tape)?;
         here = e;
         left -= m;
-        k -= 1;
     }
-    Step::Taken(here)
+    Ok(here)
 }
 
 pub fn inline_sources(s: &[u8], set: &Settings, r: Step, functions: u64, tape: &mut [u32]) -> Step

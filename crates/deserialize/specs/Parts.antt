@@ -1,5 +1,5 @@
 -- The sections from one of them on, as parts of the pack's format.
-use Rattle.std.specs.Prelude.{ℕ, suc, zero, List, [], ◌∷◌, get_or, drop}
+use Rattle.std.specs.Prelude.{ℕ, suc, zero, List, [], ◌∷◌, get_or, drop, Ok, Err}
 use Rattle.format.specs.Format.{Value, first, Format, empty, seq, counted}
 use Rattle.vob24.specs.Settings.{Settings}
 use Rattle.vob24.specs.Grammar as vob
@@ -9,8 +9,7 @@ use Rattle.vob24.specs.Fields.{after}
 use Rattle.vob24.specs.Cost.{all_sections}
 use Rattle.vob24_theorems.specs.InTurn.{functions_after}
 use Rattle.vob24_data.specs.declared.Section.{Section}
-use Rattle.reader.specs.declared.Number.{Number}
-use Rattle.reader.specs.declared.Number.TheVariants.{Got, Not}
+use Rattle.reader.specs.Contract.{Read}
 
 -- one section
 abbrev pub format_of : Settings → Section → Format
@@ -39,6 +38,6 @@ functions_before zero v = 0
 functions_before (suc i) v = functions_by (functions_before i v) (get_or all_sections i inline_sources) (first (after i v))
 
 -- The number of functions of an answer: what the sections after them go by.
-abbrev pub count_of : Number → ℕ
-count_of (Got n c) = n
-count_of (Not x) = 0
+abbrev pub count_of : Read ℕ → ℕ
+count_of (Ok (n, c)) = n
+count_of (Err x) = 0

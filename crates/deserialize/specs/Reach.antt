@@ -1,14 +1,12 @@
 -- Reading on to a section of a pack that is taken.
-use Rattle.std.specs.Prelude.{ℕ, ◌+◌, ◌≤◌, ◌≡◌, List, length}
+use Rattle.std.specs.Prelude.{ℕ, ◌+◌, ◌≤◌, ◌≡◌, List, length, Ok}
 use Rattle.format.specs.Format.{Value, Format}
 use Rattle.format.specs.Reading.{little, part}
 use Rattle.vob24.specs.Settings.{Settings}
 use Rattle.vob24.specs.Grammar.{pack}
 use Rattle.vob24.specs.Fields.{after}
-use Rattle.reader.specs.Contract.{Ready, On}
+use Rattle.reader.specs.Contract.{Ready, On, Step}
 use Rattle.reader.specs.declared.Cursor.{Cursor}
-use Rattle.reader.specs.declared.Step.{Step}
-use Rattle.reader.specs.declared.Step.TheVariants.{Taken}
 use Rattle.in_place.specs.Contract.{Items}
 use Rattle.in_place.specs.Walk.{items_at}
 use Rattle.deserialize.specs.Parts.{from_number, functions_before}
@@ -23,7 +21,7 @@ pub record Reaches (set : Settings) (i : ℕ) (s : List ℕ) (r r' : Step) : Typ
 -- Where r stands there is a list of f, with these entries: a count, and as many items behind it.
 pub record ListStands (f : Format) (vs : List Value) (s : List ℕ) (r : Step) : Type 0 where
   pub cursor : Cursor
-  pub is : r ≡ Taken cursor
+  pub is : r ≡ Ok cursor
   pub count : cursor.place + 4 ≤ length s
   pub items : Items f (little (part s cursor.place 4)) s (cursor.place + 4)
   pub entries : vs ≡ items_at f (little (part s cursor.place 4)) s (cursor.place + 4)

@@ -11,7 +11,7 @@ ghost use Rattle.reader.specs.Accepted.{Accepted};
 ghost use Rattle.deserialize.specs.Parts.{format_of, from_section, count_of};
 ghost use Rattle.deserialize.specs.Reach.{Reaches};
 
-use reader::{Number, Step};
+use reader::{Read, Step};
 use vob24_data::{Section, Settings};
 
 // The artifacts and the debug information: five lists, of which the inline sources have two, all empty in a small pack.
@@ -20,11 +20,9 @@ fn artifacts_on(s: &[u8], set: &Settings, r: Step, functions: u64, tape: &mut [u
     ensures { Reader (from_section (settings_of set.now) functions vob.artifacts) s.now r
         tape.old result tape.new }
 {
-    let Step::Taken(c) = r else {
-        return r;
-    };
+    let c = r?;
     if empty_lists::empty_at(s, c, 5) {
-        return Step::Taken(empty_lists::past_empty(s, c, 5, tape));
+        return Ok(empty_lists::past_empty(s, c, 5, tape));
     }
     let r1 = small_sections::artifacts(s, set, r, tape);
     let r2 = debug_info::files(s, set, r1, tape);
@@ -46,24 +44,19 @@ fn after_functions(s: &[u8], set: &Settings, r: Step, functions: u64, tape: &mut
 
 // The constants, globals and functions: three lists, which are empty in a pack without code. Also returns the number of
 // functions.
-fn number_code(s: &[u8], set: &Settings, r: Step, tape: &mut [u32]) -> Number
+fn number_code(s: &[u8], set: &Settings, r: Step, tape: &mut [u32]) -> Read<u64>
     requires { Ready s.now r }
     ensures { ComesTo (from_section (settings_of set.now) 0 vob.constants)
         (from_section (settings_of set.now) (count_of result) vob.externs) s.now r tape.old
         (step_of result) tape.new }
 {
-    let Step::Taken(c) = r else {
-        return reader::number_of(0, r);
-    };
+    let c = r?;
     if empty_lists::empty_at(s, c, 3) {
-        return Number::Got(0, empty_lists::past_empty(s, c, 3, tape));
+        return Ok((0, empty_lists::past_empty(s, c, 3, tape)));
     }
     let r1 = constants::constants(s, set, r, tape);
     let r2 = small_sections::globals(s, set, r1, tape);
-    let Step::Taken(d) = r2 else {
-        return reader::number_of(0, r2);
-    };
-    functions::number_functions(s, set, d, tape)
+    functions::number_functions(s, set, r2?, tape)
 }
 
 // The constants, and the sections after them.
@@ -72,11 +65,8 @@ fn constants_on(s: &[u8], set: &Settings, r: Step, tape: &mut [u32]) -> Step
     ensures { Reader (from_section (settings_of set.now) 0 vob.constants) s.now r
         tape.old result tape.new }
 {
-    let q = number_code(s, set, r, tape);
-    let Number::Got(n, d) = q else {
-        return reader::step_of(q);
-    };
-    after_functions(s, set, Step::Taken(d), n, tape)
+    let (n, d) = number_code(s, set, r, tape)?;
+    after_functions(s, set, Ok(d), n, tape)
 }
 
 // The types: five lists, which are empty in a small pack.
@@ -86,11 +76,9 @@ fn types(s: &[u8], set: &Settings, r: Step, again: bool, tape: &mut [u32]) -> St
         (from_section (settings_of set.now) 0 vob.well_known) s.now r tape.old result
         tape.new }
 {
-    let Step::Taken(c) = r else {
-        return r;
-    };
+    let c = r?;
     if empty_lists::empty_at(s, c, 5) {
-        return Step::Taken(empty_lists::past_empty(s, c, 5, tape));
+        return Ok(empty_lists::past_empty(s, c, 5, tape));
     }
     let r1 = structs::structs(s, set, r, again, tape);
     let r2 = interfaces::interfaces(s, set, r1, again, tape);
@@ -154,12 +142,9 @@ pub fn to_section(s: &[u8], set: &Settings, to: Section, r: Step, tape: &mut [u3
 {
     let r1 = fields::field_magic(s, r, tape);
     let mut here = fields::field_version(s, r1, tape);
-    let last = vob24_data::section_number(to);
-    let mut i = 0;
-    while i < last {
+    for i in 0..vob24_data::section_number(to) {
         let x = vob24_data::section_at(i);
         here = section(s, set, x, here, true, tape);
-        i += 1;
     }
     here
 }

@@ -1,23 +1,13 @@
 -- The laws of empty lists.
-use Prim.Native.Nat.{ℕ, suc, zero, ◌+◌, ◌-◌, ◌*◌, ◌≤◌, ◌<◌}
-use mathlib.Core.Path.{◌≡◌, refl, ap, ◌∙◌}
-use mathlib.Core.List.{List}
-use mathlib.Core.Bool.{true}
-use mathlib.Core.Logic.{⊎_elim}
-use native.Mathlib.Omega.{arith}
-use native.Mathlib.Numerals.{add-one}
-use lib.ListN.{length}
+use Rattle.std.proofs.Common.{ℕ, suc, zero, ◌+◌, ◌-◌, ◌*◌, ◌≤◌, ◌<◌, ◌≡◌, refl, ap, ◌∙◌, List, true, arith, length, Ok}
 use Rattle.format.specs.Trace.{settle, taken, end}
 use Rattle.format.specs.Format.{Value, num, none, pair, number, Rule, count, Format, leaf, seq, chain, times}
 use Rattle.format.specs.Reading.{trace_leaf, trace}
 use Rattle.format.specs.Record.{words, words_leaf}
-use Rattle.vob24.specs.Ranges.{lt-or-ge}
-use Rattle.reader.specs.Contract.{ReadyAt, Takes, takes, Reader, ComesTo, Kept}
+use Rattle.reader.specs.Contract.{ReadyAt, Takes, takes, Reader, ComesTo}
 use Rattle.reader.specs.declared.Cursor.{Cursor}
-use Rattle.reader.specs.declared.Step.TheVariants.{Taken}
 use Rattle.reader.proofs.Settles.{guard-yes, room-yes, field-yes, pay-yes}
 use Rattle.reader.proofs.Laws.{then_reads, then-takes}
-use Rattle.in_place.specs.Contract.{WordIs}
 use Rattle.empty_lists.specs.Empty.{Zero, Zeros, cursor_past, cursor_after, tape_after, PastEmpty}
 
 -- ---- the loops
@@ -30,48 +20,11 @@ pub record Looked (s : List ℕ) (p n sum i : ℕ) : Type 0 where
   pub below : sum ≤ 4294967296 * i
   pub zeros : sum ≡ 0 → Zeros s p i
 
-pub looked-start : {s : List ℕ} {p n : ℕ} → n ≤ 5 → p ≤ length s → 4 * n ≤ length s - p → Looked s p n 0 0
-looked-start h y k =
-    record { upto = omega arith; few = h; room = omega arith; below = omega arith; zeros = λ _. record { each = λ j l. absurd (omega arith) } }
-
-pub looked-more : {s : List ℕ} {p n sum i w : ℕ} → i < n → Looked s p n sum i → WordIs s (p + 4 * i) w
-    → Looked s p n (sum + w) (i + 1)
-looked-more {s} {p} {n} {sum} {i} {w} h l y =
-    record {
-      upto = omega arith;
-      few = l.few;
-      room = l.room;
-      below = omega (arith, l.below, y.below);
-      zeros = λ e. record { each = λ j k. ⊎_elim (λ m. (l.zeros (omega arith)).each j m) (λ m. last e j k m) (lt-or-ge j i) };
-    }
-  where
-    last : sum + w ≡ 0 → (j : ℕ) → j < i + 1 → i ≤ j → Zero s (p + 4 * j)
-    last e j k m =
-        let x : j ≡ i = omega arith in rw x (record { room = omega (arith, l.room); is = omega (arith, y.is) })
-
-pub looked-all : {s : List ℕ} {p n sum i : ℕ} → n ≤ i → Looked s p n sum i → sum ≡ 0 → Zeros s p n
-looked-all {n = n} {i = i} h l e = let x : n ≡ i = omega (arith, l.upto) in rw x (l.zeros e)
-
 -- i of n lists were passed
 pub record Passed (n : ℕ) (c : Cursor) (t : List ℕ) (here : Cursor) (t' : List ℕ) (i : ℕ) : Type 0 where
   pub upto : i ≤ n
   pub past : PastEmpty i c t here t'
   pub long : length t' ≡ length t
-
-pub passed_start : {n : ℕ} {c : Cursor} {t : List ℕ} → Passed n c t c t 0
-passed_start = record { upto = omega arith; past = record { is = refl; writes = refl }; long = refl }
-
-pub passed-more : {n i : ℕ} {c c₁ c₂ : Cursor} {t t₁ t₂ : List ℕ} → i < n → Passed n c t c₁ t₁ i → PastEmpty 1 c₁ t₁ c₂ t₂
-    → length t₂ ≡ length t₁ → Passed n c t c₂ t₂ (i + 1)
-passed-more {i = i} h l p e =
-    rw (add-one i) (record { upto = omega arith; past = record { is = rw (p.is, l.past.is); writes = rw (p.writes, l.past.writes, l.past.is) }; long = e ∙ l.long })
-
-pub passed-all : {n i : ℕ} {c d : Cursor} {t t' : List ℕ} → n ≤ i → Passed n c t d t' i → PastEmpty n c t d t'
-passed-all {n} {i} h l = let x : n ≡ i = omega (arith, l.upto) in rw x l.past
-
-pub past_of : {c d : Cursor} {t t' : List ℕ} → Kept c 0 t d t'
-    → PastEmpty 1 c t (record { place = c.place + 4; left = c.left; at = d.at }) t'
-past_of {c} {d} k = let e : d.at ≡ c.at + 1 = ap (λ (x : Cursor). x.at) k.is in record { is = rw e; writes = k.writes }
 
 -- ---- one of them
 
@@ -123,15 +76,15 @@ module _ {s : List ℕ} {c : Cursor} {n : ℕ} (r : ReadyAt s c) (o : Zeros s c.
     -- and as a reader's answer
     pub empty_chain : {S : Type 0} (f : S → Format) (u : S → Value → S) (x : S) {ρ : Rule} {m l z : ℕ}
         → ρ.test 0 ≡ true
-        → Reader (seq (leaf (count ρ m l z)) (λ v. chain f u x (number v))) s (Taken (cursor_after k c)) (tape_after k c t) (Taken (cursor_after (suc k) c)) (tape_after (suc k) c t)
+        → Reader (seq (leaf (count ρ m l z)) (λ v. chain f u x (number v))) s (Ok (cursor_after k c)) (tape_after k c t) (Ok (cursor_after (suc k) c)) (tape_after (suc k) c t)
     empty_chain f u x i = record { reads = takes (empty_takes f u x i); ready = ready-after (suc k) (omega arith) }
 
     -- a list of like items
     pub empty_read : (f : Format) {ρ : Rule} {m l z : ℕ} → ρ.test 0 ≡ true
-        → Reader (seq (leaf (count ρ m l z)) (λ v. times f (number v))) s (Taken (cursor_after k c)) (tape_after k c t) (Taken (cursor_after (suc k) c)) (tape_after (suc k) c t)
+        → Reader (seq (leaf (count ρ m l z)) (λ v. times f (number v))) s (Ok (cursor_after k c)) (tape_after k c t) (Ok (cursor_after (suc k) c)) (tape_after (suc k) c t)
     empty_read f i = empty_chain {S = Unit {0}} (λ _. f) (λ _ _. tt) tt i
 
     -- such a list, and a rest that goes by its value
     pub empty_comes : (f : Format) {ρ : Rule} {m l z : ℕ} {g : Value → Format} → ρ.test 0 ≡ true
-        → ComesTo (seq (seq (leaf (count ρ m l z)) (λ v. times f (number v))) g) (g (pair (num 0) none)) s (Taken (cursor_after k c)) (tape_after k c t) (Taken (cursor_after (suc k) c)) (tape_after (suc k) c t)
+        → ComesTo (seq (seq (leaf (count ρ m l z)) (λ v. times f (number v))) g) (g (pair (num 0) none)) s (Ok (cursor_after k c)) (tape_after k c t) (Ok (cursor_after (suc k) c)) (tape_after (suc k) c t)
     empty_comes f i = record { rest = λ y. then_reads (empty_takes {S = Unit {0}} (λ _. f) (λ _ _. tt) tt i) y; ready = ready-after (suc k) (omega arith) }

@@ -19,10 +19,8 @@ pub fn empty_at(s: &[u8], c: Cursor, n: usize) -> bool
         return false;
     }
     let mut sum = 0;
-    let mut i = 0;
-    while i < n {
+    for i in 0..n {
         sum += in_place::word_at(s, p + 4 * i);
-        i += 1;
     }
     sum == 0
 }
@@ -35,8 +33,7 @@ fn past(s: &[u8], c: Cursor, tape: &mut [u32]) -> Cursor
     let d = reader::keep(c, 0, tape);
     Cursor {
         place: c.place + 4,
-        left: c.left,
-        at: d.at,
+        ..d
     }
 }
 
@@ -46,10 +43,8 @@ pub fn past_empty(s: &[u8], c: Cursor, n: usize, tape: &mut [u32]) -> Cursor
     ensures { PastEmpty n c tape.old result tape.new }
 {
     let mut here = c;
-    let mut i = 0;
-    while i < n {
+    for _ in 0..n {
         here = past(s, here, tape);
-        i += 1;
     }
     here
 }

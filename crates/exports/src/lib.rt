@@ -18,21 +18,21 @@ pub extern "C" fn vob_read(pack: &[u8], budget: u64, tape: &mut [u32]) -> VobAns
     ensures { Shows (read_outcome settings pack.now budget tape.old) result
         tape.new }
 {
-    c_answers::shown(pack::read(pack, budget, tape))
+    VobAnswer::from(pack::read(pack, budget, tape))
 }
 
 #[unsafe(no_mangle)]
 pub extern "C" fn vob_find_artifact(pack: &[u8], name: &[u8]) -> VobAnswer
     ensures { result ≡ found_numbers (find_outcome settings pack.now name.now) }
 {
-    c_answers::shown_found(pack::locate_artifact(pack, name))
+    VobAnswer::from(pack::locate_artifact(pack, name))
 }
 
 #[unsafe(no_mangle)]
 pub extern "C" fn vob_alike_names(pack: &[u8]) -> VobAnswer
     ensures { result ≡ alike_numbers (alike_outcome settings pack.now) }
 {
-    c_answers::shown_alike(pack::alike_names(pack))
+    VobAnswer::from(pack::alike_names(pack))
 }
 
 // The size numbered i in the table of sizes, from 1 to 33; 0 where there is none.
@@ -43,14 +43,14 @@ pub extern "C" fn vob_charge_size(index: u64) -> u64
     vob24_data::measured_size(index as usize)
 }
 
-// ---- the sections, in file order
+// ---- the sections, in file order: one function each, since a C program links each by its name
 
 #[unsafe(no_mangle)]
 pub extern "C" fn vob_name(pack: &[u8], place: u64, budget: u64, tape: &mut [u32]) -> VobAnswer
     ensures { Shows (section_outcome settings 0 vob.name pack.now place budget tape.old) result
         tape.new }
 {
-    c_answers::shown(sections::read_section(pack, Section::Name, place as usize, budget, tape))
+    VobAnswer::from(sections::read_section(pack, Section::Name, place as usize, budget, tape))
 }
 
 #[unsafe(no_mangle)]
@@ -58,7 +58,7 @@ pub extern "C" fn vob_structs(pack: &[u8], place: u64, budget: u64, tape: &mut [
     ensures { Shows (section_outcome settings 0 vob.structs pack.now place budget tape.old)
         result tape.new }
 {
-    c_answers::shown(sections::read_section(pack, Section::Structs, place as usize, budget, tape))
+    VobAnswer::from(sections::read_section(pack, Section::Structs, place as usize, budget, tape))
 }
 
 #[unsafe(no_mangle)]
@@ -72,13 +72,7 @@ pub extern "C" fn vob_interfaces(
         (section_outcome settings 0 vob.interfaces pack.now place budget tape.old) result
         tape.new }
 {
-    c_answers::shown(sections::read_section(
-        pack,
-        Section::Interfaces,
-        place as usize,
-        budget,
-        tape,
-    ))
+    VobAnswer::from(sections::read_section(pack, Section::Interfaces, place as usize, budget, tape))
 }
 
 #[unsafe(no_mangle)]
@@ -92,13 +86,7 @@ pub extern "C" fn vob_named_types(
         (section_outcome settings 0 vob.named_types pack.now place budget tape.old) result
         tape.new }
 {
-    c_answers::shown(sections::read_section(
-        pack,
-        Section::NamedTypes,
-        place as usize,
-        budget,
-        tape,
-    ))
+    VobAnswer::from(sections::read_section(pack, Section::NamedTypes, place as usize, budget, tape))
 }
 
 #[unsafe(no_mangle)]
@@ -106,7 +94,7 @@ pub extern "C" fn vob_itabs(pack: &[u8], place: u64, budget: u64, tape: &mut [u3
     ensures { Shows (section_outcome settings 0 vob.itabs pack.now place budget tape.old) result
         tape.new }
 {
-    c_answers::shown(sections::read_section(pack, Section::Itabs, place as usize, budget, tape))
+    VobAnswer::from(sections::read_section(pack, Section::Itabs, place as usize, budget, tape))
 }
 
 #[unsafe(no_mangle)]
@@ -120,7 +108,7 @@ pub extern "C" fn vob_runtime_types(
         (section_outcome settings 0 vob.runtime_types pack.now place budget tape.old) result
         tape.new }
 {
-    c_answers::shown(sections::read_section(
+    VobAnswer::from(sections::read_section(
         pack,
         Section::RuntimeTypes,
         place as usize,
@@ -140,7 +128,7 @@ pub extern "C" fn vob_well_known(
         (section_outcome settings 0 vob.well_known pack.now place budget tape.old) result
         tape.new }
 {
-    c_answers::shown(sections::read_section(pack, Section::WellKnown, place as usize, budget, tape))
+    VobAnswer::from(sections::read_section(pack, Section::WellKnown, place as usize, budget, tape))
 }
 
 #[unsafe(no_mangle)]
@@ -149,7 +137,7 @@ pub extern "C" fn vob_constants(pack: &[u8], place: u64, budget: u64, tape: &mut
         (section_outcome settings 0 vob.constants pack.now place budget tape.old) result
         tape.new }
 {
-    c_answers::shown(sections::read_section(pack, Section::Constants, place as usize, budget, tape))
+    VobAnswer::from(sections::read_section(pack, Section::Constants, place as usize, budget, tape))
 }
 
 #[unsafe(no_mangle)]
@@ -157,7 +145,7 @@ pub extern "C" fn vob_globals(pack: &[u8], place: u64, budget: u64, tape: &mut [
     ensures { Shows (section_outcome settings 0 vob.globals pack.now place budget tape.old)
         result tape.new }
 {
-    c_answers::shown(sections::read_section(pack, Section::Globals, place as usize, budget, tape))
+    VobAnswer::from(sections::read_section(pack, Section::Globals, place as usize, budget, tape))
 }
 
 #[unsafe(no_mangle)]
@@ -166,7 +154,7 @@ pub extern "C" fn vob_functions(pack: &[u8], place: u64, budget: u64, tape: &mut
         (section_outcome settings 0 vob.functions pack.now place budget tape.old) result
         tape.new }
 {
-    c_answers::shown(sections::read_section(pack, Section::Functions, place as usize, budget, tape))
+    VobAnswer::from(sections::read_section(pack, Section::Functions, place as usize, budget, tape))
 }
 
 #[unsafe(no_mangle)]
@@ -174,7 +162,7 @@ pub extern "C" fn vob_externs(pack: &[u8], place: u64, budget: u64, tape: &mut [
     ensures { Shows (section_outcome settings 0 vob.externs pack.now place budget tape.old)
         result tape.new }
 {
-    c_answers::shown(sections::read_section(pack, Section::Externs, place as usize, budget, tape))
+    VobAnswer::from(sections::read_section(pack, Section::Externs, place as usize, budget, tape))
 }
 
 #[unsafe(no_mangle)]
@@ -182,7 +170,7 @@ pub extern "C" fn vob_entry(pack: &[u8], place: u64, budget: u64, tape: &mut [u3
     ensures { Shows (section_outcome settings 0 vob.entry pack.now place budget tape.old) result
         tape.new }
 {
-    c_answers::shown(sections::read_section(pack, Section::Entry, place as usize, budget, tape))
+    VobAnswer::from(sections::read_section(pack, Section::Entry, place as usize, budget, tape))
 }
 
 #[unsafe(no_mangle)]
@@ -196,13 +184,7 @@ pub extern "C" fn vob_island_init(
         (section_outcome settings 0 vob.island_init pack.now place budget tape.old) result
         tape.new }
 {
-    c_answers::shown(sections::read_section(
-        pack,
-        Section::IslandInit,
-        place as usize,
-        budget,
-        tape,
-    ))
+    VobAnswer::from(sections::read_section(pack, Section::IslandInit, place as usize, budget, tape))
 }
 
 #[unsafe(no_mangle)]
@@ -211,7 +193,7 @@ pub extern "C" fn vob_artifacts(pack: &[u8], place: u64, budget: u64, tape: &mut
         (section_outcome settings 0 vob.artifacts pack.now place budget tape.old) result
         tape.new }
 {
-    c_answers::shown(sections::read_section(pack, Section::Artifacts, place as usize, budget, tape))
+    VobAnswer::from(sections::read_section(pack, Section::Artifacts, place as usize, budget, tape))
 }
 
 #[unsafe(no_mangle)]
@@ -219,7 +201,7 @@ pub extern "C" fn vob_files(pack: &[u8], place: u64, budget: u64, tape: &mut [u3
     ensures { Shows (section_outcome settings 0 vob.files pack.now place budget tape.old) result
         tape.new }
 {
-    c_answers::shown(sections::read_section(pack, Section::Files, place as usize, budget, tape))
+    VobAnswer::from(sections::read_section(pack, Section::Files, place as usize, budget, tape))
 }
 
 #[unsafe(no_mangle)]
@@ -233,7 +215,7 @@ pub extern "C" fn vob_function_locations(
         (section_outcome settings 0 vob.function_locations pack.now place budget tape.old) result
         tape.new }
 {
-    c_answers::shown(sections::read_section(
+    VobAnswer::from(sections::read_section(
         pack,
         Section::FunctionLocations,
         place as usize,
@@ -254,7 +236,7 @@ pub extern "C" fn vob_inline_sources(
         (section_outcome settings functions vob.inline_sources pack.now place budget tape.old) result
         tape.new }
 {
-    c_answers::shown(sections::read_section(
+    VobAnswer::from(sections::read_section(
         pack,
         Section::InlineSources(functions),
         place as usize,

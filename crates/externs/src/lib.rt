@@ -6,7 +6,7 @@ ghost use Rattle.vob24.specs.Settings.{settings_of};
 ghost use Rattle.reader.specs.Contract.{Ready, Reader};
 ghost use Rattle.externs.specs.Externs.{extern_list};
 
-use reader::{Number, Step, numbers, sizes};
+use reader::{Step, numbers, sizes};
 use vob24_data::Settings;
 
 // There is no extern: a pack that calls its host is refused, once its count is held against the bytes left and charged.
@@ -15,15 +15,9 @@ pub fn externs(s: &[u8], set: &Settings, r: Step, tape: &mut [u32]) -> Step
     ensures { Reader (extern_list (settings_of set.now)) s.now r tape.old result
         tape.new }
 {
-    let Step::Taken(c) = r else {
-        return r;
-    };
-    let q = fields::number_count(s, set, c, sizes::EXTERN_DEF, tape);
-    let Number::Got(n, d) = q else {
-        return reader::step_of(q);
-    };
+    let (n, d) = fields::number_count(s, set, r?, sizes::EXTERN_DEF, tape)?;
     if n != 0 {
-        return Step::Refused(reader::refuse(d, numbers::HOST_CALLS, n));
+        return Err(reader::refuse(d, numbers::HOST_CALLS, n));
     }
-    Step::Taken(d)
+    Ok(d)
 }

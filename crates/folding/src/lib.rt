@@ -4,10 +4,10 @@
 
 ghost use Rattle.std.specs.Prelude.{◌≡◌, ◌+◌, ◌-◌, ◌*◌, ◌≤◌, ◌<◌, length};
 ghost use Rattle.vob24.specs.Utf8.{in?};
-ghost use Rattle.folding.specs.Contract.{more_of, FoldAt, Unread, NextIs, PrefixIs, RunIs, SameFolded, WithoutIs};
+ghost use Rattle.folding.specs.Contract.{FoldAt, past, Ready, NextIs, PrefixIs, RunIs, SameFolded, WithoutIs};
 
 // For each letter from U+00C0 to U+017F: 0 where it has none, else its base letter times 256 and the last byte of its
-// mark, whose first byte is CC.
+// mark, whose first byte is CC. As 192 pairs or options the table would be no plainer.
 const DECOMPOSED: [u16; 192] = [
     0x4180, 0x4181, 0x4182, 0x4183, 0x4188, 0x418a, 0, 0x43a7, 0x4580, 0x4581, 0x4582, 0x4588,
     0x4980, 0x4981, 0x4982, 0x4988, 0, 0x4e83, 0x4f80, 0x4f81, 0x4f82, 0x4f83, 0x4f88, 0, 0,
@@ -26,117 +26,116 @@ const DECOMPOSED: [u16; 192] = [
     0x5982, 0x7982, 0x5988, 0x5a81, 0x7a81, 0x5a87, 0x7a87, 0x5a8c, 0x7a8c, 0,
 ];
 
-fn wide(n: u16) -> u64
-    ensures { (result ≡ n) × (result < 65536) }
-{
-    n as u64
-}
-
-// Is b from low to high?
-fn within(b: u8, low: u8, high: u8) -> bool
-    ensures { result ≡ in? low high b }
-{
-    if b < low {
-        return false;
-    }
-    b <= high
-}
-
 // Does b open a letter from U+00C0 to U+017F?
 pub fn opens(b: u8) -> bool
     ensures { result ≡ in? 195 197 b }
 {
-    within(b, 195, 197)
+    matches!(b, 195..=197)
 }
 
-fn index(lead: u8, last: u8) -> usize
-    requires { (195 ≤ lead) × (lead ≤ 197) × (128 ≤ last) × (last ≤ 191) }
-    ensures { (result ≡ (lead - 195) * 64 + (last - 128)) × (result < 192) }
+// Does b end one?
+fn ends(b: u8) -> bool
+    ensures { result ≡ in? 128 191 b }
 {
-    (lead as usize - 195) * 64 + (last as usize - 128)
+    matches!(b, 128..=191)
 }
 
-// The entry of the letter that the bytes from `at` to `end` open with; 0 where they open with none of these letters.
-pub fn fold_at(s: &[u8], at: usize, end: usize) -> u64
+// A letter decomposed: its base letter, and the last byte of its mark.
+#[derive(Clone, Copy)]
+pub struct Letter {
+    pub base: u8,
+    pub mark: u8,
+}
+
+// The letter that the bytes from `at` to `end` open with, where it is one that decomposes.
+pub fn fold_at(s: &[u8], at: usize, end: usize) -> Option<Letter>
     requires { (at < end) × (end ≤ length s.now) }
     ensures { FoldAt s.now at end result }
 {
     let lead = s[at];
-    if lead < 195 {
-        return 0;
+    if !opens(lead) || end <= at + 1 {
+        return None;
     }
-    if 197 < lead {
-        return 0;
+    let last = s[at + 1];
+    if !ends(last) {
+        return None;
     }
-    let next = at + 1;
-    if end <= next {
-        return 0;
+    let entry = DECOMPOSED[(lead as usize - 195) * 64 + (last as usize - 128)];
+    if entry == 0 {
+        return None;
     }
-    let last = s[next];
-    if last < 128 {
-        return 0;
-    }
-    if 191 < last {
-        return 0;
-    }
-    wide(DECOMPOSED[index(lead, last)])
+    Some(Letter {
+        base: (entry / 256) as u8,
+        mark: (entry % 256) as u8,
+    })
 }
 
-fn byte(b: u8) -> u64
-    ensures { result ≡ b }
-{
-    b as u64
-}
-
-// The next folded byte, and what comes after it: the bytes of a mark that are still to come, then those from `at` on.
-// `held` is 0, or 256 and the last byte of a mark, or 512 and that byte where the first is to come too.
+// The bytes of a mark that are still to come.
 #[derive(Clone, Copy)]
-struct Next {
-    byte: u64,
-    held: u64,
+enum Held {
+    Nothing,
+    Last(u8),
+    Both(u8),
+}
+
+// The folded bytes of a name that are still to come: those of a mark, then what the bytes from `at` to `end` fold to.
+#[derive(Clone, Copy)]
+struct Rest {
+    held: Held,
     at: usize,
+    end: usize,
 }
 
-fn next_byte(s: &[u8], at: usize, end: usize, held: u64) -> Next
-    requires { Unread s.now at end held }
-    ensures { NextIs s.now at end held result }
-{
-    if 512 <= held {
-        return Next {
-            byte: 204,
-            held: held - 256,
-            at,
-        };
+impl Rest {
+    // The first of them, and the rest.
+    fn next(self, s: &[u8]) -> Option<(u8, Rest)>
+        requires { self.end ≤ length s.now }
+        ensures { NextIs s.now self result }
+    {
+        match self.held {
+            Held::Both(mark) => Some((
+                204,
+                Rest {
+                    held: Held::Last(mark),
+                    ..self
+                },
+            )),
+            Held::Last(mark) => Some((
+                mark,
+                Rest {
+                    held: Held::Nothing,
+                    ..self
+                },
+            )),
+            Held::Nothing => {
+                if self.end <= self.at {
+                    return None;
+                }
+                match fold_at(s, self.at, self.end) {
+                    None => Some((s[self.at], self.past(1))),
+                    Some(letter) => Some((
+                        letter.base,
+                        Rest {
+                            held: Held::Both(letter.mark),
+                            at: self.at + 2,
+                            ..self
+                        },
+                    )),
+                }
+            }
+        }
     }
-    if held != 0 {
-        return Next {
-            byte: held - 256,
-            held: 0,
-            at,
-        };
-    }
-    let fold = fold_at(s, at, end);
-    if fold == 0 {
-        return Next {
-            byte: byte(s[at]),
-            held: 0,
-            at: at + 1,
-        };
-    }
-    Next {
-        byte: fold / 256,
-        held: 512 + fold % 256,
-        at: at + 2,
-    }
-}
 
-fn more(at: usize, end: usize, held: u64) -> bool
-    ensures { result ≡ more_of at end held }
-{
-    if held != 0 {
-        return true;
+    // After n more bytes, which fold to themselves.
+    fn past(self, n: usize) -> Rest
+        requires { self.at + n ≤ self.end }
+        ensures { result ≡ past self n }
+    {
+        Rest {
+            at: self.at + n,
+            ..self
+        }
     }
-    at < end
 }
 
 // How many bytes at a and at b, up to e and f, are the same and open no letter: they fold to themselves on both sides.
@@ -144,36 +143,24 @@ fn same_prefix(s: &[u8], a: usize, e: usize, b: usize, f: usize) -> usize
     requires { (a ≤ e) × (e ≤ length s.now) × (b ≤ f) × (f ≤ length s.now) }
     ensures { PrefixIs s.now a e b f result }
 {
-    let mut p = a;
-    let mut q = b;
-    while p < e {
-        if f <= q {
-            return p - a;
+    let n = (e - a).min(f - b);
+    for i in 0..n {
+        if s[a + i] != s[b + i] || opens(s[a + i]) {
+            return i;
         }
-        if s[p] != s[q] {
-            return p - a;
-        }
-        if opens(s[p]) {
-            return p - a;
-        }
-        p += 1;
-        q += 1;
     }
-    p - a
+    n
 }
 
-// The same from a and b on where bytes of a mark may be still to come, before which nothing is passed over.
-fn same_run(s: &[u8], a: usize, e: usize, a_held: u64, b: usize, f: usize, b_held: u64) -> usize
-    requires { (a ≤ e) × (e ≤ length s.now) × (b ≤ f) × (f ≤ length s.now) }
-    ensures { RunIs s.now a e a_held b f b_held result }
+// The same of two rests where bytes of a mark may be still to come, before which nothing is passed over.
+fn same_run(s: &[u8], left: Rest, right: Rest) -> usize
+    requires { (Ready s.now left) × (Ready s.now right) }
+    ensures { RunIs s.now left right result }
 {
-    if a_held != 0 {
-        return 0;
+    match (left.held, right.held) {
+        (Held::Nothing, Held::Nothing) => { same_prefix(s, left.at, left.end, right.at, right.end) }
+        _ => 0,
     }
-    if b_held != 0 {
-        return 0;
-    }
-    same_prefix(s, a, e, b, f)
 }
 
 // Are the m bytes at a and the n bytes at b the same when folded? What they have in common is passed over wherever neither
@@ -182,31 +169,29 @@ pub fn same_folded(s: &[u8], a: usize, m: usize, b: usize, n: usize) -> bool
     requires { (a + m ≤ length s.now) × (b + n ≤ length s.now) }
     ensures { SameFolded s.now a m b n result }
 {
-    let a_end = a + m;
-    let b_end = b + n;
-    let k = same_prefix(s, a, a_end, b, b_end);
-    let mut p = a + k;
-    let mut p_held: u64 = 0;
-    let mut q = b + k;
-    let mut q_held: u64 = 0;
-    while more(p, a_end, p_held) {
-        if !more(q, b_end, q_held) {
+    let k = same_prefix(s, a, a + m, b, b + n);
+    let mut left = Rest {
+        held: Held::Nothing,
+        at: a + k,
+        end: a + m,
+    };
+    let mut right = Rest {
+        held: Held::Nothing,
+        at: b + k,
+        end: b + n,
+    };
+    while let Some((x, fore)) = left.next(s) {
+        let Some((y, back)) = right.next(s) else {
+            return false;
+        };
+        if x != y {
             return false;
         }
-        let x = next_byte(s, p, a_end, p_held);
-        let y = next_byte(s, q, b_end, q_held);
-        if x.byte != y.byte {
-            return false;
-        }
-        p = x.at;
-        p_held = x.held;
-        q = y.at;
-        q_held = y.held;
-        let run = same_run(s, p, a_end, p_held, q, b_end, q_held);
-        p += run;
-        q += run;
+        let run = same_run(s, fore, back);
+        left = fore.past(run);
+        right = back.past(run);
     }
-    !more(q, b_end, q_held)
+    right.next(s).is_none()
 }
 
 // Is none of the n bytes at p from low to high?
@@ -214,13 +199,5 @@ pub fn without(s: &[u8], p: usize, n: usize, low: u8, high: u8) -> bool
     requires { p + n ≤ length s.now }
     ensures { WithoutIs s.now p n low high result }
 {
-    let end = p + n;
-    let mut at = p;
-    while at < end {
-        if within(s[at], low, high) {
-            return false;
-        }
-        at += 1;
-    }
-    true
+    s[p..p + n].iter().all(|b| !(low..=high).contains(b))
 }

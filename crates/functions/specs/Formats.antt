@@ -19,11 +19,15 @@ transfer_format = vob.transfer
 abbrev pub transfer_list : Settings → Format
 transfer_list set = vob.list set of.TransferType transfer_format
 
+-- context is that of the meta word
+abbrev pub transfer_types : Settings → ℕ → Format
+transfer_types set context = vob.transfers set context
+
 abbrev pub capture_types : Settings → Format
-capture_types set = vob.transfers set capture_meta
+capture_types set = transfer_types set capture_meta
 
 abbrev pub param_types : Settings → Format
-param_types set = vob.transfers set parameter_meta
+param_types set = transfer_types set parameter_meta
 
 abbrev pub function_head : Format
 function_head = vob.function_head

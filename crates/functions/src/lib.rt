@@ -3,12 +3,14 @@
 // the slot count last of all. The list also returns the number of functions, which limits the inline sources.
 #![tactic(auto)]
 
+ghost use Rattle.std.specs.Prelude.{Bool, false, ◌<◌};
 ghost use Rattle.vob24.specs.Settings.{settings_of};
 ghost use Rattle.format.specs.Format.{counted};
 ghost use Rattle.reader.specs.Contract.{Ready, ReadyAt, Reader, NumberOf};
-ghost use Rattle.functions.specs.Formats.{heap_slots, code_format, transfer_format, transfer_list, capture_types, param_types, function_head, function_returns, function_traits, function_body, function_slots, function_format, function_list};
+ghost use Rattle.functions.specs.Formats.{heap_slots, code_format, transfer_format, transfer_types, function_head, function_returns, function_traits, function_body, function_slots, function_format, function_list};
 
-use reader::{Cursor, Number, Refusal, Step, numbers, sizes};
+use lists::Entry;
+use reader::{Cursor, Read, Refusal, Step, numbers, sizes};
 use vob24_data::Settings;
 
 // ---- code
@@ -19,84 +21,41 @@ fn code(s: &[u8], set: &Settings, r: Step, tape: &mut [u32]) -> Step
     ensures { Reader (code_format (settings_of set.now)) s.now r tape.old result
         tape.new }
 {
-    let Step::Taken(c) = r else {
-        return r;
-    };
-    let p = instruction::number_instructions(s, set, c, tape);
-    let Number::Got(instructions, d) = p else {
-        return reader::step_of(p);
-    };
-    let q = metadata::number_instruction_metadata(s, set, d, tape);
-    let Number::Got(metadata, e) = q else {
-        return reader::step_of(q);
-    };
+    let (instructions, d) = instruction::number_instructions(s, set, r?, tape)?;
+    let (metadata, e) = metadata::number_instruction_metadata(s, set, d, tape)?;
     if metadata != instructions {
-        return Step::Refused(reader::refuse(e, numbers::INVALID_INSTRUCTION_METADATA, 0));
+        return Err(reader::refuse(e, numbers::INVALID_INSTRUCTION_METADATA, 0));
     }
-    Step::Taken(e)
+    Ok(e)
 }
 
 // ---- transfer types
 
-// meta_raw, rttid_raw, slots
-fn transfer_type(s: &[u8], r: Step, tape: &mut [u32]) -> Step
-    requires { Ready s.now r }
-    ensures { Reader transfer_format s.now r tape.old result tape.new }
-{
-    let meta = fields::field_u32(s, r, tape);
-    let rttid = fields::field_u32(s, meta, tape);
-    fields::field_u16(s, rttid, tape)
-}
+struct TransferType;
 
-fn number_transfer_types(s: &[u8], set: &Settings, c: Cursor, tape: &mut [u32]) -> Number
-    requires { ReadyAt s.now c }
-    ensures { NumberOf (transfer_list (settings_of set.now)) counted s.now c
-        tape.old result tape.new }
-{
-    let q = fields::number_count(s, set, c, sizes::TRANSFER_TYPE, tape);
-    let Number::Got(n, d) = q else {
-        return q;
-    };
-    let mut k = n;
-    let mut here = Step::Taken(d);
-    while 0 < k {
-        here = transfer_type(s, here, tape);
-        let Step::Taken(_) = here else {
-            return reader::number_of(n, here);
-        };
-        k -= 1;
+impl Entry for TransferType {
+    ghost format = { λ _. transfer_format };
+
+    ghost again = { λ _. false };
+
+    // meta_raw, rttid_raw, slots
+    fn read(&self, s: &[u8], r: Step, tape: &mut [u32]) -> Step {
+        let meta = fields::field_u32(s, r, tape);
+        let rttid = fields::field_u32(s, meta, tape);
+        fields::field_u16(s, rttid, tape)
     }
-    reader::number_of(n, here)
 }
 
-fn capture_types(s: &[u8], set: &Settings, r: Step, tape: &mut [u32]) -> Step
-    requires { Ready s.now r }
-    ensures { Reader (capture_types (settings_of set.now)) s.now r tape.old result
+// Captures or parameters; context is that of the meta word.
+#[inline(always)]
+fn transfer_types(s: &[u8], set: &Settings, r: Step, context: u64, tape: &mut [u32]) -> Step
+    requires ready { Ready s.now r }
+    requires low { context < 4 }
+    ensures { Reader (transfer_types (settings_of set.now) context) s.now r tape.old result
         tape.new }
 {
-    let Step::Taken(c) = r else {
-        return r;
-    };
-    let q = number_transfer_types(s, set, c, tape);
-    let Number::Got(_, d) = q else {
-        return reader::step_of(q);
-    };
-    transfers::transfer_words(s, numbers::CAPTURE_META, r, Step::Taken(d))
-}
-
-fn param_types(s: &[u8], set: &Settings, r: Step, tape: &mut [u32]) -> Step
-    requires { Ready s.now r }
-    ensures { Reader (param_types (settings_of set.now)) s.now r tape.old result
-        tape.new }
-{
-    let Step::Taken(c) = r else {
-        return r;
-    };
-    let q = number_transfer_types(s, set, c, tape);
-    let Number::Got(_, d) = q else {
-        return reader::step_of(q);
-    };
-    transfers::transfer_words(s, numbers::PARAMETER_META, r, Step::Taken(d))
+    let list = lists::read_list(s, set, r, sizes::TRANSFER_TYPE, &TransferType, tape);
+    transfers::transfer_words(s, context, r, list)
 }
 
 // ---- functions
@@ -116,13 +75,7 @@ fn heap_ret_slots(s: &[u8], set: &Settings, r: Step, tape: &mut [u32]) -> Step
     ensures { Reader (heap_slots (settings_of set.now)) s.now r tape.old result
         tape.new }
 {
-    let Step::Taken(c) = r else {
-        return r;
-    };
-    let q = fields::number_count(s, set, c, sizes::U16, tape);
-    let Number::Got(n, d) = q else {
-        return reader::step_of(q);
-    };
+    let (n, d) = fields::number_count(s, set, r?, sizes::U16, tape)?;
     lists::u16s(s, d, n, tape)
 }
 
@@ -165,14 +118,12 @@ fn function_body(
         tape.old result tape.new }
 {
     let code = code(s, set, r, tape);
-    let captures = capture_types(s, set, code, tape);
+    let captures = transfer_types(s, set, code, numbers::CAPTURE_META, tape);
     let capture_slot_types = slots::slot_types(s, set, captures, tape);
-    let params = param_types(s, set, capture_slot_types, tape);
-    let Step::Taken(c) = params else {
-        return params;
-    };
+    let params = transfer_types(s, set, capture_slot_types, numbers::PARAMETER_META, tape);
+    let c = params?;
     if types != locals {
-        return Step::Refused(Refusal {
+        return Err(Refusal {
             number: numbers::INVALID_FUNCTION_METADATA,
             context: numbers::SLOT_COUNT,
             detail1: types,
@@ -181,7 +132,7 @@ fn function_body(
             left: c.left,
         });
     }
-    Step::Taken(c)
+    Ok(c)
 }
 
 // slot_types, and the body
@@ -190,55 +141,37 @@ fn function_slots(s: &[u8], set: &Settings, r: Step, locals: u64, tape: &mut [u3
     ensures { Reader (function_slots (settings_of set.now) locals) s.now r
         tape.old result tape.new }
 {
-    let Step::Taken(c) = r else {
-        return r;
-    };
-    let q = slots::number_slot_types(s, set, c, tape);
-    let Number::Got(types, d) = q else {
-        return reader::step_of(q);
-    };
-    function_body(s, set, Step::Taken(d), types, locals, tape)
+    let (types, d) = slots::number_slot_types(s, set, r?, tape)?;
+    function_body(s, set, Ok(d), types, locals, tape)
 }
 
-// local_slots comes after the head
-fn function(s: &[u8], set: &Settings, r: Step, tape: &mut [u32]) -> Step
-    requires { Ready s.now r }
-    ensures { Reader (function_format (settings_of set.now)) s.now r tape.old result
-        tape.new }
-{
-    let head = function_head(s, r, tape);
-    let Step::Taken(c) = head else {
-        return head;
-    };
-    let q = fields::number_u16(s, c, tape);
-    let Number::Got(locals, d) = q else {
-        return reader::step_of(q);
-    };
-    let returns = function_returns(s, set, Step::Taken(d), tape);
-    let traits = function_traits(s, returns, tape);
-    function_slots(s, set, traits, locals, tape)
+#[derive(Drop)]
+struct Function<'a> {
+    set: &'a Settings,
+}
+
+impl Entry for Function<'_> {
+    ghost format = { λ x. function_format (settings_of x.set.now) };
+
+    ghost again = { λ _. false };
+
+    // local_slots comes after the head
+    fn read(&self, s: &[u8], r: Step, tape: &mut [u32]) -> Step {
+        let head = function_head(s, r, tape);
+        let (locals, d) = fields::number_u16(s, head?, tape)?;
+        let returns = function_returns(s, self.set, Ok(d), tape);
+        let traits = function_traits(s, returns, tape);
+        function_slots(s, self.set, traits, locals, tape)
+    }
 }
 
 // Also returns the count.
-pub fn number_functions(s: &[u8], set: &Settings, c: Cursor, tape: &mut [u32]) -> Number
+pub fn number_functions(s: &[u8], set: &Settings, c: Cursor, tape: &mut [u32]) -> Read<u64>
     requires { ReadyAt s.now c }
     ensures { NumberOf (function_list (settings_of set.now)) counted s.now c
         tape.old result tape.new }
 {
-    let q = fields::number_count(s, set, c, sizes::FUNCTION_DEF, tape);
-    let Number::Got(n, d) = q else {
-        return q;
-    };
-    let mut k = n;
-    let mut here = Step::Taken(d);
-    while 0 < k {
-        here = function(s, set, here, tape);
-        let Step::Taken(_) = here else {
-            return reader::number_of(n, here);
-        };
-        k -= 1;
-    }
-    reader::number_of(n, here)
+    lists::number_list(s, set, c, sizes::FUNCTION_DEF, &Function { set }, tape)
 }
 
 pub fn functions(s: &[u8], set: &Settings, r: Step, tape: &mut [u32]) -> Step
@@ -246,12 +179,6 @@ pub fn functions(s: &[u8], set: &Settings, r: Step, tape: &mut [u32]) -> Step
     ensures { Reader (function_list (settings_of set.now)) s.now r tape.old result
         tape.new }
 {
-    let Step::Taken(c) = r else {
-        return r;
-    };
-    let q = number_functions(s, set, c, tape);
-    let Number::Got(_, d) = q else {
-        return reader::step_of(q);
-    };
-    Step::Taken(d)
+    let (_, d) = number_functions(s, set, r?, tape)?;
+    Ok(d)
 }

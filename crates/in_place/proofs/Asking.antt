@@ -1,18 +1,13 @@
 -- The laws of questions on the items of a list that was read: the loop over them, and the answers of a question reader.
-use Prim.Native.Nat.{ℕ, ◌+◌, ◌-◌, ◌≤◌, ◌<◌}
-use mathlib.Core.Path.{◌≡◌, refl, ap, sym, ◌∙◌}
-use mathlib.Core.List.{List, [], ◌∷◌, ◌++◌}
-use native.Mathlib.Omega.{arith}
-use native.Mathlib.Numerals.{add-one}
-use lib.ListN.{length}
+use Rattle.std.proofs.Common.{Ok, Err, ℕ, ◌+◌, ◌-◌, ◌≤◌, ◌<◌, ◌≡◌, refl, ap, sym, ◌∙◌, List, [], ◌∷◌, ◌++◌, arith, add-one, length}
+use Rattle.std.specs.Result.{IsErrAnd}
 use Rattle.format.specs.Format.{Value, Format, Ask}
 use Rattle.format.specs.Reading.{little, part}
 use Rattle.vob24.specs.Settings as of
-use Rattle.reader.specs.Contract.{Asks, ReadyAt}
+use Rattle.reader.specs.Contract.{Asks, ReadyAt, Step}
 use Rattle.reader.specs.declared.Cursor.{Cursor}
 use Rattle.reader.specs.declared.Refusal.{Refusal}
-use Rattle.reader.specs.declared.Step.{Step}
-use Rattle.reader.specs.declared.Step.TheVariants.{Taken, Refused}
+use Rattle.reader.proofs.Errors.{handed}
 use Rattle.reader.proofs.Asks.{asks-then, asks-not, asks_none}
 use Rattle.in_place.specs.Walk.{value_at, next_at, items_at, items-none, items-snoc, items-nil}
 use Rattle.in_place.specs.Contract.{over, WordIs, Placed, Past, Items, ListBehind, ListAsked}
@@ -45,31 +40,38 @@ module _ {f : Format} {ask : List Value → Value → List Ask} {s : List ℕ} {
         rw (x, y)
 
     module _ {q : Step} (a : Asks (ask (items_at f i s from) (value_at f s p)) c q) where
-      pub asking-not : {x : Refusal} → q ≡ Refused x → Asks (over ask [] (items_at f n s from)) c₀ q
-      asking-not {x} e = rw e (l.leads (Refused x) (rw (asking-next (next_at f s p) (record { is = refl })) (asks-not _ (rw e at a))))
+      pub asking-not : {x : Refusal} → q ≡ Err x → Asks (over ask [] (items_at f n s from)) c₀ q
+      asking-not {x} e = rw e (l.leads (Err x) (rw (asking-next (next_at f s p) (record { is = refl })) (asks-not _ (rw e at a))))
 
-      pub asking-more : {d : Cursor} {z : ℕ} → q ≡ Taken d → Past f s p z → Asking f ask s from n c₀ z (i + 1) d
+      pub asking-more : {d : Cursor} {z : ℕ} → q ≡ Ok d → Past f s p z → Asking f ask s from n c₀ z (i + 1) d
       asking-more {d} {z} e w = record { walk = walking-next h l.walk w; leads = λ q b. l.leads q (rw (asking-next z w) (asks-then _ (rw e at a) b)) }
 
   pub asking-done : {p i : ℕ} {c : Cursor} → n ≤ i → Asking f ask s from n c₀ p i c
-      → Asks (over ask [] (items_at f n s from)) c₀ (Taken c)
+      → Asks (over ask [] (items_at f n s from)) c₀ (Ok c)
   unfolding over
-  asking-done {p} {i} {c} h l = l.leads (Taken c) (rw (items-none f (n - i) s p (omega arith)) asks_none)
+  asking-done {p} {i} {c} h l = l.leads (Ok c) (rw (items-none f (n - i) s p (omega arith)) asks_none)
 
 pub ruleset asking = (asking-start, asking-here, asking-more, asking-not, asking-done)
 
-pub apart : {X : Type 0} {r : Step} {c : Cursor} {x : Refusal} → r ≡ Taken c → r ≡ Refused x → X
+pub apart : {X : Type 0} {r : Step} {c : Cursor} {x : Refusal} → r ≡ Ok c → r ≡ Err x → X
 apart e i = let z : ◌≡◌ {A = ℕ} 0 1 = cc in absurd (omega arith)
+
+-- the refusal of some questions is handed on
+pub asks-up : {l : List Ask} {c : Cursor} {p q : Step} {x : Refusal} → p ≡ Err x → IsErrAnd q (λ y. y ≡ x) → Asks l c p → Asks l c q
+asks-up {q = q} e i a = rw (handed q i ∙ sym e) a
 
 -- ---- the answers of a question reader
 module _ {f : Format} {l : List Value → List Ask} {s : List ℕ} {r r₁ : Step} where
-  pub list-refused : {x : Refusal} → r₁ ≡ Refused x → ListAsked f l s r r₁ r₁
+  pub list-refused : {x : Refusal} → r₁ ≡ Err x → ListAsked f l s r r₁ r₁
   list-refused e = record { stays = λ y i. refl; asks = λ c d i j. apart j e }
 
-  pub list-skipped : {x : Refusal} {d : Cursor} → r ≡ Refused x → r₁ ≡ Taken d → ListAsked f l s r r₁ (Taken d)
-  list-skipped e k = record { stays = λ y i. sym k; asks = λ c d i j. apart i e }
+  pub list-up : {x : Refusal} {q : Step} → r₁ ≡ Err x → IsErrAnd q (λ y. y ≡ x) → ListAsked f l s r r₁ q
+  list-up {q = q} e i = record { stays = λ y j. handed q i ∙ sym e; asks = λ c d j k. apart k e }
 
-  module _ {c d : Cursor} (h : r ≡ Taken c) (k : r₁ ≡ Taken d) where
+  pub list-lost : {x : Refusal} {d : Cursor} {q : Step} → r ≡ Err x → r₁ ≡ Ok d → ListAsked f l s r r₁ q
+  list-lost e k = record { stays = λ y i. apart k i; asks = λ c d i j. apart i e }
+
+  module _ {c d : Cursor} (h : r ≡ Ok c) (k : r₁ ≡ Ok d) where
     pub list-asked : {n : ℕ} {q : Step} → WordIs s c.place n → Asks (l (items_at f n s (c.place + 4))) d q
         → ListAsked f l s r r₁ q
     list-asked {n} {q} e a = record { stays = λ y i. apart k i; asks = λ c' d' i j. go c' d' (cc) (cc) }
@@ -78,7 +80,7 @@ module _ {f : Format} {l : List Value → List Ask} {s : List ℕ} {r r₁ : Ste
             → Asks (l (items_at f (little (part s c'.place 4)) s (c'.place + 4))) d' q
         go c' d' x y = rw (x, y, ← e.is) a
 
-module _ {f : Format} {s : List ℕ} {r r₁ : Step} {c d : Cursor} (h : r ≡ Taken c) (k : r₁ ≡ Taken d) (b : ListBehind f s r r₁) where
+module _ {f : Format} {s : List ℕ} {r r₁ : Step} {c d : Cursor} (h : r ≡ Ok c) (k : r₁ ≡ Ok d) (b : ListBehind f s r r₁) where
   list-ready : ReadyAt s c
   list-ready = rw h at b.before
 

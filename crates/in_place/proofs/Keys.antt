@@ -1,8 +1,5 @@
 -- The laws of keys, and of the loop that compares an item with those of a list.
-use Prim.Native.Nat.{ℕ, ◌-◌, ◌≤◌, ◌<◌}
-use mathlib.Core.Path.{◌≡◌, refl, ap, sym, ◌∙◌}
-use mathlib.Core.List.{List, [], ◌∷◌, map}
-use mathlib.Core.Bool.{Bool, true, false}
+use Rattle.std.proofs.Common.{ℕ, ◌+◌, ◌-◌, ◌≤◌, ◌<◌, arith, ◌≡◌, refl, ap, sym, ◌∙◌, List, [], ◌∷◌, map, Bool, true, false}
 use Rattle.format.specs.Trace.{pick}
 use Rattle.format.specs.Format.{content, Format}
 use Rattle.format.specs.Reading.{same}
@@ -15,8 +12,8 @@ use Rattle.in_place.specs.declared.Table.TheVariants.{Fields, Methods, Identitie
 use Rattle.in_place.specs.Walk.{Stands, value_at, next_at, items_at, items-none}
 use Rattle.in_place.specs.Items.{format_of, name_of, text_at}
 use Rattle.in_place.specs.Tables.{item_of, format_in, package_of, key_name, key_of, key_text, package_text}
-use Rattle.in_place.specs.Contract.{TextAt, SameText, SameFolded, SameName, Placed, Past, PackageIs, Items, After, TwoPlaced, SamePackage, SameKey, Seen}
-use Rattle.in_place.proofs.Places.{name-stands, item-name, runtime-stands, runtime-package}
+use Rattle.in_place.specs.Contract.{TextAt, SameName, Placed, Past, Items, TwoPlaced, SamePackage, SameKey, Seen}
+use Rattle.in_place.proofs.Places.{name-stands, item-name, runtime-stands}
 use Rattle.in_place.proofs.Walking.{items-here, items-next, items-cons}
 
 -- the bytes of a name
@@ -25,42 +22,20 @@ pub name-content : (i : Item) {s : List ℕ} {p : ℕ} → Stands (format_of i) 
 name-content i h = ap content (name-stands i h).value
 
 -- a table that is told
-module _ {t u : Table} (e : t ≡ u) {s : List ℕ} where
-  pub placed-in : {p : ℕ} → Placed (format_in t) s p → Placed (format_in u) s p
-  placed-in h = rw e at h
-
-  pub placed-both : {a b : ℕ} → TwoPlaced (format_in t) s a b → TwoPlaced (format_in u) s a b
-  placed-both h = rw e at h
-
--- what its items are
-module _ (t : Table) {i : Item} (e : i ≡ item_of t) {s : List ℕ} {p : ℕ} where
-  pub item-placed : Placed (format_in t) s p → Placed (format_of i) s p
-  item-placed h = rw e h
-
-  pub item-past : {q : ℕ} → Past (format_of i) s p q → Past (format_in t) s p q
-  item-past h = rw e at h
+pub placed-in : {t u : Table} → t ≡ u → {s : List ℕ} {p : ℕ} → Placed (format_in t) s p → Placed (format_in u) s p
+placed-in e h = rw e at h
 
 pub both-texts : (t : Table) {s : List ℕ} {a b : ℕ} → TwoPlaced (format_in t) s a b → TextAt s a × TextAt s b
 both-texts t h = (item-name (item_of t) h.fore, item-name (item_of t) h.back)
 
--- the answers of `same_package` and `same_key`
-pub same-packages : {s : List ℕ} {a b x y : ℕ} {q : Bool} → PackageIs s a x → PackageIs s b y → SameText s x y q
-    → SamePackage Identities s a b q
-same-packages f g v = record { is = v.is ∙ rw (f.is, g.is) }
+-- ---- the answers of `same_key`
 
--- the answers of `same_name`
-module _ {t : Table} {s : List ℕ} {a b : ℕ} {q : Bool} where
-  pub field-names : t ≡ Fields → SameText s a b q → SameName t s a b q
-  field-names e w = rw e (record { is = w.is })
-
-  pub method-names : {i : Item} → t ≡ Methods i → SameText s a b q → SameName t s a b q
-  method-names e w = rw e (record { is = w.is })
-
-  pub identity-names : t ≡ Identities → SameText s a b q → SameName t s a b q
-  identity-names e w = rw e (record { is = w.is })
-
-  pub alike-names : {i : Item} → t ≡ Alike i → SameFolded s a b q → SameName t s a b q
-  alike-names e w = rw e (record { is = w.is })
+-- only identities have a package
+no-package : (t : Table) → (t ≡ Identities → ⊥) → (s : List ℕ) (p : ℕ) → package_text t s p ≡ []
+no-package Fields n s p = refl
+no-package (Methods i) n s p = refl
+no-package Identities n s p = absurd (n refl)
+no-package (Alike i) n s p = refl
 
 module _ {t : Table} {s : List ℕ} {a b : ℕ} {n : Bool} (w : SameName t s a b n) where
   pub other-names : n ≡ false → SameKey t s a b false
@@ -68,19 +43,9 @@ module _ {t : Table} {s : List ℕ} {a b : ℕ} {n : Bool} (w : SameName t s a b
   other-names e = record { is = rw (← w.is, e) }
 
   module _ (e : n ≡ true) where
-    -- no package
-    same-only : package_text t s a ≡ [] → package_text t s b ≡ [] → SameKey t s a b true
+    pub same-only : (t ≡ Identities → ⊥) → SameKey t s a b true
     unfolding pick same
-    same-only i j = record { is = rw (← w.is, e, i, j) }
-
-    pub same-field : t ≡ Fields → SameKey t s a b true
-    same-field i = same-only (rw i) (rw i)
-
-    pub same-method : {i : Item} → t ≡ Methods i → SameKey t s a b true
-    same-method i = same-only (rw i) (rw i)
-
-    pub same_alike : {i : Item} → t ≡ Alike i → SameKey t s a b true
-    same_alike i = same-only (rw i) (rw i)
+    same-only i = record { is = rw (← w.is, e, no-package t i s a, no-package t i s b) }
 
     pub same-identity : {q : Bool} → t ≡ Identities → SamePackage Identities s a b q → SameKey t s a b q
     unfolding pick
@@ -104,12 +69,12 @@ key-package (Alike i) h = refl
 past_next : {f : Format} {s : List ℕ} {p : ℕ} → Past f s p (next_at f s p)
 past_next = record { is = refl }
 
--- ---- the loop of `seen`: k items to look at
-pub record Looking (t : Table) (s : List ℕ) (from n p at k : ℕ) : Type 0 where
-  pub items : Items (format_in t) k s at
+-- ---- the loop of `seen`: i items were looked at
+pub record Looking (t : Table) (s : List ℕ) (from n p at i : ℕ) : Type 0 where
+  pub items : Items (format_in t) (n - i) s at
   pub here : Placed (format_in t) s p
   pub leads : among_identities (key_of t (value_at (format_in t) s p)) (map (key_of t) (items_at (format_in t) n s from))
-      ≡ among_identities (key_of t (value_at (format_in t) s p)) (map (key_of t) (items_at (format_in t) k s at))
+      ≡ among_identities (key_of t (value_at (format_in t) s p)) (map (key_of t) (items_at (format_in t) (n - i) s at))
 
 among-step : (x y : Identity) (ys : List Identity) (q : Bool)
     → q ≡ pick (same (content x.1) (content y.1)) (same (content x.0) (content y.0)) false
@@ -122,34 +87,33 @@ among-step x y ys q e = rw e (go (same (content x.1) (content y.1)) (same (conte
     go false p r = refl
 
 module _ {t : Table} {s : List ℕ} {from n p : ℕ} where
-  pub looking-start : After (format_in t) s from n p → Looking t s from n p from n
-  looking-start h = record { items = h.before; here = h.here; leads = refl }
-
-  module _ {at k : ℕ} (h : 0 < k) (l : Looking t s from n p at k) where
+  module _ {at i : ℕ} (h : i < n) (l : Looking t s from n p at i) where
     pub looking-here : Placed (format_in t) s at
-    looking-here = items-here h l.items
+    looking-here = items-here {k = n - i} (omega arith) l.items
 
     pub looking-both : TwoPlaced (format_in t) s p at
     looking-both = record { fore = l.here; back = looking-here }
 
     looking-step : {q : Bool} {z : ℕ} → SameKey t s p at q → Past (format_in t) s at z
-        → among_identities (key_of t (value_at (format_in t) s p)) (map (key_of t) (items_at (format_in t) k s at))
-        ≡ pick q true (among_identities (key_of t (value_at (format_in t) s p)) (map (key_of t) (items_at (format_in t) (k - 1) s z)))
-    looking-step {q} w v =
-        ap (λ vs. among_identities (key_of t (value_at (format_in t) s p)) (map (key_of t) vs)) (items-cons h l.items v)
+        → among_identities (key_of t (value_at (format_in t) s p)) (map (key_of t) (items_at (format_in t) (n - i) s at))
+        ≡ pick q true (among_identities (key_of t (value_at (format_in t) s p)) (map (key_of t) (items_at (format_in t) (n - (i + 1)) s z)))
+    looking-step {q} {z} w v =
+        let k : n - i - 1 ≡ n - (i + 1) = omega arith in
+        let x : items_at (format_in t) (n - i) s at ≡ value_at (format_in t) s at ∷ items_at (format_in t) (n - (i + 1)) s z = items-cons {k = n - i} (omega arith) l.items v ∙ rw k in
+        ap (λ vs. among_identities (key_of t (value_at (format_in t) s p)) (map (key_of t) vs)) x
         ∙ among-step _ _ _ q (w.is ∙ sym (rw (key-name t l.here.stands, key-name t looking-here.stands, key-package t l.here.stands, key-package t looking-here.stands)))
 
     module _ {q : Bool} (w : SameKey t s p at q) where
-      pub looking-more : {z : ℕ} → q ≡ false → Past (format_in t) s at z → Looking t s from n p z (k - 1)
+      pub looking-more : {z : ℕ} → q ≡ false → Past (format_in t) s at z → Looking t s from n p z (i + 1)
       unfolding pick
-      looking-more e v = record { items = items-next h l.items v; here = l.here; leads = l.leads ∙ looking-step w v ∙ rw e }
+      looking-more e v =
+          let k : n - i - 1 ≡ n - (i + 1) = omega arith in
+          record { items = rw k at (items-next {k = n - i} (omega arith) l.items v); here = l.here; leads = l.leads ∙ looking-step w v ∙ rw e }
 
       pub looking-found : q ≡ true → Seen t s from n p true
       unfolding pick
       looking-found e = record { is = sym (l.leads ∙ looking-step w past_next ∙ rw e) }
 
-  pub looking-done : {at k : ℕ} → k ≤ 0 → Looking t s from n p at k → Seen t s from n p false
+  pub looking-done : {at i : ℕ} → n ≤ i → Looking t s from n p at i → Seen t s from n p false
   unfolding among_identities
-  looking-done {at} {k} h l = record { is = sym (l.leads ∙ rw (items-none (format_in t) k s at h)) }
-
-pub ruleset keys = (same-packages, field-names, method-names, identity-names, alike-names, other-names, same-field, same-method, same-identity, same_alike, looking-start, looking-here, looking-both, looking-more, looking-found, looking-done, runtime-package)
+  looking-done {at} {i} h l = record { is = sym (l.leads ∙ rw (items-none (format_in t) (n - i) s at (omega arith))) }

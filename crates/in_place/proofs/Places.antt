@@ -1,10 +1,5 @@
 -- Where the parts of an item stand, item format by item format.
-use Prim.Native.Nat.{ℕ, ◌+◌, ◌≤◌}
-use mathlib.Core.Path.{◌≡◌, refl, ap, sym, ◌∙◌}
-use mathlib.Core.List.{List}
-use native.Mathlib.Omega.{arith}
-use lib.Dec.{T, leb→le}
-use lib.ListN.{length, get_or}
+use Rattle.std.proofs.Common.{ℕ, ◌+◌, ◌≤◌, ◌≡◌, ◌⊎◌, List, T, length, get_or, refl, ap, sym, ◌∙◌, inl, inr, arith, leb→le}
 use Rattle.format.specs.Trace.{out}
 use Rattle.format.specs.Format.{Value, num, text, first, second, Width, byte, word, Rule, fixed, Format, empty, leaf, seq, ◌▸◌}
 use Rattle.format.specs.Reading.{little, part, size, trace}
@@ -201,9 +196,6 @@ module _ {s : List ℕ} {p : ℕ} where
         pub runtime-embedded : e + 1 ≤ length s
         runtime-embedded = rw (v.is, w.is) (runtime-stands h.stands).tag
 
-        pub runtime-found : PackageIs s p (e + 1)
-        runtime-found = record { is = rw (v.is, w.is) }
-
   pub item-name : (i : Item) → Placed (format_of i) s p → TextAt s p
   item-name i h = record { small = h.small; room = (name-stands i h.stands).room }
 
@@ -213,13 +205,11 @@ module _ {s : List ℕ} {p : ℕ} where
       pub past-name : i ≡ Name → Past (format_of i) s p q
       past-name e = rw e (record { is = w.is ∙ sym (text-stands (rw e at h.stands)).next })
 
-      pub past-interface : i ≡ InterfaceMethod → (q + 4 ≤ length s) × Past (format_of i) s p (q + 4)
-      unfolding interface_method
-      past-interface e = let a = word_next (rw e at h.stands) in rw (e, w.is) (a.0, record { is = sym a.1 })
-
-      pub past-runtime : i ≡ RuntimeMethod → (q + 4 ≤ length s) × Past (format_of i) s p (q + 4)
-      unfolding runtime_method
-      past-runtime e = let a = word_next (rw e at h.stands) in rw (e, w.is) (a.0, record { is = sym a.1 })
+      -- a method's name and type
+      pub past-typed : (i ≡ InterfaceMethod) ⊎ (i ≡ RuntimeMethod) → (q + 4 ≤ length s) × Past (format_of i) s p (q + 4)
+      unfolding interface_method runtime_method
+      past-typed (inl e) = let a = word_next (rw e at h.stands) in rw (e, w.is) (a.0, record { is = sym a.1 })
+      past-typed (inr e) = let a = word_next (rw e at h.stands) in rw (e, w.is) (a.0, record { is = sym a.1 })
 
       pub past-method : i ≡ NamedMethod → (q + 10 ≤ length s) × Past (format_of i) s p (q + 10)
       past-method e = let a = method-next (rw e at h.stands) in rw (e, w.is) (a.0, record { is = sym a.1 })

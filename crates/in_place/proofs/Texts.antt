@@ -1,29 +1,11 @@
 -- The laws of texts: lengths, and bytes compared.
-use Prim.Native.Nat.{ℕ, suc, zero, ◌+◌, ◌-◌, ◌≤◌, ◌<◌}
-use mathlib.Core.Path.{◌≡◌, refl, ap, sym, ◌∙◌}
-use mathlib.Core.List.{List, [], ◌∷◌}
-use mathlib.Core.Bool.{Bool, true, false}
-use native.Mathlib.Omega.{arith}
-use native.Mathlib.Numerals.{add-one}
-use native.Mathlib.Nat.{add_assoc}
-use lib.Dec.{eqb}
-use lib.ListN.{length, get_or}
-use lib.Seq.{drop-cons}
-use borrow.Author.Tests.{eq-eqb, ne_eqb}
+use Rattle.std.proofs.Common.{ℕ, ◌&&◌, suc, zero, ◌+◌, ◌-◌, ◌≤◌, ◌<◌, ◌≡◌, refl, ap, sym, ◌∙◌, List, [], ◌∷◌, Bool, true, false, arith, add-one, eqb, length, get_or, drop-cons}
+use Rattle.std.specs.Cmp.Lexicographic.{pointwise}
 use Rattle.format.specs.Trace.{pick}
-use Rattle.format.specs.Reading.{little, part, same}
+use Rattle.format.specs.Reading.{part, same}
 use Rattle.format.proofs.TraceTheorems.{part_length}
-use Rattle.reader.proofs.Gather.{read, read_take}
 use Rattle.in_place.specs.Items.{text_at}
-use Rattle.folding.specs.Contract as folding
-use Rattle.in_place.specs.Contract.{TextAt, WordIs, SameBytes, SameText, SameFolded, BlankIs}
-
-pub word-is : {s : List ℕ} {p n : ℕ} → p + 4 ≤ length s
-    → n ≡ little (get_or s p 0 ∷ get_or s (p + 1) 0 ∷ get_or s (p + 2) 0 ∷ get_or s (p + 3) 0 ∷ []) → n < 4294967296
-    → WordIs s p n
-word-is {s} {p} {n} h e b =
-    let x : n ≡ little (read 4 s p) = e ∙ simp add_assoc in
-    record { is = x ∙ ap little (sym (read_take 4 s p h)); below = b }
+use Rattle.in_place.specs.Contract.{TextAt, WordIs, BlankIs}
 
 -- the room of a text, by its length
 module _ {s : List ℕ} {p n : ℕ} (h : TextAt s p) (e : WordIs s p n) where
@@ -56,48 +38,17 @@ same-long (x ∷ xs) (y ∷ ys) h = rw (same-long xs ys (λ e. h (ap suc e))) (g
     go true = refl
     go false = refl
 
--- the loop of `same_bytes`: k bytes to compare
-pub record Comparing (s : List ℕ) (a b n p q k : ℕ) : Type 0 where
-  pub left : p + k ≤ length s
-  pub right : q + k ≤ length s
-  pub leads : same (part s a n) (part s b n) ≡ same (part s p k) (part s q k)
-
-module _ {s : List ℕ} {a b n : ℕ} where
-  pub comparing-start : a + n ≤ length s → b + n ≤ length s → Comparing s a b n a b n
-  comparing-start h k = record { left = h; right = k; leads = refl }
-
-  module _ {p q k : ℕ} where
-    pub comparing-more : 0 < k → get_or s p 0 ≡ get_or s q 0 → Comparing s a b n p q k
-        → Comparing s a b n (p + 1) (q + 1) (k - 1)
-    unfolding same pick
-    comparing-more h e l = record { left = omega (arith, l.left); right = omega (arith, l.right); leads = l.leads ∙ rw (piece s p k h l.left, piece s q k h l.right, eq-eqb _ _ e) }
-
-    pub comparing-not : 0 < k → (get_or s p 0 ≡ get_or s q 0 → ⊥) → Comparing s a b n p q k → SameBytes s a b n false
-    unfolding same pick
-    comparing-not h e l = record { is = sym (l.leads ∙ rw (piece s p k h l.left, piece s q k h l.right, ne_eqb _ _ e)) }
-
-    pub comparing-done : k ≤ 0 → Comparing s a b n p q k → SameBytes s a b n true
-    unfolding same
-    comparing-done h l = record { is = sym (l.leads ∙ go k h) }
-      where
-        go : (k : ℕ) → k ≤ 0 → same (part s p k) (part s q k) ≡ true
-        go zero h = refl
-        go (suc k) h = absurd (omega arith)
-
--- the answers of `same_text`
-module _ {s : List ℕ} {a b m n : ℕ} (h : TextAt s a) (k : TextAt s b) (e : WordIs s a m) (i : WordIs s b n) where
-  pub same-sizes : (m ≡ n → ⊥) → SameText s a b false
-  same-sizes f = record { is = sym (same-long _ _ (λ z. f (sym (text-length h e) ∙ z ∙ text-length k i))) }
-
-  pub same_size : {q : Bool} → m ≡ n → SameBytes s (a + 4) (b + 4) n q → SameText s a b q
-  same_size f w =
-      let x : text_at s a ≡ part s (a + 4) n = text-part h e ∙ ap (part s (a + 4)) f in
-      record { is = w.is ∙ sym (rw (x, text-part k i)) }
-
--- the answer of `same_folded`
-pub same-folded : {s : List ℕ} {a b m n : ℕ} {q : Bool} → TextAt s a → TextAt s b → WordIs s a m → WordIs s b n
-    → folding.SameFolded s (a + 4) m (b + 4) n q → SameFolded s a b q
-same-folded h k e i w = record { is = w.is ∙ rw (text-part h e, text-part k i) }
+-- as the slices' `==` has it
+pub same_pointwise : (xs ys : List ℕ) → pointwise eqb xs ys ≡ same xs ys
+unfolding same pick
+same_pointwise [] [] = refl
+same_pointwise [] (y ∷ ys) = refl
+same_pointwise (x ∷ xs) [] = refl
+same_pointwise (x ∷ xs) (y ∷ ys) = go (eqb x y) (same_pointwise xs ys)
+  where
+    go : (t : Bool) {q r : Bool} → q ≡ r → (t && q) ≡ pick t r false
+    go true e = e
+    go false e = refl
 
 -- "_"
 module _ {s : List ℕ} {p n : ℕ} (h : TextAt s p) (e : WordIs s p n) where
@@ -113,5 +64,3 @@ module _ {s : List ℕ} {p n : ℕ} (h : TextAt s p) (e : WordIs s p n) where
       go : (b : Bool) → pick b true false ≡ b
       go true = refl
       go false = refl
-
-pub ruleset texts = (word-is, comparing-start, comparing-more, comparing-not, comparing-done, same-sizes, same_size, same-folded, blank-long, blank-one)

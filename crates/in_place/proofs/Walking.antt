@@ -1,9 +1,5 @@
 -- The laws of walks over items.
-use Prim.Native.Nat.{ℕ, ◌+◌, ◌-◌, ◌<◌}
-use mathlib.Core.Path.{◌≡◌, ap, sym, ◌∙◌}
-use mathlib.Core.List.{List, ◌∷◌}
-use native.Mathlib.Omega.{arith}
-use native.Mathlib.Numerals.{add-one}
+use Rattle.std.proofs.Common.{ℕ, ◌+◌, ◌-◌, ◌<◌, ◌≡◌, ap, sym, ◌∙◌, List, ◌∷◌, arith, add-one}
 use Rattle.format.specs.Format.{Format}
 use Rattle.in_place.specs.Walk.{Stands, value_at, next_at, items_at, last_at, items_more, items-nil, stand-more, stand-snoc, last_snoc}
 use Rattle.in_place.specs.Contract.{Placed, Past, Items, After}

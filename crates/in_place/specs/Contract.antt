@@ -1,16 +1,14 @@
 -- The contracts of items.
-use Rattle.std.specs.Prelude.{ℕ, ◌+◌, ◌≤◌, ◌<◌, ◌≡◌, List, [], ◌∷◌, map, ◌++◌, Bool, false, length}
+use Rattle.std.specs.Prelude.{ℕ, ◌+◌, ◌≤◌, ◌<◌, ◌≡◌, List, [], ◌∷◌, map, ◌++◌, Bool, false, length, Ok, Err}
 use Rattle.format.specs.Trace.{pick}
 use Rattle.format.specs.Format.{Value, Ask, Format}
 use Rattle.format.specs.Reading.{little, part, same}
 use Rattle.vob24.specs.Settings.{max_pack_bytes}
 use Rattle.vob24.specs.Questions.{among_identities}
 use Rattle.folding.specs.Bytes.{fold_bytes}
-use Rattle.reader.specs.Contract.{Ready, Asks}
+use Rattle.reader.specs.Contract.{Ready, Asks, Step}
 use Rattle.reader.specs.declared.Cursor.{Cursor}
 use Rattle.reader.specs.declared.Refusal.{Refusal}
-use Rattle.reader.specs.declared.Step.{Step}
-use Rattle.reader.specs.declared.Step.TheVariants.{Taken, Refused}
 use Rattle.in_place.specs.declared.Table.{Table}
 use Rattle.in_place.specs.Walk.{Stands, AllStand, value_at, next_at, items_at}
 use Rattle.in_place.specs.Items.{text_at, end_of, package_at}
@@ -27,9 +25,6 @@ pub record WordIs (s : List ℕ) (p q : ℕ) : Type 0 where
 
 pub record EndIs (s : List ℕ) (p q : ℕ) : Type 0 where
   pub is : q ≡ end_of s p
-
-pub record SameBytes (s : List ℕ) (a b n : ℕ) (q : Bool) : Type 0 where
-  pub is : q ≡ same (part s a n) (part s b n)
 
 pub record SameText (s : List ℕ) (a b : ℕ) (q : Bool) : Type 0 where
   pub is : q ≡ same (text_at s a) (text_at s b)
@@ -88,11 +83,11 @@ over ask before (v ∷ vs) = ask before v ++ over ask (before ++ (v ∷ [])) vs
 pub record ListBehind (f : Format) (s : List ℕ) (r r₁ : Step) : Type 0 where
   pub before : Ready s r
   pub ready : Ready s r₁
-  pub comes : (c d : Cursor) → r ≡ Taken c → r₁ ≡ Taken d
+  pub comes : (c d : Cursor) → r ≡ Ok c → r₁ ≡ Ok d
       → (c.place + 4 ≤ length s) × AllStand f (little (part s c.place 4)) s (c.place + 4)
 
 -- The answer at r₁ of questions on its entries.
 pub record ListAsked (f : Format) (l : List Value → List Ask) (s : List ℕ) (r r₁ q : Step) : Type 0 where
-  pub stays : (x : Refusal) → r₁ ≡ Refused x → q ≡ r₁
-  pub asks : (c d : Cursor) → r ≡ Taken c → r₁ ≡ Taken d
+  pub stays : (x : Refusal) → r₁ ≡ Err x → q ≡ r₁
+  pub asks : (c d : Cursor) → r ≡ Ok c → r₁ ≡ Ok d
       → Asks (l (items_at f (little (part s c.place 4)) s (c.place + 4))) d q

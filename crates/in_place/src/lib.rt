@@ -7,9 +7,9 @@
 ghost use Rattle.std.specs.Prelude.{◌≡◌, ◌+◌, ◌≤◌, ◌<◌, length};
 ghost use Rattle.vob24.specs.Leaves.{str, optional};
 ghost use Rattle.vob24.specs.Grammar.{runtime_field};
-ghost use Rattle.in_place.specs.Items.{format_of};
+ghost use Rattle.in_place.specs.Items.{format_of, text_at};
 ghost use Rattle.in_place.specs.Tables.{item_of, format_in};
-ghost use Rattle.in_place.specs.Contract.{TextAt, WordIs, EndIs, SameBytes, SameText, SameFolded, SameName, BlankIs, Placed, Past, PackageIs, After, TwoPlaced, SamePackage, SameKey, Seen};
+ghost use Rattle.in_place.specs.Contract.{TextAt, WordIs, EndIs, SameText, SameFolded, SameName, BlankIs, Placed, Past, PackageIs, After, TwoPlaced, SamePackage, SameKey, Seen};
 
 // The items that have a name; it is the first field of each.
 #[derive(Clone, Copy)]
@@ -39,35 +39,23 @@ pub fn word_at(s: &[u8], p: usize) -> usize
     requires { p + 4 ≤ length s.now }
     ensures { WordIs s.now p result }
 {
-    let b = [s[p], s[p + 1], s[p + 2], s[p + 3]];
-    let n = reader::le4(b);
-    n as usize
+    reader::le4([s[p], s[p + 1], s[p + 2], s[p + 3]]) as usize
 }
 
 fn past_text(s: &[u8], p: usize) -> usize
     requires { TextAt s.now p }
     ensures { EndIs s.now p result }
 {
-    let n = word_at(s, p);
-    p + 4 + n
+    p + 4 + word_at(s, p)
 }
 
-fn same_bytes(s: &[u8], a: usize, b: usize, len: usize) -> bool
-    requires { (a + len ≤ length s.now) × (b + len ≤ length s.now) }
-    ensures { SameBytes s.now a b len result }
+// The text at p.
+fn text(s: &[u8], p: usize) -> &[u8]
+    requires { TextAt s.now p }
+    ensures { result.now ≡ text_at s.now p }
 {
-    let mut p = a;
-    let mut q = b;
-    let mut k = len;
-    while 0 < k {
-        if s[p] != s[q] {
-            return false;
-        }
-        p += 1;
-        q += 1;
-        k -= 1;
-    }
-    true
+    let n = word_at(s, p);
+    &s[p + 4..p + 4 + n]
 }
 
 // Are the texts at a and at b the same?
@@ -75,12 +63,7 @@ fn same_text(s: &[u8], a: usize, b: usize) -> bool
     requires { (TextAt s.now a) × (TextAt s.now b) }
     ensures { SameText s.now a b result }
 {
-    let m = word_at(s, a);
-    let n = word_at(s, b);
-    if m != n {
-        return false;
-    }
-    same_bytes(s, a + 4, b + 4, n)
+    text(s, a) == text(s, b)
 }
 
 // Is the text at p "_"?
@@ -88,11 +71,7 @@ pub fn blank(s: &[u8], p: usize) -> bool
     requires { TextAt s.now p }
     ensures { BlankIs s.now p result }
 {
-    let n = word_at(s, p);
-    if n != 1 {
-        return false;
-    }
-    s[p + 4] == 95
+    word_at(s, p) == 1 && s[p + 4] == b'_'
 }
 
 // ---- items
@@ -101,12 +80,11 @@ fn past_optional_text(s: &[u8], p: usize) -> usize
     requires { Placed (optional str) s.now p }
     ensures { Past (optional str) s.now p result }
 {
-    let tag = s[p];
-    let next = p + 1;
-    if tag == 0 {
-        return next;
+    if s[p] == 0 {
+        p + 1
+    } else {
+        past_text(s, p + 1)
     }
-    past_text(s, next)
 }
 
 // The package text of the runtime struct's field at p.
@@ -127,13 +105,9 @@ pub fn past(s: &[u8], item: Item, p: usize) -> usize
     match item {
         Item::Name => next,
         Item::StructField => past_optional_text(s, next + 9),
-        Item::InterfaceMethod => next + 4,
-        Item::RuntimeMethod => next + 4,
+        Item::InterfaceMethod | Item::RuntimeMethod => next + 4,
         Item::NamedMethod => next + 10,
-        Item::RuntimeField => {
-            let package = package_at(s, p);
-            past_text(s, package)
-        }
+        Item::RuntimeField => past_text(s, package_at(s, p)),
     }
 }
 
@@ -143,9 +117,8 @@ fn item_of(table: Table) -> Item
 {
     match table {
         Table::Fields => Item::StructField,
-        Table::Methods(item) => item,
+        Table::Methods(item) | Table::Alike(item) => item,
         Table::Identities => Item::RuntimeField,
-        Table::Alike(item) => item,
     }
 }
 
@@ -163,9 +136,7 @@ fn same_package(s: &[u8], a: usize, b: usize) -> bool
     requires { TwoPlaced runtime_field s.now a b }
     ensures { SamePackage Table.Identities s.now a b result }
 {
-    let package = package_at(s, a);
-    let other = package_at(s, b);
-    same_text(s, package, other)
+    same_text(s, package_at(s, a), package_at(s, b))
 }
 
 // Are the texts at a and at b the same with their letters decomposed?
@@ -173,9 +144,7 @@ fn same_folded(s: &[u8], a: usize, b: usize) -> bool
     requires { (TextAt s.now a) × (TextAt s.now b) }
     ensures { SameFolded s.now a b result }
 {
-    let m = word_at(s, a);
-    let n = word_at(s, b);
-    folding::same_folded(s, a + 4, m, b + 4, n)
+    folding::same_folded(s, a + 4, word_at(s, a), b + 4, word_at(s, b))
 }
 
 // Have the items at a and at b the same name, as the table tells names apart?
@@ -184,9 +153,7 @@ fn same_name(s: &[u8], table: Table, a: usize, b: usize) -> bool
     ensures { SameName table s.now a b result }
 {
     match table {
-        Table::Fields => same_text(s, a, b),
-        Table::Methods(_) => same_text(s, a, b),
-        Table::Identities => same_text(s, a, b),
+        Table::Fields | Table::Methods(_) | Table::Identities => same_text(s, a, b),
         Table::Alike(_) => same_folded(s, a, b),
     }
 }
@@ -196,15 +163,13 @@ pub fn same_key(s: &[u8], table: Table, a: usize, b: usize) -> bool
     requires { TwoPlaced (format_in table) s.now a b }
     ensures { SameKey table s.now a b result }
 {
-    if same_name(s, table, a, b) {
-        return match table {
-            Table::Fields => true,
-            Table::Methods(_) => true,
-            Table::Identities => same_package(s, a, b),
-            Table::Alike(_) => true,
-        };
+    if !same_name(s, table, a, b) {
+        return false;
     }
-    false
+    match table {
+        Table::Identities => same_package(s, a, b),
+        _ => true,
+    }
 }
 
 // Does the key of the item at p stand among those of the first n items from `from` on?
@@ -213,13 +178,11 @@ pub fn seen(s: &[u8], table: Table, from: usize, n: usize, p: usize) -> bool
     ensures { Seen table s.now from n p result }
 {
     let mut at = from;
-    let mut k = n;
-    while 0 < k {
+    for _ in 0..n {
         if same_key(s, table, p, at) {
             return true;
         }
         at = past_item(s, table, at);
-        k -= 1;
     }
     false
 }

@@ -6,12 +6,9 @@ use native.Mathlib.Omega.{arith}
 use lib.ListN.{length, get_or, set}
 use lib.Seq.{sets}
 use Rattle.format.specs.Reading.{little, part}
-use Rattle.vob24.specs.Grammar.{instruction}
-use Rattle.reader.proofs.Leaves.{narrow-byte, narrow-half}
 use Rattle.lists.specs.Runs.{numbers_at}
 use Rattle.lists.proofs.Copying.{byte_at}
-use Rattle.lists.proofs.Items.{Flat, flat-one, flat-more}
-use Rattle.instruction.specs.Formats.{instruction_format, instruction_widths}
+use Rattle.instruction.specs.Formats.{instruction_widths}
 
 -- the words of one, stored
 pub put_five : (s t : List ℕ) (p at : ℕ) {a b c d e : ℕ} → p + 8 ≤ length s → a ≡ get_or s p 0 → b ≡ get_or s (p + 1) 0
@@ -26,7 +23,3 @@ put_five s t p at h a b c d e =
     let j₂ : p + 2 + 2 ≡ p + 4 = omega arith in
     let j₃ : p + 4 + 2 ≡ p + 6 = omega arith in
     rw (i₁, i₂, i₃, i₄, j₁, j₂, j₃, byte_at s p (omega arith), byte_at s (p + 1) (omega arith), a, b, c, d, e)
-
-pub flat-instruction : Flat instruction_format instruction_widths
-unfolding instruction
-flat-instruction = flat-more narrow-byte (flat-more narrow-byte (flat-more narrow-half (flat-more narrow-half (flat-one narrow-half))))

@@ -2,17 +2,10 @@
 use Rattle.format.specs.Format.{Format}
 use Rattle.vob24.specs.Settings as of
 use Rattle.vob24.specs.Settings.{Settings}
-use Rattle.vob24.specs.Leaves.{member_name}
 use Rattle.vob24.specs.Grammar as vob
-
-abbrev pub name_list : Settings → Format
-name_list set = vob.list set of.String member_name
 
 abbrev pub method_format : Format
 method_format = vob.interface_method
-
-abbrev pub method_list : Settings → Format
-method_list set = vob.list set of.InterfaceMethodMeta vob.interface_method
 
 abbrev pub interface_format : Settings → Format
 interface_format set = vob.interface set

@@ -1,4 +1,6 @@
 -- The laws of texts: a text is a payload whose bytes are well-formed.
+use Rattle.std.specs.Prelude.{Ok, Err, Option, Some, None}
+use Rattle.std.specs.Result.{IsErrAnd}
 use Prim.Native.Nat.{ℕ, ◌+◌, ◌-◌, ◌≤◌}
 use lib.Seq.{take-add, take-take, drop_at, length-take-le}
 use mathlib.Core.Path.{◌≡◌, refl, ap, sym, ◌∙◌}
@@ -12,18 +14,15 @@ use Rattle.format.specs.Format.{Value, text, content, Rule, string, payload}
 use Rattle.format.specs.Reading.{little, part, room, field, trace_leaf}
 use Rattle.format.specs.SettleTheorems.{then_s, settle-bind}
 use Rattle.vob24.specs.Utf8.{ill_formed, characters, scan, well_formed, is_text}
-use Rattle.utf8.specs.Answers.{scan_of, Tries, known}
-use Rattle.utf8.specs.declared.Tried.{Tried}
-use Rattle.utf8.specs.declared.Scanned.{Scanned}
-use Rattle.utf8.specs.declared.Scanned.TheVariants.{IllFormed, Characters}
-use Rattle.reader.specs.Contract.{refusal, payload_step, text_step}
-use Rattle.reader.specs.Leaves.{Denied, Spanned, Spans, spanned, unspanned, Texts, written, unwritten, Checked, formed, malformed, passed}
+use Rattle.utf8.specs.Answers.{scan_of, Tries}
+use Rattle.reader.specs.Contract.{refusal, Read, span_at, text_at}
+use Rattle.reader.specs.Leaves.{Denied, Spanned, Spans, spanned, unspanned, Texts, written, unwritten, Checked, formed, malformed}
 use Rattle.reader.specs.declared.Cursor.{Cursor}
 use Rattle.reader.specs.declared.Refusal.{Refusal}
-use Rattle.reader.specs.declared.Payload.{Payload}
+use Rattle.reader.specs.declared.Span.{Span}
 use Rattle.reader.specs.declared.Text.{Text}
 use Rattle.reader.proofs.Settles.{guard-yes, guard-no}
-use Rattle.reader.proofs.Leaves.{text-refusal}
+use Rattle.reader.proofs.Errors.{handed}
 
 -- the questions of a text are those of the payload, then its own
 string-after : (ρ : Rule) (k : ℕ) (ok : List ℕ → Bool) (s : List ℕ) (p : ℕ)
@@ -67,26 +66,33 @@ module _ (ρ : Rule) (k : ℕ) {s : List ℕ} {c : Cursor} where
         → Denied (string ρ k well_formed) s c (refusal (wrong invalid_utf8 0) d.place d.left)
     text-malformed e = record { settles = text-leads ∙ guard-no d.left _ _ _ (ap is_text e) }
 
-pub text-then : {ρ : Rule} {k : ℕ} {s : List ℕ} {c : Cursor} {q : Payload} {t : Text} → Spans (payload ρ k) s c q
+pub text-then : {ρ : Rule} {k : ℕ} {s : List ℕ} {c : Cursor} {q : Read Span} {t : Read Text} → Spans (payload ρ k) s c q
     → Checked s q t → Texts (string ρ k well_formed) s c t
 text-then {ρ} {k} {s} {c} (spanned h) y = go h y
   where
-    go : {p n : ℕ} {d : Cursor} {t : Text} → Spanned (payload ρ k) s c p n d → Checked s (Payload.Got p n d) t
+    go : {p n : ℕ} {d : Cursor} {t : Read Text} → Spanned (payload ρ k) s c p n d → Checked s (Ok (span_at p n, d)) t
         → Texts (string ρ k well_formed) s c t
     go h (formed e) = written (text-formed ρ k h e) e
     go h (malformed e w) = rw w (unwritten (text-malformed ρ k h e))
-text-then {ρ} {k} {s} {c} (unspanned h) y = go h y
+text-then {ρ} {k} {s} {c} (unspanned h) y = elim y [ ]
+
+pub text-not : {ρ : Rule} {k : ℕ} {s : List ℕ} {c : Cursor} {q : Read Span} {t : Read Text} {x : Refusal} → q ≡ Err x
+    → IsErrAnd t (λ y. y ≡ x) → Spans (payload ρ k) s c q → Texts (string ρ k well_formed) s c t
+text-not {ρ} {k} {s} {c} {q} {t} {x} e i h = rw (handed t i) (go (rw e at h))
   where
-    go : {x : Refusal} {t : Text} → Denied (payload ρ k) s c x → Checked s (Payload.Not x) t
-        → Texts (string ρ k well_formed) s c t
-    go h passed = unwritten (text-denied ρ k h)
+    go : Spans (payload ρ k) s c (Err x) → Texts (string ρ k well_formed) s c (Err x)
+    go (unspanned a) = unwritten (text-denied ρ k a)
+
+pub text-up : {ρ : Rule} {k : ℕ} {s : List ℕ} {c : Cursor} {q t : Read Text} {x : Refusal} → q ≡ Err x
+    → IsErrAnd t (λ y. y ≡ x) → Texts (string ρ k well_formed) s c q → Texts (string ρ k well_formed) s c t
+text-up {t = t} e i h = rw (handed t i ∙ sym e) h
 
 -- the bytes of a payload are there
-pub spans-room : {ρ : Rule} {k : ℕ} {s : List ℕ} {c : Cursor} {q : Payload} {p n : ℕ} {d : Cursor}
-    → q ≡ Payload.Got p n d → Spans (payload ρ k) s c q → p + n ≤ length s
+pub spans-room : {ρ : Rule} {k : ℕ} {s : List ℕ} {c : Cursor} {q : Read Span} {p n : ℕ} {d : Cursor}
+    → q ≡ Ok (span_at p n, d) → Spans (payload ρ k) s c q → p + n ≤ length s
 spans-room {ρ} {k} {s} {c} {q} {p} {n} {d} e h = go (rw e at h)
   where
-    go : Spans (payload ρ k) s c (Payload.Got p n d) → p + n ≤ length s
+    go : Spans (payload ρ k) s c (Ok (span_at p n, d)) → p + n ≤ length s
     go (spanned h) = h.room
 
 -- a payload's bytes, of those up to its end: the code hands on no more of the pack
@@ -102,28 +108,17 @@ up-to s p n h =
     ∙ take-take n n (drop p s) (omega arith)
 
 -- a payload as a text
-module _ {s : List ℕ} {p n : ℕ} {d : Cursor} where
-  pub checked-got : {w : Scanned} {m : ℕ} → p + n ≤ length s → w ≡ Characters m → scan_of w ≡ scan (up_to s p n)
-      → Checked s (Payload.Got p n d) (Text.Got p n m d)
-  checked-got j i h = formed (ap scan (sym (up-to s p n j)) ∙ sym h ∙ ap scan_of i)
+module _ {s : List ℕ} {p : Span} {d : Cursor} (j : p.start + p.length ≤ length s) where
+  pub checked-got : {w : Option ℕ} {m : ℕ} → w ≡ Some m → scan_of w ≡ scan (up_to s p.start p.length)
+      → Checked s (Ok (p, d)) (Ok (text_at p m, d))
+  checked-got i h = formed (ap scan (sym (up-to s p.start p.length j)) ∙ sym h ∙ ap scan_of i)
 
-  pub checked-not : {w : Scanned} {x : Refusal} → p + n ≤ length s → w ≡ IllFormed → scan_of w ≡ scan (up_to s p n)
-      → x ≡ refusal (wrong invalid_utf8 0) d.place d.left → Checked s (Payload.Got p n d) (Text.Not x)
-  checked-not j i h y = malformed (ap scan (sym (up-to s p n j)) ∙ sym h ∙ ap scan_of i) y
+  pub checked-not : {w : Option ℕ} {x : Refusal} → w ≡ None → scan_of w ≡ scan (up_to s p.start p.length)
+      → x ≡ refusal (wrong invalid_utf8 0) d.place d.left → Checked s (Ok (p, d)) (Err x)
+  checked-not i h y = malformed (ap scan (sym (up-to s p.start p.length j)) ∙ sym h ∙ ap scan_of i) y
 
-  module _ {q : Payload} (e : q ≡ Payload.Got p n d) where
-    pub checked-of : {t u : Text} → Checked s (Payload.Got p n d) t → t ≡ u → Checked s q u
-    checked-of h i = rw (e, ← i) h
+  pub checked-tried : {w : Option ℕ} {m : ℕ} → w ≡ Some m → Tries (up_to s p.start p.length) w
+      → Checked s (Ok (p, d)) (Ok (text_at p m, d))
+  checked-tried i h = formed (ap scan (sym (up-to s p.start p.length j)) ∙ (rw i at h))
 
-    pub checked-tried : {w : Tried} {m : ℕ} → p + n ≤ length s → w ≡ Tried.Characters m → Tries (up_to s p n) w
-        → Checked s q (Text.Got p n m d)
-    checked-tried {w} {m} j i h = rw e (formed (ap scan (sym (up-to s p n j)) ∙ go (rw i at h)))
-      where
-        go : Tries (up_to s p n) (Tried.Characters m) → scan (up_to s p n) ≡ characters m
-        go (known l) = l
-
-pub checked-passed : {s : List ℕ} {q : Payload} {t : Text} {x : Refusal} → q ≡ Payload.Not x
-    → text_step t ≡ payload_step q → Checked s q t
-checked-passed {t = t} e i = rw (text-refusal t (i ∙ ap payload_step e), e) passed
-
-pub ruleset texts = (text-then, checked-got, checked-tried, checked-of, checked-not, checked-passed, spans-room)
+pub ruleset texts = (checked-got, checked-not)

@@ -1,16 +1,11 @@
 -- The laws of the step by value: what the section call has answered lies in the pack, and where that moves the
 -- position.
-use Prim.Native.Nat.{ℕ, ◌<◌, ◌^◌}
-use mathlib.Core.Path.{◌≡◌, ap, sym, ◌∙◌}
-use mathlib.Core.List.{List}
-use native.Mathlib.Omega.{arith}
-use lib.ListN.{length}
+use Rattle.std.proofs.Common.{ℕ, ◌<◌, ◌^◌, ◌≡◌, ap, sym, ◌∙◌, List, Ok, arith, length}
 use Rattle.vob24.specs.Settings.{settings}
 use Rattle.vob24.specs.Grammar.{Section}
 use Rattle.vob24.specs.Calls as vob
 use Rattle.vob24_theorems.specs.Theorems.{section-within}
-use Rattle.calls.specs.declared.Answer.{Answer}
-use Rattle.calls.specs.Contract.{answer_of, SectionCall}
+use Rattle.calls.specs.Contract.{Answer, answer_of, SectionCall}
 use Rattle.position.specs.Moving.{position_of, Moves, Fits}
 use Rattle.position.specs.declared.Position.{Position}
 use Rattle.position.specs.Contract.{LentCall}
@@ -19,8 +14,8 @@ module _ {n : ℕ} {x : Section} {s : List ℕ} {at : Position} {t : List ℕ} {
   -- the bytes taken lie in the pack
   pub fits-pack : length s < 2 ^ 64 → Fits at q
   fits-pack h = record {
-    fits = λ {w} {n = m} {c} {l} e.
-        let i : (vob.section_outcome settings n x s at.place at.budget t).answer ≡ vob.Taken w m c l = ap (λ o. o.answer) k.is ∙ ap answer_of e in
+    fits = λ {x = y} e.
+        let i : (vob.section_outcome settings n x s at.place at.budget t).answer ≡ answer_of (Ok y) = ap (λ o. o.answer) k.is ∙ ap answer_of e in
         omega (arith, section-within settings n x s at.place at.budget t i);
   }
 

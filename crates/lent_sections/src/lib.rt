@@ -5,14 +5,15 @@
 ghost use Rattle.vob24_data.specs.Sections.{section_of, functions_of};
 ghost use Rattle.position.specs.Contract.{LentCall};
 
-use calls::Answer;
+use calls::Taken;
 pub use position::Position;
+use reader::Refusal;
 use vob24_data::Section;
 
 // An answer, and the position after it.
 #[derive(Clone, Copy)]
 pub struct Lent {
-    pub answer: Answer,
+    pub answer: Result<Taken, Refusal>,
     pub next: Position,
 }
 
@@ -21,14 +22,16 @@ fn step(pack: &[u8], section: Section, from: Position, tape: &mut [u32]) -> Lent
         result.answer result.next tape.new }
 {
     let answer = sections::read_section(pack, section, from.place, from.budget, tape);
-    let next = position::moved(from, answer);
-    Lent {
-        answer: answer,
-        next: next,
-    }
+    let next = from.moved(answer);
+    Lent { answer, next }
 }
 
-pub fn read_section(pack: &[u8], section: Section, at: &mut Position, tape: &mut [u32]) -> Answer
+pub fn read_section(
+    pack: &[u8],
+    section: Section,
+    at: &mut Position,
+    tape: &mut [u32],
+) -> Result<Taken, Refusal>
     ensures { LentCall (functions_of section) (section_of section) pack.now at.old
         tape.old result at.new tape.new }
 {
@@ -44,8 +47,5 @@ pub fn read_section_at(pack: &[u8], section: Section, from: Position, tape: &mut
 {
     let mut at = from;
     let answer = read_section(pack, section, &mut at, tape);
-    Lent {
-        answer: answer,
-        next: at,
-    }
+    Lent { answer, next: at }
 }

@@ -86,6 +86,22 @@ module _ {ws : List ℕ} {n : ℕ} {s : List ℕ} {from : ℕ} {t : List ℕ} {a
     pub copying-done : k ≤ 0 → Copying ws n s from t at t' p i k → Copied ws n s from t at t'
     copying-done h c = record { is = sym (c.leads ∙ ap (sets t' i) (words-end ws k s p h)) }
 
+-- item number i of n
+pub left_more : (w p l : ℕ) {n i : ℕ} → i < n → p + w * (n - i) ≤ l → p + w + w * (n - (i + 1)) ≤ l
+left_more w p l {n} {i} h k =
+    let e : n - i - 1 ≡ n - (i + 1) = omega arith in
+    let j : 0 < n - i = omega arith in
+    let d : w * (n - i) ≡ w + w * (n - (i + 1)) = less w (n - i) j ∙ rw e in
+    omega (arith, d)
+
+module _ {ws : List ℕ} {n : ℕ} {s : List ℕ} {from : ℕ} {t : List ℕ} {at : ℕ} where
+  pub copying-next : {t' t'' : List ℕ} {p k i b w : ℕ} → i < n → t'' ≡ sets t' k (numbers_at ws s p) → b ≡ width ws → w ≡ length ws
+      → Copying ws n s from t at t' p k (n - i) → Copying ws n s from t at t'' (p + b) (k + w) (n - (i + 1))
+  copying-next {i = i} h e u v c =
+      let j : 0 < n - i = omega arith in
+      let x : n - i - 1 ≡ n - (i + 1) = omega arith in
+      rw (u, v) (rw x at (copying-more j e c))
+
 -- items after items
 pub words-length : (ws : List ℕ) (m : ℕ) (s : List ℕ) (p : ℕ) → length (words_at ws m s p) ≡ length ws * m
 unfolding words_at

@@ -1,10 +1,11 @@
 -- The law of runs: items that end at no charge may be read at once.
-use Prim.Native.Nat.{ℕ, suc, zero, ◌+◌, ◌-◌, ◌*◌, ◌≤◌, ◌<◌}
+use Rattle.std.specs.Prelude.{Ok}
+use Prim.Native.Nat.{ℕ, suc, zero, ◌+◌, ◌-◌, ◌*◌, ◌/◌, ◌≤◌, ◌<◌}
 use mathlib.Core.Path.{◌≡◌, refl, ◌∙◌}
 use mathlib.Core.Bool.{true}
 use mathlib.Core.List.{List, [], ◌∷◌}
 use native.Mathlib.Omega.{arith}
-use native.Mathlib.Nat.{add-zero, add_assoc, mul-suc, mul-le-mul_right}
+use native.Mathlib.Nat.{add-zero, add_assoc, mul-suc, mul-le-mul_left, mul-le-mul_right, mul-div-le, le_trans}
 use lib.ListN.{length, get_or}
 use lib.Dec.{leb}
 use lib.Seq.{sets}
@@ -16,14 +17,13 @@ use Rattle.format.specs.Record.{words, words_leaf}
 use Rattle.format.specs.SettleTheorems.{then_s}
 use Rattle.format.proofs.TraceTheorems.{settle-seq}
 use Rattle.vob24.specs.Leaves.{free, at_most}
-use Rattle.reader.specs.Contract.{ReadyAt, Takes, Reads}
+use Rattle.reader.specs.Contract.{ReadyAt, Takes, Reads, Step}
 use Rattle.reader.specs.declared.Cursor.{Cursor}
-use Rattle.reader.specs.declared.Step.{Step}
-use Rattle.reader.specs.declared.Step.TheVariants.{Taken}
 use Rattle.reader.proofs.Settles.{guard-yes, field-yes}
 use Rattle.reader.proofs.Leaves.{Narrow, narrow-byte, narrow-half, narrow-word}
 use Rattle.reader.proofs.Laws.{sets-append, takes-ready, then_reads, comes-on, Turns}
 use Rattle.lists.specs.Runs.{advanced, Runs, width, numbers_at, words_at, Copied, Low}
+use Rattle.lists.specs.Fixed.{Sized, Flat, flat-one, flat-more}
 use Rattle.lists.specs.declared.Rest.{Rest}
 use Rattle.lists.proofs.Copying.{byte_at, numbers-length}
 
@@ -65,12 +65,6 @@ module _ (w : Width) (ρ : Rule) (s : List ℕ) (p : ℕ) (o : Narrow w) (h : p 
         shows = rw (one-shows, i.shows);
       }
 
--- a format of numbers with no rule, by their widths
-pub data Flat : Format → List ℕ → Type 0 where
-  flat-one : {w : Width} → Narrow w → Flat (leaf (fixed w free)) (size w ∷ [])
-  flat-more : {w : Width} {g : Format} {ws : List ℕ} → Narrow w → Flat g ws
-      → Flat (leaf (fixed w free) ▸ g) (size w ∷ ws)
-
 item-flat : {f : Format} {ws : List ℕ} (s : List ℕ) (p : ℕ) → Flat f ws → p + width ws ≤ length s → Item f ws s p
 item-flat s p (flat-one {w} o) h = item-one w free s p o (omega arith) refl
 item-flat s p (flat-more {w} o k) h = item-more w free s p o (omega arith) refl (item-flat s (p + size w) k (omega arith))
@@ -84,13 +78,21 @@ flat-some : {f : Format} {ws : List ℕ} → Flat f ws → length ws ≤ width w
 flat-some (flat-one o) = omega (arith, narrow-some o)
 flat-some (flat-more o k) = omega (arith, narrow-some o, flat-some k)
 
+-- so many entries of l bytes are there, and their words are no more
+pub run-fits : {f : Format} {ws : List ℕ} {b w k n l : ℕ} → Flat f ws → Sized ws b w → k ≤ n → n ≤ l / b
+    → (width ws * k ≤ l) × (length ws * k ≤ l)
+run-fits {ws = ws} {b} {w} {k} {n} {l} f z h i =
+    let e : b * k ≤ l = le_trans (mul-le-mul_left b (le_trans h i)) (mul-div-le l b) in
+    let y : width ws * k ≤ l = rw z.bytes at e in
+    (y, le_trans (mul-le-mul_right k (flat-some f)) y)
+
 -- ---- runs
 
 -- m of n items, and the rest
 items-lead : {f : Format} {s : List ℕ} (ws : List ℕ) (m n : ℕ) (c : Cursor) (t : List ℕ) → m ≤ n
     → ((p : ℕ) → c.place ≤ p → p + width ws ≤ c.place + width ws * m → Item f ws s p) → {r : Step} {t'' : List ℕ}
-    → Reads (times f (n - m)) s (Taken (advanced c (width ws * m) (length ws * m))) (sets t c.at (words_at ws m s c.place)) r t''
-    → Reads (times f n) s (Taken c) t r t''
+    → Reads (times f (n - m)) s (Ok (advanced c (width ws * m) (length ws * m))) (sets t c.at (words_at ws m s c.place)) r t''
+    → Reads (times f n) s (Ok c) t r t''
 unfolding words_at chain
 items-lead ws zero n c t l i h =
     let e₁ : n - 0 ≡ n = omega arith in
@@ -141,7 +143,7 @@ runs-low y {m} {most = most} {s = s} {c = c} r l h k a e = runs_of r l (omega ar
 
 -- one item read by itself
 one-leads : {f : Format} {s : List ℕ} {c d : Cursor} {t t' t'' : List ℕ} {v : Value} {r : Step} (n : ℕ) → 0 < n
-    → Takes f s c t v d t' → Reads (times f (n - 1)) s (Taken d) t' r t'' → Reads (times f n) s (Taken c) t r t''
+    → Takes f s c t v d t' → Reads (times f (n - 1)) s (Ok d) t' r t'' → Reads (times f n) s (Ok c) t r t''
 unfolding chain
 one-leads zero h a k = absurd (omega arith)
 one-leads (suc n) h a k = let e : suc n - 1 ≡ n = omega arith in then_reads a (rw e at k)
@@ -152,7 +154,7 @@ runs-one {n = n} h r a e = rw e (record { rest = λ k. one-leads n h a k; ready 
 
 -- the loop over the items goes on past a run
 pub turns-run : {f : Format} {s : List ℕ} {t₀ : List ℕ} {r₀ r : Step} {n k : ℕ} {t t' : List ℕ} {c : Cursor} {q : Rest}
-    → r ≡ Taken c → Turns f s t₀ r₀ n t r k → Runs f s c t k q t' → length t' ≡ length t
-    → Turns f s t₀ r₀ n t' (Taken q.at) q.items
+    → r ≡ Ok c → Turns f s t₀ r₀ n t r k → Runs f s c t k q t' → length t' ≡ length t
+    → Turns f s t₀ r₀ n t' (Ok q.at) q.items
 turns-run e l h i =
     let long = i ∙ l.long in record { chained = record { comes = comes-on (rw e at l.chained.comes) h; long = long }; ready = h.ready; long = long }

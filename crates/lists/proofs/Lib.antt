@@ -1,3 +1,4 @@
 pub mod Copying
 pub mod Lows
+pub mod Listed
 pub mod Items

@@ -1,17 +1,15 @@
 -- Items read at once: what they leave of the list, and what stands on the tape.
-use Rattle.std.specs.Prelude.{ℕ, suc, zero, ◌+◌, ◌*◌, ◌≤◌, ◌<◌, ◌≡◌, List, [], ◌∷◌, ◌++◌, get_or}
+use Rattle.std.specs.Prelude.{ℕ, suc, zero, ◌+◌, ◌*◌, ◌≤◌, ◌<◌, ◌≡◌, List, [], ◌∷◌, ◌++◌, get_or, Ok}
 use Rattle.std.proofs.lemmas.List.Edits.{sets}
 use Rattle.format.specs.Format.{Format, times}
 use Rattle.format.specs.Reading.{little, part}
-use Rattle.reader.specs.Contract.{Reader, ComesTo}
+use Rattle.reader.specs.Contract.{Reader, ComesTo, Step}
 use Rattle.reader.specs.declared.Cursor.{Cursor}
-use Rattle.reader.specs.declared.Step.{Step}
-use Rattle.reader.specs.declared.Step.TheVariants.{Taken}
 use Rattle.lists.specs.declared.Rest.{Rest}
 
 -- THE contract of a reader of n items at a cursor.
 abbrev pub ItemsReader : Format → ℕ → List ℕ → Cursor → List ℕ → Step → List ℕ → Type 0
-ItemsReader f n s c t q t' = Reader (times f n) s (Taken c) t q t'
+ItemsReader f n s c t q t' = Reader (times f n) s (Ok c) t q t'
 
 -- the cursor past so many bytes and words, at no charge
 abbrev pub advanced : Cursor → ℕ → ℕ → Cursor
@@ -19,7 +17,7 @@ advanced c bytes words = record { place = c.place + bytes; left = c.left; at = c
 
 -- The contract of a run: the reading of n items at c comes down to that of the rest.
 abbrev pub Runs : Format → List ℕ → Cursor → List ℕ → ℕ → Rest → List ℕ → Type 0
-Runs f s c t n q t' = ComesTo (times f n) (times f q.items) s (Taken c) t (Taken q.at) t'
+Runs f s c t n q t' = ComesTo (times f n) (times f q.items) s (Ok c) t (Ok q.at) t'
 
 -- An item of fixed width, by the widths of its numbers in bytes: its own width, and its words at a place.
 abbrev pub width : List ℕ → ℕ

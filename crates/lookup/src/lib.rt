@@ -8,54 +8,43 @@ ghost use Rattle.vob24.specs.Grammar.{artifact};
 ghost use Rattle.in_place.specs.Contract.{Items};
 ghost use Rattle.lookup.specs.Look.{IsName, Looks, ArtifactsAt, LooksFrom};
 
-use reader::{Cursor, Refusal, numbers};
+use reader::{Cursor, Refusal, Span, numbers};
 use vob24_data::Settings;
-
-// start, length
-#[derive(Clone, Copy)]
-pub enum Found {
-    At(usize, usize),
-    Not(Refusal),
-}
 
 // Are the n bytes at p this name?
 fn is_name(s: &[u8], p: usize, n: usize, name: &[u8]) -> bool
     requires { p + n ≤ length s.now }
     ensures { IsName s.now p n name.now result }
 {
-    if n != name.len() {
-        return false;
-    }
-    let mut i = 0;
-    while i < n {
-        if s[p + i] != name[i] {
-            return false;
-        }
-        i += 1;
-    }
-    true
+    &s[p..p + n] == name
 }
 
 // The payload of the first of n artifacts from `from` on that has this name; 27 shows where the reading ended. No
 // setting is read here: `set` says under which limits the artifacts were read.
-fn look(s: &[u8], set: &Settings, from: usize, n: usize, name: &[u8], end: Cursor) -> Found
+fn look(
+    s: &[u8],
+    set: &Settings,
+    from: usize,
+    n: usize,
+    name: &[u8],
+    end: Cursor,
+) -> Result<Span, Refusal>
     requires { Items (artifact (settings_of set.now)) n s.now from }
     ensures { Looks (settings_of set.now) s.now from n name.now end result }
 {
     let mut at = from;
-    let mut k = n;
-    while 0 < k {
+    for _ in 0..n {
         let named = in_place::word_at(s, at);
         // The version is between the name and the payload's length.
         let payload = at + 4 + named + 4;
-        let len = in_place::word_at(s, payload);
+        let length = in_place::word_at(s, payload);
+        let start = payload + 4;
         if is_name(s, at + 4, named, name) {
-            return Found::At(payload + 4, len);
+            return Ok(Span { start, length });
         }
-        at = payload + 4 + len;
-        k -= 1;
+        at = start + length;
     }
-    Found::Not(Refusal {
+    Err(Refusal {
         number: numbers::NO_SUCH_ARTIFACT,
         context: 0,
         detail1: 0,
@@ -66,7 +55,13 @@ fn look(s: &[u8], set: &Settings, from: usize, n: usize, name: &[u8], end: Curso
 }
 
 // The same among the artifacts that a count at `at` says.
-pub fn look_from(s: &[u8], set: &Settings, at: usize, name: &[u8], end: Cursor) -> Found
+pub fn look_from(
+    s: &[u8],
+    set: &Settings,
+    at: usize,
+    name: &[u8],
+    end: Cursor,
+) -> Result<Span, Refusal>
     requires { ArtifactsAt (settings_of set.now) s.now at }
     ensures { LooksFrom (settings_of set.now) s.now at name.now end result }
 {

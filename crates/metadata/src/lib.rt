@@ -3,26 +3,28 @@
 // answered as an enum without lists, in a record beside its lists' starts and counts.
 #![tactic(auto)]
 
-ghost use Rattle.std.specs.Prelude.{◌≡◌, true, ◌≤◌, length, get_or};
+ghost use Rattle.std.specs.Prelude.{Bool, ◌≡◌, true, false, ◌≤◌, length, get_or};
 ghost use Rattle.format.specs.Format.{counted};
 ghost use Rattle.vob24.specs.Settings.{settings_of};
 ghost use Rattle.vob24.specs.Leaves.{u32};
 ghost use Rattle.vob24.specs.Grammar.{slot_types};
-ghost use Rattle.reader.specs.Contract.{step_of, Ready, ReadyAt, Reader, NumberOf};
+ghost use Rattle.reader.specs.Contract.{ReadyAt, NumberOf};
+ghost use Rattle.reader.specs.Recorded.{RecordOf};
 ghost use Rattle.select_case.specs.Records.{select_list};
 ghost use Rattle.metadata.specs.Records.{metadata_format, metadata_list, two_layouts, elem_layout, map_get, slot_layout, iface_assert, call_iface, bare_of, one_of, two_of, elem_of, map_get_of, loop_end_of, slot_of, assert_of, call_iface_of, metadata_of};
-ghost use Rattle.metadata.specs.Contract.{metadata_step, MetadataReader, ReaderAt};
+ghost use Rattle.metadata.specs.Contract.{ReaderAt};
 
-use reader::{Cursor, ListAt, Number, Refusal, Step, sizes};
+use lists::Entry;
+use reader::{Cursor, ListAt, Read, Step, sizes};
 use vob24_data::Settings;
 
-// The tags of the two commonest metadata.
+// The tags of the two commonest metadata, numbers as the file has them: an enum would be matched a second time.
 const NONE: u8 = 0;
 
 const CALL_LAYOUT: u8 = 11;
 
 // What belongs to an instruction, without its lists.
-#[derive(Clone, Copy)]
+#[derive(Clone, Copy, PartialEq, Eq, Debug)]
 pub enum Metadata {
     None,
     ElemLayout {
@@ -58,17 +60,11 @@ pub enum Metadata {
 }
 
 // A metadata and its lists in file order; absent lists are empty.
-#[derive(Clone, Copy)]
+#[derive(Clone, Copy, PartialEq, Eq, Debug)]
 pub struct MetadataRecord {
     pub kind: Metadata,
     pub first: ListAt,
     pub second: ListAt,
-}
-
-#[derive(Clone, Copy)]
-pub enum MetadataRead {
-    Got(MetadataRecord, Cursor),
-    Not(Refusal),
 }
 
 // ---- the parts of a metadata
@@ -84,76 +80,63 @@ fn bare(kind: Metadata) -> MetadataRecord
     }
 }
 
-// A field's refusal as this reader's answer. The first arm is never run.
-fn metadata_refusal(q: Number) -> MetadataRead
-    ensures { metadata_step result ≡ step_of q }
-{
-    match q {
-        Number::Got(_, c) => MetadataRead::Got(bare(Metadata::None), c),
-        Number::Not(x) => MetadataRead::Not(x),
-    }
-}
-
 // ---- metadata by their shapes
 
 // One slot layout.
-fn layout(s: &[u8], set: &Settings, c: Cursor, kind: Metadata, tape: &mut [u32]) -> MetadataRead
+fn layout(
+    s: &[u8],
+    set: &Settings,
+    c: Cursor,
+    kind: Metadata,
+    tape: &mut [u32],
+) -> Read<MetadataRecord>
     requires { ReadyAt s.now c }
-    ensures { MetadataReader (slot_types (settings_of set.now)) (one_of kind) s.now c
+    ensures { RecordOf (slot_types (settings_of set.now)) (one_of kind) s.now c
         tape.old result tape.new }
 {
-    let q = slots::number_slot_types(s, set, c, tape);
-    let Number::Got(n, d) = q else {
-        return metadata_refusal(q);
-    };
-    MetadataRead::Got(
+    let (n, d) = slots::number_slot_types(s, set, c, tape)?;
+    Ok((
         MetadataRecord {
             kind,
             first: reader::list_at(s, c, n),
             second: ListAt { start: 0, count: 0 },
         },
         d,
-    )
+    ))
 }
 
 // Two slot layouts.
-fn layouts(s: &[u8], set: &Settings, c: Cursor, kind: Metadata, tape: &mut [u32]) -> MetadataRead
+fn layouts(
+    s: &[u8],
+    set: &Settings,
+    c: Cursor,
+    kind: Metadata,
+    tape: &mut [u32],
+) -> Read<MetadataRecord>
     requires { ReadyAt s.now c }
-    ensures { MetadataReader (two_layouts (settings_of set.now)) (two_of kind) s.now c
+    ensures { RecordOf (two_layouts (settings_of set.now)) (two_of kind) s.now c
         tape.old result tape.new }
 {
-    let q1 = slots::number_slot_types(s, set, c, tape);
-    let Number::Got(m, d) = q1 else {
-        return metadata_refusal(q1);
-    };
-    let q2 = slots::number_slot_types(s, set, d, tape);
-    let Number::Got(n, e) = q2 else {
-        return metadata_refusal(q2);
-    };
-    MetadataRead::Got(
+    let (m, d) = slots::number_slot_types(s, set, c, tape)?;
+    let (n, e) = slots::number_slot_types(s, set, d, tape)?;
+    Ok((
         MetadataRecord {
             kind,
             first: reader::list_at(s, c, m),
             second: reader::list_at(s, d, n),
         },
         e,
-    )
+    ))
 }
 
 // elem_bytes, needs_sign_extend, slot_layout
-fn elem_layout(s: &[u8], set: &Settings, c: Cursor, tape: &mut [u32]) -> MetadataRead
+fn elem_layout(s: &[u8], set: &Settings, c: Cursor, tape: &mut [u32]) -> Read<MetadataRecord>
     requires { ReadyAt s.now c }
-    ensures { MetadataReader (elem_layout (settings_of set.now)) elem_of s.now c
+    ensures { RecordOf (elem_layout (settings_of set.now)) elem_of s.now c
         tape.old result tape.new }
 {
-    let q1 = fields::number_u32(s, c, tape);
-    let Number::Got(bytes, d) = q1 else {
-        return metadata_refusal(q1);
-    };
-    let q2 = fields::number_bool(s, d, tape);
-    let Number::Got(extend, e) = q2 else {
-        return metadata_refusal(q2);
-    };
+    let (bytes, d) = fields::number_u32(s, c, tape)?;
+    let (extend, e) = fields::number_bool(s, d, tape)?;
     let kind = Metadata::ElemLayout {
         elem_bytes: bytes as u32,
         needs_sign_extend: extend == 1,
@@ -162,55 +145,40 @@ fn elem_layout(s: &[u8], set: &Settings, c: Cursor, tape: &mut [u32]) -> Metadat
 }
 
 // key_layout, val_layout, has_ok
-fn map_get(s: &[u8], set: &Settings, c: Cursor, tape: &mut [u32]) -> MetadataRead
+fn map_get(s: &[u8], set: &Settings, c: Cursor, tape: &mut [u32]) -> Read<MetadataRecord>
     requires { ReadyAt s.now c }
-    ensures { MetadataReader (map_get (settings_of set.now)) map_get_of s.now c
+    ensures { RecordOf (map_get (settings_of set.now)) map_get_of s.now c
         tape.old result tape.new }
 {
-    let q1 = slots::number_slot_types(s, set, c, tape);
-    let Number::Got(m, d) = q1 else {
-        return metadata_refusal(q1);
-    };
-    let q2 = slots::number_slot_types(s, set, d, tape);
-    let Number::Got(n, e) = q2 else {
-        return metadata_refusal(q2);
-    };
-    let q3 = fields::number_bool(s, e, tape);
-    let Number::Got(ok, f) = q3 else {
-        return metadata_refusal(q3);
-    };
-    MetadataRead::Got(
+    let (m, d) = slots::number_slot_types(s, set, c, tape)?;
+    let (n, e) = slots::number_slot_types(s, set, d, tape)?;
+    let (ok, f) = fields::number_bool(s, e, tape)?;
+    Ok((
         MetadataRecord {
             kind: Metadata::MapGet { has_ok: ok == 1 },
             first: reader::list_at(s, c, m),
             second: reader::list_at(s, d, n),
         },
         f,
-    )
+    ))
 }
 
 // end_pc
-fn loop_end(s: &[u8], c: Cursor, tape: &mut [u32]) -> MetadataRead
+fn loop_end(s: &[u8], c: Cursor, tape: &mut [u32]) -> Read<MetadataRecord>
     requires { ReadyAt s.now c }
-    ensures { MetadataReader u32 loop_end_of s.now c tape.old result tape.new }
+    ensures { RecordOf u32 loop_end_of s.now c tape.old result tape.new }
 {
-    let q = fields::number_u32(s, c, tape);
-    let Number::Got(pc, d) = q else {
-        return metadata_refusal(q);
-    };
-    MetadataRead::Got(bare(Metadata::LoopEnd { end_pc: pc as u32 }), d)
+    let (pc, d) = fields::number_u32(s, c, tape)?;
+    Ok((bare(Metadata::LoopEnd { end_pc: pc as u32 }), d))
 }
 
 // array_len, elem_layout
-fn slot_layout(s: &[u8], set: &Settings, c: Cursor, tape: &mut [u32]) -> MetadataRead
+fn slot_layout(s: &[u8], set: &Settings, c: Cursor, tape: &mut [u32]) -> Read<MetadataRecord>
     requires { ReadyAt s.now c }
-    ensures { MetadataReader (slot_layout (settings_of set.now)) slot_of s.now c
+    ensures { RecordOf (slot_layout (settings_of set.now)) slot_of s.now c
         tape.old result tape.new }
 {
-    let q = fields::number_u16(s, c, tape);
-    let Number::Got(length, d) = q else {
-        return metadata_refusal(q);
-    };
+    let (length, d) = fields::number_u16(s, c, tape)?;
     let kind = Metadata::SlotLayout {
         array_len: length as u16,
     };
@@ -218,19 +186,18 @@ fn slot_layout(s: &[u8], set: &Settings, c: Cursor, tape: &mut [u32]) -> Metadat
 }
 
 // assert_kind, target_id, result_layout
-fn iface_assert_layout(s: &[u8], set: &Settings, c: Cursor, tape: &mut [u32]) -> MetadataRead
+fn iface_assert_layout(
+    s: &[u8],
+    set: &Settings,
+    c: Cursor,
+    tape: &mut [u32],
+) -> Read<MetadataRecord>
     requires { ReadyAt s.now c }
-    ensures { MetadataReader (iface_assert (settings_of set.now)) assert_of s.now c
+    ensures { RecordOf (iface_assert (settings_of set.now)) assert_of s.now c
         tape.old result tape.new }
 {
-    let q1 = fields::number_assert_kind(s, c, tape);
-    let Number::Got(assert, d) = q1 else {
-        return metadata_refusal(q1);
-    };
-    let q2 = fields::number_u32(s, d, tape);
-    let Number::Got(target, e) = q2 else {
-        return metadata_refusal(q2);
-    };
+    let (assert, d) = fields::number_assert_kind(s, c, tape)?;
+    let (target, e) = fields::number_u32(s, d, tape)?;
     let kind = Metadata::IfaceAssertLayout {
         assert_kind: assert as u8,
         target_id: target as u32,
@@ -239,19 +206,13 @@ fn iface_assert_layout(s: &[u8], set: &Settings, c: Cursor, tape: &mut [u32]) ->
 }
 
 // iface_meta_id, method_idx, arg_layout, ret_layout
-fn call_iface_layout(s: &[u8], set: &Settings, c: Cursor, tape: &mut [u32]) -> MetadataRead
+fn call_iface_layout(s: &[u8], set: &Settings, c: Cursor, tape: &mut [u32]) -> Read<MetadataRecord>
     requires { ReadyAt s.now c }
-    ensures { MetadataReader (call_iface (settings_of set.now)) call_iface_of s.now c
+    ensures { RecordOf (call_iface (settings_of set.now)) call_iface_of s.now c
         tape.old result tape.new }
 {
-    let q1 = fields::number_u32(s, c, tape);
-    let Number::Got(id, d) = q1 else {
-        return metadata_refusal(q1);
-    };
-    let q2 = fields::number_u32(s, d, tape);
-    let Number::Got(method, e) = q2 else {
-        return metadata_refusal(q2);
-    };
+    let (id, d) = fields::number_u32(s, c, tape)?;
+    let (method, e) = fields::number_u32(s, d, tape)?;
     let kind = Metadata::CallIfaceLayout {
         iface_meta_id: id as u32,
         method_idx: method as u32,
@@ -260,37 +221,36 @@ fn call_iface_layout(s: &[u8], set: &Settings, c: Cursor, tape: &mut [u32]) -> M
 }
 
 // cases
-fn select_exec_layout(s: &[u8], set: &Settings, c: Cursor, tape: &mut [u32]) -> MetadataRead
+fn select_exec_layout(s: &[u8], set: &Settings, c: Cursor, tape: &mut [u32]) -> Read<MetadataRecord>
     requires { ReadyAt s.now c }
-    ensures { MetadataReader (select_list (settings_of set.now)) (one_of Metadata.SelectExecLayout)
+    ensures { RecordOf (select_list (settings_of set.now)) (one_of Metadata.SelectExecLayout)
         s.now c tape.old result tape.new }
 {
-    let q = select_case::number_select_cases(s, set, c, tape);
-    let Number::Got(n, d) = q else {
-        return metadata_refusal(q);
-    };
-    MetadataRead::Got(
+    let (n, d) = select_case::number_select_cases(s, set, c, tape)?;
+    Ok((
         MetadataRecord {
             kind: Metadata::SelectExecLayout,
             first: reader::list_at(s, c, n),
             second: ListAt { start: 0, count: 0 },
         },
         d,
-    )
+    ))
 }
 
 // The tag, and the metadata that it announces; the last arm is 18, as number_metadata_tag refuses all others.
-pub fn instruction_metadata(s: &[u8], set: &Settings, c: Cursor, tape: &mut [u32]) -> MetadataRead
+pub fn instruction_metadata(
+    s: &[u8],
+    set: &Settings,
+    c: Cursor,
+    tape: &mut [u32],
+) -> Read<MetadataRecord>
     requires { ReadyAt s.now c }
-    ensures { MetadataReader (metadata_format (settings_of set.now)) metadata_of s.now c
+    ensures { RecordOf (metadata_format (settings_of set.now)) metadata_of s.now c
         tape.old result tape.new }
 {
-    let q = fields::number_metadata_tag(s, c, tape);
-    let Number::Got(tag, d) = q else {
-        return metadata_refusal(q);
-    };
+    let (tag, d) = fields::number_metadata_tag(s, c, tape)?;
     match tag {
-        0 => MetadataRead::Got(bare(Metadata::None), d),
+        0 => Ok((bare(Metadata::None), d)),
         1 => elem_layout(s, set, d, tape),
         2 => map_get(s, set, d, tape),
         3 => layouts(s, set, d, Metadata::MapSet, tape),
@@ -311,16 +271,6 @@ pub fn instruction_metadata(s: &[u8], set: &Settings, c: Cursor, tape: &mut [u32
 
 // ---- lists, in which no record is asked for
 
-// The answer without its record.
-fn metadata_step(q: MetadataRead) -> Step
-    ensures { result ≡ metadata_step q }
-{
-    match q {
-        MetadataRead::Got(_, c) => Step::Taken(c),
-        MetadataRead::Not(x) => Step::Refused(x),
-    }
-}
-
 // Is the byte at `place` this tag? False at the end.
 fn is_tag(s: &[u8], place: usize, tag: u8) -> bool
     requires { place ≤ length s.now }
@@ -337,62 +287,55 @@ fn two_layouts(s: &[u8], set: &Settings, c: Cursor, tape: &mut [u32]) -> Step
     ensures { ReaderAt (two_layouts (settings_of set.now)) s.now c tape.old result
         tape.new }
 {
-    let q1 = slots::number_slot_types(s, set, c, tape);
-    let Number::Got(_, d) = q1 else {
-        return reader::step_of(q1);
-    };
-    let q2 = slots::number_slot_types(s, set, d, tape);
-    let Number::Got(_, e) = q2 else {
-        return reader::step_of(q2);
-    };
-    Step::Taken(e)
+    let (_, d) = slots::number_slot_types(s, set, c, tape)?;
+    let (_, e) = slots::number_slot_types(s, set, d, tape)?;
+    Ok(e)
 }
 
-// The next of a list: the two commonest, None and CallLayout, are read without their records.
-fn next_metadata(s: &[u8], set: &Settings, r: Step, tape: &mut [u32]) -> Step
-    requires { Ready s.now r }
-    ensures { Reader (metadata_format (settings_of set.now)) s.now r tape.old result
-        tape.new }
-{
-    let Step::Taken(c) = r else {
-        return r;
-    };
-    let place = c.place;
-    if is_tag(s, place, NONE) {
-        let p = fields::number_metadata_tag(s, c, tape);
-        let Number::Got(_, e) = p else {
-            return reader::step_of(p);
-        };
-        return Step::Taken(e);
+#[derive(Clone, Copy)]
+struct InstructionMetadata<'a> {
+    set: &'a Settings,
+}
+
+// The two commonest, None and CallLayout, are read without their records.
+impl Entry for InstructionMetadata<'_> {
+    ghost format = { λ x. metadata_format (settings_of x.set.now) };
+
+    ghost again = { λ _. false };
+
+    fn read(&self, s: &[u8], r: Step, tape: &mut [u32]) -> Step {
+        let c = r?;
+        let place = c.place;
+        if is_tag(s, place, NONE) {
+            let (_, d) = fields::number_metadata_tag(s, c, tape)?;
+            return Ok(d);
+        }
+        if is_tag(s, place, CALL_LAYOUT) {
+            let (_, d) = fields::number_metadata_tag(s, c, tape)?;
+            return two_layouts(s, self.set, d, tape);
+        }
+        let (_, d) = instruction_metadata(s, self.set, c, tape)?;
+        Ok(d)
     }
-    if is_tag(s, place, CALL_LAYOUT) {
-        let q = fields::number_metadata_tag(s, c, tape);
-        let Number::Got(_, d) = q else {
-            return reader::step_of(q);
-        };
-        return two_layouts(s, set, d, tape);
-    }
-    metadata_step(instruction_metadata(s, set, c, tape))
 }
 
 // Also returns the count.
-pub fn number_instruction_metadata(s: &[u8], set: &Settings, c: Cursor, tape: &mut [u32]) -> Number
+pub fn number_instruction_metadata(
+    s: &[u8],
+    set: &Settings,
+    c: Cursor,
+    tape: &mut [u32],
+) -> Read<u64>
     requires { ReadyAt s.now c }
     ensures { NumberOf (metadata_list (settings_of set.now)) counted s.now c
         tape.old result tape.new }
 {
-    let q = fields::number_count(s, set, c, sizes::INSTRUCTION_METADATA, tape);
-    let Number::Got(n, d) = q else {
-        return q;
-    };
-    let mut k = n;
-    let mut here = Step::Taken(d);
-    while 0 < k {
-        here = next_metadata(s, set, here, tape);
-        let Step::Taken(_) = here else {
-            return reader::number_of(n, here);
-        };
-        k -= 1;
-    }
-    reader::number_of(n, here)
+    lists::number_list(
+        s,
+        set,
+        c,
+        sizes::INSTRUCTION_METADATA,
+        &InstructionMetadata { set },
+        tape,
+    )
 }

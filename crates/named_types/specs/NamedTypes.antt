@@ -1,14 +1,12 @@
 -- The formats of the named-type section under the Rust's settings.
-use Rattle.std.specs.Prelude.{ℕ, ◌≤◌, ◌<◌, ◌≡◌, List, [], true, false}
+use Rattle.std.specs.Prelude.{ℕ, ◌≤◌, ◌<◌, ◌≡◌, List, [], true, false, Ok, Err}
 use Rattle.format.specs.Format.{Format, chain}
 use Rattle.vob24.specs.Settings as of
 use Rattle.vob24.specs.Settings.{Settings}
 use Rattle.vob24.specs.Grammar as vob
-use Rattle.reader.specs.Contract.{Reader}
+use Rattle.reader.specs.Contract.{Reader, Step}
 use Rattle.reader.specs.declared.Cursor.{Cursor}
 use Rattle.reader.specs.declared.Refusal.{Refusal}
-use Rattle.reader.specs.declared.Step.{Step}
-use Rattle.reader.specs.declared.Step.TheVariants.{Taken, Refused}
 use Rattle.in_place.specs.declared.Item.TheVariants.{NamedMethod}
 use Rattle.in_place.specs.declared.Table.TheVariants.{Methods}
 use Rattle.in_place.specs.Contract.{Items}
@@ -43,6 +41,6 @@ pub record MethodsRead (s : List ℕ) (d : Cursor) (n first : ℕ) (t : List ℕ
   pub below : m ≤ first
   pub items : Items named_method m s d.place
   pub reads : AllNew s d.place m → (first < n → repeat_at (keys_at (Methods NamedMethod) s d.place) first ≡ true)
-      → Reader (new_methods n) s (Taken d) t q t'
+      → Reader (new_methods n) s (Ok d) t q t'
   pub stops : AllNew s d.place m → first < n → repeat_at (keys_at (Methods NamedMethod) s d.place) first ≡ true
-      → (x : Refusal) × (q ≡ Refused x)
+      → (x : Refusal) × (q ≡ Err x)

@@ -8,7 +8,8 @@ ghost use Rattle.reader.specs.Accepted.{Accepted};
 ghost use Rattle.named_types.specs.NamedTypes.{named_method, named_methods, named_format, named_list, MethodsRead};
 
 use in_place::{Item, Table};
-use reader::{Cursor, Number, Step, sizes};
+use lists::Entry;
+use reader::{Cursor, Step, sizes};
 use vob24_data::Settings;
 
 fn method(s: &[u8], r: Step, tape: &mut [u32]) -> Step
@@ -22,11 +23,12 @@ fn method(s: &[u8], r: Step, tape: &mut [u32]) -> Step
     fields::field_u32(s, receiver_is_iface_boxed, tape)
 }
 
-// How many methods were read, and the answer past them.
+// How many methods were read, and the answer past them. The count is needed where the next one is refused, too: a repeat
+// among those before it comes first.
 #[derive(Clone, Copy)]
 struct Run {
-    pub count: usize,
-    pub step: Step,
+    count: usize,
+    step: Step,
 }
 
 // Reads up to n methods; after method `first` asks whether its name is a repeat, and stops.
@@ -35,27 +37,24 @@ fn read_methods(s: &[u8], d: Cursor, n: usize, first: usize, tape: &mut [u32]) -
     ensures { MethodsRead s.now d n first tape.old result.count result.step
         tape.new }
 {
-    let from = d.place;
-    let mut i = 0;
-    let mut here = Step::Taken(d);
-    while i < n {
-        let read = method(s, here, tape);
+    let mut here = d;
+    for i in 0..n {
+        let read = method(s, Ok(here), tape);
         if i == first {
-            let step = unique_names::new_method(s, from, i, here, read);
+            let step = unique_names::new_method(s, d.place, i, Ok(here), read);
             return Run { count: i, step };
         }
-        here = read;
-        let Step::Taken(_) = here else {
+        let Ok(e) = read else {
             return Run {
                 count: i,
-                step: here,
+                step: read,
             };
         };
-        i += 1;
+        here = e;
     }
     Run {
         count: n,
-        step: here,
+        step: Ok(here),
     }
 }
 
@@ -66,13 +65,7 @@ fn methods(s: &[u8], set: &Settings, r: Step, again: bool, tape: &mut [u32]) -> 
     ensures { Reader (named_methods (settings_of set.now)) s.now r tape.old result
         tape.new }
 {
-    let Step::Taken(c) = r else {
-        return r;
-    };
-    let q = fields::number_method_count(s, set, c, tape);
-    let Number::Got(n, d) = q else {
-        return reader::step_of(q);
-    };
+    let (n, d) = fields::number_method_count(s, set, r?, tape)?;
     let count = n as usize;
     let run = read_methods(s, d, count, count, tape);
     if again {
@@ -87,19 +80,26 @@ fn methods(s: &[u8], set: &Settings, r: Step, again: bool, tape: &mut [u32]) -> 
     if first == run.count {
         return run.step;
     }
-    let judged = read_methods(s, d, count, first, tape);
-    judged.step
+    read_methods(s, d, count, first, tape).step
 }
 
-fn named_type(s: &[u8], set: &Settings, r: Step, again: bool, tape: &mut [u32]) -> Step
-    requires { (Ready s.now r) × (Accepted again (named_format (settings_of set.now)) s.now r) }
-    ensures { Reader (named_format (settings_of set.now)) s.now r tape.old result
-        tape.new }
-{
-    let name = fields::field_str(s, r, tape);
-    let underlying_meta = fields::field_value_meta(s, name, tape);
-    let underlying_rttid = fields::field_value_rttid(s, underlying_meta, tape);
-    methods(s, set, underlying_rttid, again, tape)
+#[derive(Clone, Copy)]
+struct NamedType<'a> {
+    set: &'a Settings,
+    again: bool,
+}
+
+impl Entry for NamedType<'_> {
+    ghost format = { λ x. named_format (settings_of x.set.now) };
+
+    ghost again = { λ x. x.again };
+
+    fn read(&self, s: &[u8], r: Step, tape: &mut [u32]) -> Step {
+        let name = fields::field_str(s, r, tape);
+        let underlying_meta = fields::field_value_meta(s, name, tape);
+        let underlying_rttid = fields::field_value_rttid(s, underlying_meta, tape);
+        methods(s, self.set, underlying_rttid, self.again, tape)
+    }
 }
 
 pub fn named_types(s: &[u8], set: &Settings, r: Step, again: bool, tape: &mut [u32]) -> Step
@@ -107,21 +107,12 @@ pub fn named_types(s: &[u8], set: &Settings, r: Step, again: bool, tape: &mut [u
     ensures { Reader (named_list (settings_of set.now)) s.now r tape.old result
         tape.new }
 {
-    let Step::Taken(c) = r else {
-        return r;
-    };
-    let q = fields::number_count(s, set, c, sizes::NAMED_TYPE_META, tape);
-    let Number::Got(n, d) = q else {
-        return reader::step_of(q);
-    };
-    let mut k = n;
-    let mut here = Step::Taken(d);
-    while 0 < k {
-        here = named_type(s, set, here, again, tape);
-        let Step::Taken(_) = here else {
-            return here;
-        };
-        k -= 1;
-    }
-    here
+    lists::read_list(
+        s,
+        set,
+        r,
+        sizes::NAMED_TYPE_META,
+        &NamedType { set, again },
+        tape,
+    )
 }

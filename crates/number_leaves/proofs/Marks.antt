@@ -1,12 +1,13 @@
 -- The laws of magic and version: what each answer of their codes has to show.
-use Prim.Native.Nat.{ℕ, ◌+◌, ◌-◌, ◌≤◌, ◌<◌}
+use Rattle.std.specs.Prelude.{Ok, Err}
+use Rattle.std.specs.Result.{IsErrAnd}
+use Rattle.std.specs.Array.{IsFirstChunk}
+use Prim.Native.Nat.{ℕ, ◌+◌, ◌≤◌, ◌<◌}
 use mathlib.Core.Path.{◌≡◌, refl, ap, sym, ◌∙◌}
 use mathlib.Core.List.{List, [], ◌∷◌}
 use mathlib.Core.Bool.{Bool, true, false}
 use native.Mathlib.Omega.{arith}
-use native.Mathlib.Nat.{add_assoc}
-use lib.ListN.{length, get_or}
-use borrow.Author.Tests.{eq-eqb, ne_eqb}
+use lib.ListN.{length}
 use Rattle.format.specs.Trace.{Wrong, wrong, unexpected_eof, settle, pick}
 use Rattle.format.specs.Format.{mark}
 use Rattle.format.specs.Reading.{little, part, same, trace_leaf}
@@ -15,17 +16,13 @@ use Rattle.format.proofs.TraceTheorems.{part_length}
 use Rattle.format.proofs.LayoutTheorems.{digits-little, same-eq}
 use Rattle.vob24.specs.Refusals.{invalid_magic, unsupported_version}
 use Rattle.vob24.specs.Leaves.{magic_mark, version_mark}
-use Rattle.reader.specs.Contract.{refusal, step_of, ReadyAt}
+use Rattle.reader.specs.Contract.{refusal, ReadyAt, Step, Read}
 use Rattle.reader.specs.Leaves.{past, Fetched, Fetches, Denied, Marks, marked, unmarked}
 use Rattle.reader.specs.declared.Cursor.{Cursor}
 use Rattle.reader.specs.declared.Refusal.{Refusal}
-use Rattle.reader.specs.declared.Step.{Step}
-use Rattle.reader.specs.declared.Step.TheVariants.{Taken, Refused}
-use Rattle.reader.specs.declared.Number.{Number}
-use Rattle.reader.specs.declared.Number.TheVariants.{Got, Not}
-use Rattle.reader.proofs.Gather.{read_take}
 use Rattle.reader.proofs.Settles.{guard-yes, guard-no, field-yes, field-no}
-use Rattle.reader.proofs.Leaves.{fetched, shorts}
+use Rattle.reader.proofs.Errors.{handed}
+use Rattle.reader.proofs.Leaves.{rest, rest-length, chunk-is, fetched, shorts}
 
 -- any mark, by its bytes
 module _ {m : List ℕ} {y : ℕ → Wrong} {s : List ℕ} {c : Cursor} where
@@ -40,39 +37,31 @@ module _ {m : List ℕ} {y : ℕ → Wrong} {s : List ℕ} {c : Cursor} where
   mark-other h e = record { settles = field-yes c.left (length m) s c.place _ h ∙ guard-no c.left _ _ _ e }
 
   mark-same : c.place + length m ≤ length s → same (part s c.place (length m)) m ≡ true
-      → Marks (mark m y) s c (Taken (past (length m) c))
+      → Marks (mark m y) s c (Ok (past (length m) c))
   unfolding trace_leaf settle
   mark-same h e = marked {d = past (length m) c} (field-yes c.left (length m) s c.place _ h ∙ guard-yes c.left _ _ _ e) refl
 
-pub magic-short : {s : List ℕ} {c : Cursor} {x : Refusal} → ReadyAt s c → length s - c.place < 3
-    → x ≡ refusal (wrong unexpected_eof 0) c.place c.left → Marks magic_mark s c (Refused x)
-magic-short r h e = rw e (unmarked (mark-few (omega (arith, r.within))))
+abbrev vob : List ℕ
+vob = 86 ∷ 79 ∷ 66 ∷ []
 
-module _ {s : List ℕ} {c : Cursor} (r : ReadyAt s c) (h : 3 ≤ length s - c.place) where
-  inside : c.place + 3 ≤ length s
-  inside = omega (arith, r.within)
+module _ {s : List ℕ} {c : Cursor} (r : ReadyAt s c) where
+  pub magic-short : {x : Refusal} → length (rest s c) < 3 → x ≡ refusal (wrong unexpected_eof 0) c.place c.left → Marks magic_mark s c (Err x)
+  magic-short h e = rw e (unmarked (mark-few (omega (arith, r.within, rest-length s c))))
 
-  three : part s c.place 3 ≡ get_or s c.place 0 ∷ get_or s (c.place + 1) 0 ∷ get_or s (c.place + 2) 0 ∷ []
-  three = read_take 3 s c.place inside ∙ simp add_assoc
+  module _ {bs : List ℕ} (h : IsFirstChunk (rest s c) bs 3) where
+    inside : c.place + 3 ≤ length s
+    inside = omega (arith, r.within, rest-length s c, h.enough)
 
-  module _ {x : Refusal} (e : x ≡ refusal (wrong invalid_magic 0) (c.place + 3) c.left) where
-    pub magic-first : (get_or s c.place 0 ≡ 86 → ⊥) → Marks magic_mark s c (Refused x)
+    pub magic-got : bs ≡ vob → Marks magic_mark s c (Ok (past 3 c))
     unfolding same pick
-    magic-first i = rw e (unmarked (mark-other inside (rw three (rw (ne_eqb _ _ i)))))
+    magic-got e = mark-same inside (rw (← chunk-is s c h, e) refl)
 
-    pub magic-second : get_or s c.place 0 ≡ 86 → (get_or s (c.place + 1) 0 ≡ 79 → ⊥) → Marks magic_mark s c (Refused x)
-    unfolding same pick
-    magic-second i j = rw e (unmarked (mark-other inside (rw three (rw (eq-eqb _ _ i, ne_eqb _ _ j)))))
-
-    pub magic-third : get_or s c.place 0 ≡ 86 → get_or s (c.place + 1) 0 ≡ 79 → (get_or s (c.place + 2) 0 ≡ 66 → ⊥)
-        → Marks magic_mark s c (Refused x)
-    unfolding same pick
-    magic-third i j k = rw e (unmarked (mark-other inside (rw three (rw (eq-eqb _ _ i, eq-eqb _ _ j, ne_eqb _ _ k)))))
-
-  pub magic-got : get_or s c.place 0 ≡ 86 → get_or s (c.place + 1) 0 ≡ 79 → get_or s (c.place + 2) 0 ≡ 66
-      → Marks magic_mark s c (Taken (past 3 c))
-  unfolding same pick
-  magic-got i j k = mark-same inside (rw three (rw (eq-eqb _ _ i, eq-eqb _ _ j, eq-eqb _ _ k)))
+    pub magic-other : {x : Refusal} → (bs ≡ vob → ⊥) → x ≡ refusal (wrong invalid_magic 0) (c.place + 3) c.left → Marks magic_mark s c (Err x)
+    magic-other i e = rw e (unmarked (mark-other inside (go (same (part s c.place 3) vob) refl)))
+      where
+        go : (b : Bool) → same (part s c.place 3) vob ≡ b → b ≡ false
+        go true j = absurd (i (chunk-is s c h ∙ same-eq (part s c.place 3) vob (rw j tt)))
+        go false j = refl
 
 -- four bytes are those of 24 exactly where their number is
 abbrev twenty_four : List ℕ
@@ -96,19 +85,19 @@ other-version {s} {c} {d} {n} f e = go (same (part s c.place 4) twenty_four) ref
     go true i = let j = same-eq (part s c.place 4) twenty_four (rw i tt) in absurd (e (f.is ∙ ap little j))
     go false i = refl
 
-module _ {s : List ℕ} {c : Cursor} {q : Number} where
-  pub version-short : {x : Refusal} {r : Step} → q ≡ Not x → r ≡ step_of q → Fetches 4 s c q → Marks version_mark s c r
-  version-short e i h = let k = shorts e h in rw (i, e, k.is) (unmarked (mark-few k.room))
+module _ {s : List ℕ} {c : Cursor} {q : Read ℕ} where
+  pub version-short : {x : Refusal} {r : Step} → q ≡ Err x → IsErrAnd r (λ y. y ≡ x) → Fetches 4 s c q → Marks version_mark s c r
+  version-short {r = r} e i h = let k = shorts e h in rw (handed r i, k.is) (unmarked (mark-few k.room))
 
-  module _ {n : ℕ} {d : Cursor} (e : q ≡ Got n d) (h : Fetches 4 s c q) where
+  module _ {n : ℕ} {d : Cursor} (e : q ≡ Ok (n, d)) (h : Fetches 4 s c q) where
     pub version-no : {x : Refusal} → (n ≡ 24 → ⊥) → x ≡ refusal (wrong unsupported_version n) d.place d.left
-        → Marks version_mark s c (Refused x)
+        → Marks version_mark s c (Err x)
     version-no i j =
         let f = fetched e h in
         let k = mark-other {m = twenty_four} {y = λ n. wrong unsupported_version n} f.room (other-version f i) in
         rw (j, f.next, f.is) (unmarked k)
 
-    pub version-got : n ≡ 24 → Marks version_mark s c (Taken d)
+    pub version-got : n ≡ 24 → Marks version_mark s c (Ok d)
     version-got i = let f = fetched e h in rw f.next (mark-same f.room (same_version f i))
 
-pub ruleset marks = (magic-short, magic-first, magic-second, magic-third, magic-got, version-short, version-no, version-got)
+pub ruleset marks = (version-short, version-no, version-got)

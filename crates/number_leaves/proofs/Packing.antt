@@ -1,4 +1,6 @@
 -- The laws of packed numbers: what the loop over the bytes has read, and what it leads to.
+use Rattle.std.specs.Prelude.{Ok, Err}
+use Rattle.std.specs.Result.{IsErrAnd}
 use Prim.Native.Nat.{ℕ, zero, suc, ◌+◌, ◌-◌, ◌*◌, ◌%◌, ◌^◌, ◌≤◌, ◌<◌}
 use mathlib.Core.Path.{◌≡◌, refl, ap, ◌∙◌}
 use mathlib.Core.List.{List}
@@ -11,12 +13,11 @@ use Rattle.format.specs.Trace.{Wrong, wrong, unexpected_eof, invalid_source_inte
 use Rattle.format.specs.Format.{num, packed}
 use Rattle.format.specs.Reading.{packed_step, trace_packed, trace_leaf}
 use Rattle.format.specs.SettleTheorems.{then_s, settle-bind}
-use Rattle.reader.specs.Contract.{refusal, ReadyAt}
+use Rattle.reader.specs.Contract.{refusal, ReadyAt, Read}
 use Rattle.reader.specs.Leaves.{Fetched, Short, Fetches, Answers, answered, denied}
 use Rattle.reader.specs.declared.Cursor.{Cursor}
 use Rattle.reader.specs.declared.Refusal.{Refusal}
-use Rattle.reader.specs.declared.Number.{Number}
-use Rattle.reader.specs.declared.Number.TheVariants.{Got, Not}
+use Rattle.reader.proofs.Errors.{handed}
 use Rattle.reader.proofs.Gather.{gather, gather-lt}
 use Rattle.reader.proofs.Settles.{guard-yes, guard-no, field-yes, field-no}
 use Rattle.reader.proofs.Leaves.{fetched, shorts, below, past-ready}
@@ -126,13 +127,13 @@ unfolding trace_packed
 step-short {s} {d} zero m h = field-no d.left 1 s d.place _ h.room
 step-short {s} {d} (suc k) m h = field-no d.left 1 s d.place _ h.room
 
-module _ {s : List ℕ} {c : Cursor} {v : ℕ} {d : Cursor} {i : ℕ} (p : Packing s c v d i) {q : Number} where
-  pub packing-short : {x : Refusal} → q ≡ Not x → Fetches 1 s d q → Answers packed s c q
-  packing-short e h = let k = shorts e h in rw (e, k.is) (denied (record { settles = p.refuses (step-short p.k (least i) k) }))
+module _ {s : List ℕ} {c : Cursor} {v : ℕ} {d : Cursor} {i : ℕ} (p : Packing s c v d i) {q : Read ℕ} where
+  pub packing-short : {p' : Read ℕ} {x : Refusal} → q ≡ Err x → IsErrAnd p' (λ y. y ≡ x) → Fetches 1 s d q → Answers packed s c p'
+  packing-short {p'} e j h = let k = shorts e h in rw (handed p' j, k.is) (denied (record { settles = p.refuses (step-short p.k (least i) k) }))
 
-  module _ {b : ℕ} {e : Cursor} (y : q ≡ Got b e) (h : Fetches 1 s d q) where
+  module _ {b : ℕ} {e : Cursor} (y : q ≡ Ok (b, e)) (h : Fetches 1 s d q) where
     pub packing-over : {x : Refusal} → i ≡ 4 → 15 < b → x ≡ refusal (wrong invalid_source_integer 0) e.place e.left
-        → Answers packed s c (Not x)
+        → Answers packed s c (Err x)
     packing-over j g w =
         let z : p.k ≡ 0 = omega (arith, p.turn) in
         let o : settle d.left (trace_packed p.k (least i) s d.place) ≡ refused (wrong invalid_source_integer 0) e.place e.left = rw z (step-over (fetched y h) (least i) g) in
@@ -143,14 +144,14 @@ module _ {s : List ℕ} {c : Cursor} {v : ℕ} {d : Cursor} {i : ℕ} (p : Packi
       fifth z = r.fifth (omega (arith, p.turn))
 
       pub packing-padded : {x : Refusal} → b < 128 → (i ≡ 0 → ⊥) → b ≡ 0
-          → x ≡ refusal (wrong invalid_source_integer 0) e.place e.left → Answers packed s c (Not x)
+          → x ≡ refusal (wrong invalid_source_integer 0) e.place e.left → Answers packed s c (Err x)
       packing-padded g n z w = rw w (denied (record { settles = p.refuses (step-padded (fetched y h) p.k (least i) fifth g (one i n)) }))
         where
           one : (i : ℕ) → (i ≡ 0 → ⊥) → b < least i
           one zero n = absurd (n refl)
           one (suc i) n = omega arith
 
-      last : b < 128 → least i ≤ b → Answers packed s c (Got (v + b % 128 * 2 ^ (7 * i)) e)
+      last : b < 128 → least i ≤ b → Answers packed s c (Ok (v + b % 128 * 2 ^ (7 * i), e))
       last g m =
           let w : b % 128 ≡ b = omega arith in
           let f = fetched y h in
@@ -162,7 +163,7 @@ module _ {s : List ℕ} {c : Cursor} {v : ℕ} {d : Cursor} {i : ℕ} (p : Packi
             stays = ap (λ (x : Cursor). x.at) f.next ∙ p.stays;
           })
 
-      pub packing-first : b < 128 → i ≡ 0 → Answers packed s c (Got (bit_or v ((bit_and b 127 * 2 ^ (7 * i)) % 2 ^ 32)) e)
+      pub packing-first : b < 128 → i ≡ 0 → Answers packed s c (Ok (bit_or v ((bit_and b 127 * 2 ^ (7 * i)) % 2 ^ 32), e))
       packing-first g z = rw (or-group i v b r p.below) (last g (go i z))
         where
           go : (i : ℕ) → i ≡ 0 → least i ≤ b
@@ -170,7 +171,7 @@ module _ {s : List ℕ} {c : Cursor} {v : ℕ} {d : Cursor} {i : ℕ} (p : Packi
           go (suc i) z = absurd (omega arith)
 
       pub packing-last : b < 128 → (b ≡ 0 → ⊥)
-          → Answers packed s c (Got (bit_or v ((bit_and b 127 * 2 ^ (7 * i)) % 2 ^ 32)) e)
+          → Answers packed s c (Ok (bit_or v ((bit_and b 127 * 2 ^ (7 * i)) % 2 ^ 32), e))
       packing-last g n = rw (or-group i v b r p.below) (last g (go i))
         where
           go : (i : ℕ) → least i ≤ b

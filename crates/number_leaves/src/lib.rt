@@ -8,110 +8,89 @@ ghost use Rattle.vob24.specs.Grammar.{metadata_tag};
 ghost use Rattle.reader.specs.Contract.{ReadyAt};
 ghost use Rattle.reader.specs.Leaves.{Answers, Marks};
 
-use reader::{Cursor, Number, Step, numbers};
+use reader::{Cursor, Read, Step, numbers};
 
 // ---- numbers judged by a rule
 
 // A byte at most `most`, else `number` with the byte.
-pub fn read_small(s: &[u8], c: Cursor, most: u64, number: u64) -> Number
+pub fn read_small(s: &[u8], c: Cursor, most: u64, number: u64) -> Read<u64>
     requires { ReadyAt s.now c }
     ensures { Answers (Leaf.fixed Width.byte (at_most most number)) s.now c result }
 {
-    let q = reader::read_u8(s, c);
-    let Number::Got(n, d) = q else {
-        return q;
-    };
+    let (n, d) = reader::read_u8(s, c)?;
     if most < n {
-        return Number::Not(reader::refuse(d, number, n));
+        return Err(reader::refuse(d, number, n));
     }
-    Number::Got(n, d)
+    Ok((n, d))
 }
 
 // The same, and the refusal does not show the byte.
-pub fn read_bare(s: &[u8], c: Cursor, most: u64, number: u64) -> Number
+pub fn read_bare(s: &[u8], c: Cursor, most: u64, number: u64) -> Read<u64>
     requires { ReadyAt s.now c }
     ensures { Answers (Leaf.fixed Width.byte (at_most_bare most number)) s.now c result }
 {
-    let q = reader::read_u8(s, c);
-    let Number::Got(n, d) = q else {
-        return q;
-    };
+    let (n, d) = reader::read_u8(s, c)?;
     if most < n {
-        return Number::Not(reader::refuse(d, number, 0));
+        return Err(reader::refuse(d, number, 0));
     }
-    Number::Got(n, d)
+    Ok((n, d))
 }
 
 // The tag of an instruction's metadata: 6, 7 and 8 are not in use.
-pub fn read_metadata_tag(s: &[u8], c: Cursor) -> Number
+pub fn read_metadata_tag(s: &[u8], c: Cursor) -> Read<u64>
     requires { ReadyAt s.now c }
     ensures { Answers (Leaf.fixed Width.byte metadata_tag) s.now c result }
 {
-    let q = reader::read_u8(s, c);
-    let Number::Got(n, d) = q else {
-        return q;
-    };
-    if n <= 5 {
-        return Number::Got(n, d);
+    let (n, d) = reader::read_u8(s, c)?;
+    match n {
+        0..=5 | 9..=18 => Ok((n, d)),
+        _ => Err(reader::refuse(d, numbers::INVALID_INSTRUCTION_METADATA, 0)),
     }
-    if n < 9 {
-        return Number::Not(reader::refuse(d, numbers::INVALID_INSTRUCTION_METADATA, 0));
-    }
-    if 18 < n {
-        return Number::Not(reader::refuse(d, numbers::INVALID_INSTRUCTION_METADATA, 0));
-    }
-    Number::Got(n, d)
 }
 
 // A packed word: a kind in the low byte, else 9; then an id above it, else `invalid`.
-pub fn read_packed_word(s: &[u8], c: Cursor, invalid: u64) -> Number
+pub fn read_packed_word(s: &[u8], c: Cursor, invalid: u64) -> Read<u64>
     requires { ReadyAt s.now c }
     ensures { Answers (Leaf.fixed Width.word (packed_word invalid)) s.now c result }
 {
-    let q = reader::read_u32(s, c);
-    let Number::Got(n, d) = q else {
-        return q;
-    };
+    let (n, d) = reader::read_u32(s, c)?;
     let kind = n % 256;
     if 24 < kind {
-        return Number::Not(reader::refuse(d, numbers::INVALID_VALUE_KIND, kind));
+        return Err(reader::refuse(d, numbers::INVALID_VALUE_KIND, kind));
     }
     if 0xff_ffff <= n / 256 {
-        return Number::Not(reader::refuse(d, invalid, n));
+        return Err(reader::refuse(d, invalid, n));
     }
-    Number::Got(n, d)
+    Ok((n, d))
 }
 
 // ---- packed numbers
 
-pub fn read_source_u32(s: &[u8], c: Cursor) -> Number
+pub fn read_source_u32(s: &[u8], c: Cursor) -> Read<u64>
     requires { ReadyAt s.now c }
     ensures { Answers Leaf.packed s.now c result }
 {
     let mut d = c;
     let mut value: u32 = 0;
     for i in 0u32..5 {
-        let q = reader::read_u8(s, d);
-        let Number::Got(byte, e) = q else {
-            return q;
-        };
+        let (byte, e) = reader::read_u8(s, d)?;
         d = e;
         if i == 4 {
             if 0x0f < byte {
-                return Number::Not(reader::refuse(d, numbers::INVALID_SOURCE_INTEGER, 0));
+                return Err(reader::refuse(d, numbers::INVALID_SOURCE_INTEGER, 0));
             }
         }
         value |= ((byte & 0x7f) as u32) << (7 * i);
         if byte < 0x80 {
             if i != 0 {
                 if byte == 0 {
-                    return Number::Not(reader::refuse(d, numbers::INVALID_SOURCE_INTEGER, 0));
+                    return Err(reader::refuse(d, numbers::INVALID_SOURCE_INTEGER, 0));
                 }
             }
-            return Number::Got(value as u64, d);
+            return Ok((u64::from(value), d));
         }
     }
-    Number::Not(reader::refuse(d, numbers::INVALID_SOURCE_INTEGER, 0))
+    Err(reader::refuse(d, numbers::INVALID_SOURCE_INTEGER, 0))
 }
 
 // ---- marks
@@ -120,38 +99,24 @@ pub fn read_magic(s: &[u8], c: Cursor) -> Step
     requires { ReadyAt s.now c }
     ensures { Marks magic_mark s.now c result }
 {
-    let place = c.place;
-    if s.len() - place < 3 {
-        return Step::Refused(reader::refuse(c, numbers::UNEXPECTED_EOF, 0));
-    }
-    let d = Cursor {
-        place: place + 3,
-        left: c.left,
-        at: c.at,
+    let rest = &s[c.place..];
+    let Some(mark) = rest.first_chunk::<3>() else {
+        return Err(reader::refuse(c, numbers::UNEXPECTED_EOF, 0));
     };
-    let wrong = Step::Refused(reader::refuse(d, numbers::INVALID_MAGIC, 0));
-    if s[place] != b'V' {
-        return wrong;
+    let d = reader::past(3, c);
+    if *mark == *b"VOB" {
+        return Ok(d);
     }
-    if s[place + 1] != b'O' {
-        return wrong;
-    }
-    if s[place + 2] != b'B' {
-        return wrong;
-    }
-    Step::Taken(d)
+    Err(reader::refuse(d, numbers::INVALID_MAGIC, 0))
 }
 
 pub fn read_version(s: &[u8], c: Cursor) -> Step
     requires { ReadyAt s.now c }
     ensures { Marks version_mark s.now c result }
 {
-    let q = reader::read_u32(s, c);
-    let Number::Got(n, d) = q else {
-        return reader::step_of(q);
-    };
+    let (n, d) = reader::read_u32(s, c)?;
     if n != 24 {
-        return Step::Refused(reader::refuse(d, numbers::UNSUPPORTED_VERSION, n));
+        return Err(reader::refuse(d, numbers::UNSUPPORTED_VERSION, n));
     }
-    Step::Taken(d)
+    Ok(d)
 }

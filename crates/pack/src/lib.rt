@@ -8,10 +8,9 @@ ghost use Rattle.lookup.specs.Look.{LocateCall, FindCall};
 ghost use Rattle.alike_names.specs.Contract.{AlikeCall};
 ghost use Rattle.pack.specs.Find.{Whole, Located};
 
-use alike_names::Alike;
-use calls::Answer;
-use lookup::Found;
-use reader::{Cursor, Step};
+use alike_names::AlikeNames;
+use calls::Taken;
+use reader::{Cursor, Refusal, Span, Step};
 use vob24_data::{Section, Settings};
 
 // The Rust's own, under which the lookup and names alike read.
@@ -24,32 +23,35 @@ const SMALL: usize = 128;
 const OWN: usize = 40;
 
 // A small pack: where its record fits the call's own tape, it is copied from there.
-fn read_once(pack: &[u8], set: &Settings, start: Step, budget: u64, tape: &mut [u32]) -> Answer
+fn read_once(
+    pack: &[u8],
+    set: &Settings,
+    start: Step,
+    budget: u64,
+    tape: &mut [u32],
+) -> Result<Taken, Refusal>
     requires { Opens pack.now 0 budget start }
     ensures { ReadCall (settings_of set.now) pack.now budget tape.old result
         tape.new }
 {
     let mut own = [0u32; OWN];
     let first = deserialize::deserialize(pack, set, start, false, &mut own);
-    let answer = calls::closed_whole(first, pack.len(), budget, tape.len());
-    let Answer::Taken { words, .. } = answer else {
-        return answer;
-    };
-    if words <= OWN {
-        calls::copy_record(&own, words, tape);
-        return answer;
+    let taken = calls::closed_whole(first, pack.len(), budget, tape.len())?;
+    if taken.words <= OWN {
+        calls::copy_record(&own, taken.words, tape);
+        return Ok(taken);
     }
-    deserialize::deserialize(pack, set, start, true, tape);
-    answer
+    let _ = deserialize::deserialize(pack, set, start, true, tape);
+    Ok(taken)
 }
 
 // A pack under a budget. Taken, the tape's counted words are the record; refused, the tape is as it was.
-pub fn read(pack: &[u8], budget: u64, tape: &mut [u32]) -> Answer
+pub fn read(pack: &[u8], budget: u64, tape: &mut [u32]) -> Result<Taken, Refusal>
     ensures { ReadCall settings pack.now budget tape.old result tape.new }
 {
     let set = &vob24_data::MEASURED;
     if pack.len() <= SMALL {
-        let start = Step::Taken(Cursor {
+        let start = Ok(Cursor {
             place: 0,
             left: budget,
             at: 0,
@@ -58,40 +60,31 @@ pub fn read(pack: &[u8], budget: u64, tape: &mut [u32]) -> Answer
     }
     let start = calls::opening_whole(pack, budget);
     let first = deserialize::deserialize(pack, set, start, false, &mut tape[..0]);
-    let answer = calls::closed_whole(first, pack.len(), budget, tape.len());
-    let Answer::Taken { .. } = answer else {
-        return answer;
-    };
-    deserialize::deserialize(pack, set, start, true, tape);
-    answer
+    let taken = calls::closed_whole(first, pack.len(), budget, tape.len())?;
+    let _ = deserialize::deserialize(pack, set, start, true, tape);
+    Ok(taken)
 }
 
 // The artifact of this name in a pack that was taken from r on, up to `end`.
-fn located(s: &[u8], set: &Settings, r: Step, name: &[u8], end: Cursor) -> Found
+fn located(s: &[u8], set: &Settings, r: Step, name: &[u8], end: Cursor) -> Result<Span, Refusal>
     requires { Whole (settings_of set.now) s.now r end }
     ensures { Located (settings_of set.now) s.now r name.now end result }
 {
     let mut none = [0u32; 1];
     let at = deserialize::to_section(s, set, Section::Artifacts, r, &mut none[..0]);
-    match at {
-        Step::Refused(x) => Found::Not(x),
-        Step::Taken(a) => lookup::look_from(s, set, a.place, name, end),
-    }
+    lookup::look_from(s, set, at?.place, name, end)
 }
 
 // Start and length of the payload of the first artifact with exactly these name bytes, or the refusal.
-pub fn locate_artifact(pack: &[u8], name: &[u8]) -> Found
+pub fn locate_artifact(pack: &[u8], name: &[u8]) -> Result<Span, Refusal>
     ensures { LocateCall settings pack.now name.now result }
 {
     let set = &vob24_data::MEASURED;
     let mut none = [0u32; 1];
     let start = calls::opening_whole(pack, STARTING_BUDGET);
     let first = deserialize::deserialize(pack, set, start, false, &mut none[..0]);
-    let end = calls::ended(first, pack.len());
-    match end {
-        Step::Refused(x) => Found::Not(x),
-        Step::Taken(c) => located(pack, set, start, name, c),
-    }
+    let end = calls::ended(first, pack.len())?;
+    located(pack, set, start, name, end)
 }
 
 // That payload as a part of the pack; refused, an empty part.
@@ -100,26 +93,23 @@ pub fn find_artifact<'a>(pack: &'a [u8], name: &[u8]) -> &'a [u8]
 {
     let found = locate_artifact(pack, name);
     match found {
-        Found::At(start, length) => {
-            let end = start + length;
-            &pack[start..end]
+        Ok(payload) => {
+            let end = payload.start + payload.length;
+            &pack[payload.start..end]
         }
-        Found::Not(_) => &pack[..0],
+        Err(_) => &pack[..0],
     }
 }
 
 // Start and length of two names of one table that are the same letters, composed in one and decomposed in the other: the
 // pair whose later name ends earliest in the file, with the earlier name nearest to it; none; or the refusal.
-pub fn alike_names(pack: &[u8]) -> Alike
+pub fn alike_names(pack: &[u8]) -> Result<Option<AlikeNames>, Refusal>
     ensures { AlikeCall settings pack.now result }
 {
     let set = &vob24_data::MEASURED;
     let mut none = [0u32; 1];
     let start = calls::opening_whole(pack, STARTING_BUDGET);
     let first = deserialize::deserialize(pack, set, start, false, &mut none[..0]);
-    let end = calls::ended(first, pack.len());
-    match end {
-        Step::Refused(x) => Alike::Not(x),
-        Step::Taken(_) => alike_names::find_alike(pack, set),
-    }
+    calls::ended(first, pack.len())?;
+    Ok(alike_names::find_alike(pack, set))
 }

@@ -2,131 +2,66 @@
 // words, in one line: `taken WORDS BYTES CHARGED LEFT` or `refused NUMBER C D1 D2 PLACE LEFT`.
 #![tactic(auto)]
 
-ghost use Rattle.std.specs.Prelude.{◌≤◌, length};
+ghost use Rattle.std.specs.Prelude.{◌≤◌, length, IfOk};
 
-use calls::Answer;
-use std::io;
+use calls::Taken;
+use reader::Refusal;
 use std::io::Read;
+use std::{fmt, io};
 
+const MOST: usize = 65536;
+
+// An answer, printed as its line.
 #[derive(Drop)]
-struct Moved {
-    bytes: usize,
-    failed: bool,
-}
+struct Line(Result<Taken, Refusal>);
 
-fn read_some(input: &mut impl Read, buf: &mut [u8]) -> Moved
-    ensures { result.bytes ≤ length buf.old }
-{
-    match input.read(buf) {
-        Ok(bytes) => Moved {
-            bytes,
-            failed: false,
-        },
-        Err(_) => Moved {
-            bytes: 0,
-            failed: true,
-        },
+impl fmt::Display for Line {
+    fn fmt<W: fmt::Write>(&self, f: &mut fmt::Formatter<W>) -> fmt::Result {
+        match self.0 {
+            Ok(
+                Taken {
+                    words,
+                    bytes,
+                    charged,
+                    left,
+                },
+            ) => write!(f, "taken {words} {bytes} {charged} {left}"),
+            Err(r) => write!(
+                f,
+                "refused {} {} {} {} {} {}",
+                r.number, r.context, r.detail1, r.detail2, r.place, r.left
+            ),
+        }
     }
 }
 
-#[derive(Drop)]
-enum Ending {
-    End,
-    More,
-    Failed,
-}
-
-#[derive(Drop)]
-struct Input {
-    bytes: usize,
-    ending: Ending,
-}
-
-// What follows a full buffer.
-fn after_full(input: &mut impl Read) -> Ending {
-    let mut one = [0u8; 1];
-    let m = read_some(input, &mut one);
-    if m.failed {
-        Ending::Failed
-    } else if m.bytes == 0 {
-        Ending::End
-    } else {
-        Ending::More
-    }
-}
-
-// Fills `buf` from standard input, and says how that ends.
-fn read_input(input: &mut impl Read, buf: &mut [u8]) -> Input
-    ensures { result.bytes ≤ length buf.old }
+// Reads to `buf` until it is full or the input ends, and says how many bytes. No `for`: a read gives as many as it likes.
+fn read_input(input: &mut impl Read, buf: &mut [u8]) -> io::Result<usize>
+    ensures { IfOk result (λ n. n ≤ length buf.old) }
 {
     let mut at = 0;
     while at < buf.len() {
-        let m = read_some(input, &mut buf[at..]);
-        if m.failed {
-            return Input {
-                bytes: at,
-                ending: Ending::Failed,
-            };
-        }
-        if m.bytes == 0 {
-            return Input {
-                bytes: at,
-                ending: Ending::End,
-            };
-        }
-        at += m.bytes;
-    }
-    Input {
-        bytes: at,
-        ending: after_full(input),
-    }
-}
-
-// A number of the line, after a space.
-fn put(rt: &impl Print, n: u64) -> io::Result<()> {
-    print!(rt; " {n}")
-}
-
-fn print(rt: &impl Print, answer: Answer) -> io::Result<()> {
-    match answer {
-        Answer::Taken {
-            words,
-            bytes,
-            charged,
-            left,
-        } => {
-            print!(rt; "taken")?;
-            put(rt, words as u64)?;
-            put(rt, bytes as u64)?;
-            put(rt, charged)?;
-            put(rt, left)?;
-        }
-        Answer::Refused(r) => {
-            print!(rt; "refused")?;
-            put(rt, r.number)?;
-            put(rt, r.context)?;
-            put(rt, r.detail1)?;
-            put(rt, r.detail2)?;
-            put(rt, r.place as u64)?;
-            put(rt, r.left)?;
+        match input.read(&mut buf[at..])? {
+            0 => break,
+            n => at += n,
         }
     }
-    println!(rt)
+    Ok(at)
 }
 
 fn check(rt: &impl Print, pack: &[u8]) -> io::Result<()> {
     let mut tape = [0; 16384];
-    print(rt, pack::read(pack, pack::STARTING_BUDGET, &mut tape))
+    let answer = pack::read(pack, pack::STARTING_BUDGET, &mut tape);
+    println!(rt; "{}", Line(answer))
 }
 
 fn main(rt: HostRuntime) -> io::Result<()> {
-    let mut buf = [0; 65536];
-    let input = read_input(&mut rt.stdin(), &mut buf);
-    let n = input.bytes;
-    let ending = input.ending;
-    match ending {
-        Ending::End => check(&rt, &buf[0..n]),
-        Ending::More => println!(rt; "too long for packcheck"),
-        Ending::Failed => println!(rt; "cannot read standard input"),
+    // One byte more than a pack may have, which shows an input that is too long. No `Vec`: the proof would rest on the C
+    // library's heap too.
+    let mut buf = [0; 65537];
+    match read_input(&mut rt.stdin(), &mut buf) {
+        Ok(n) if n > MOST => println!(rt; "too long for packcheck"),
+        Ok(n) => check(&rt, &buf[..n]),
+        Err(_) => println!(rt; "cannot read standard input"),
     }
 }

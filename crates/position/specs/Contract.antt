@@ -4,8 +4,7 @@ use Rattle.std.specs.Prelude.{ℕ, ◌≡◌, List}
 use Rattle.vob24.specs.Settings.{settings}
 use Rattle.vob24.specs.Grammar.{Section}
 use Rattle.vob24.specs.Calls as vob
-use Rattle.calls.specs.declared.Answer.{Answer}
-use Rattle.calls.specs.Contract.{answer_of}
+use Rattle.calls.specs.Contract.{Answer, answer_of}
 use Rattle.position.specs.Moving.{position_of}
 use Rattle.position.specs.declared.Position.{Position}
 

@@ -1,8 +1,8 @@
 -- Where an answer moves a position.
-use Rattle.std.specs.Prelude.{ℕ, ◌+◌, ◌<◌, ◌^◌, ◌≡◌}
+use Rattle.std.specs.Prelude.{◌+◌, ◌<◌, ◌^◌, ◌≡◌, Ok}
 use Rattle.vob24.specs.Calls as vob
-use Rattle.calls.specs.declared.Answer.{Answer}
-use Rattle.calls.specs.Contract.{answer_of}
+use Rattle.calls.specs.declared.Taken.{Taken}
+use Rattle.calls.specs.Contract.{Answer, answer_of}
 use Rattle.position.specs.declared.Position.{Position}
 
 -- Document 01's place and budget.
@@ -15,4 +15,4 @@ pub record Moves (at : Position) (q : Answer) (at' : Position) : Type 0 where
 
 -- The bytes taken end at a 64-bit place.
 pub record Fits (at : Position) (q : Answer) : Type 0 where
-  pub fits : {w n c l : ℕ} → q ≡ Answer.Taken w n c l → at.place + n < 2 ^ 64
+  pub fits : {x : Taken} → q ≡ Ok x → at.place + x.bytes < 2 ^ 64

@@ -4,29 +4,27 @@
 
 ghost use Rattle.position.specs.Moving.{Fits, Moves};
 
-use calls::Answer;
+use calls::Taken;
+use reader::Refusal;
 
-#[derive(Clone, Copy)]
+#[derive(Clone, Copy, PartialEq, Eq, Debug)]
 pub struct Position {
     pub place: usize,
     pub budget: u64,
 }
 
-// Past the bytes taken, with what is left; a refusal leaves the position.
-pub fn moved(at: Position, answer: Answer) -> Position
-    requires { Fits at answer }
-    ensures { Moves at answer result }
-{
-    match answer {
-        Answer::Taken {
-            words: _,
-            bytes,
-            charged: _,
-            left,
-        } => Position {
-            place: at.place + bytes,
-            budget: left,
-        },
-        Answer::Refused(_) => at,
+impl Position {
+    // Past the bytes taken, with what is left; a refusal leaves the position.
+    pub fn moved(self, answer: Result<Taken, Refusal>) -> Position
+        requires { Fits self answer }
+        ensures { Moves self answer result }
+    {
+        match answer {
+            Ok(taken) => Position {
+                place: self.place + taken.bytes,
+                budget: taken.left,
+            },
+            Err(_) => self,
+        }
     }
 }

@@ -3,416 +3,268 @@
 // constant's line ends with its words on the tape.
 #![tactic(auto)]
 
-ghost use Rattle.std.specs.Prelude.{◌≤◌, ◌≡◌, length};
+ghost use Rattle.std.specs.Prelude.{◌≤◌, length};
 
-use constants::answers::{Constant, ConstantRead};
-use metadata::{Metadata, MetadataRead, MetadataRecord};
-use reader::{Cursor, ListAt, Refusal};
-use runtime_type::{OptionalId, RuntimeType, RuntimeTypeRead, RuntimeTypeRecord};
-use select_case::{SelectCase, SelectCaseRead};
+use constants::answers::Constant;
+use metadata::{Metadata, MetadataRecord};
+use reader::{Cursor, ListAt, Read};
+use runtime_type::RuntimeType;
+use select_case::SelectCase;
+use std::fmt::{self, Display};
 use std::io;
 
 // More than any record here.
 const MOST: usize = 64;
 
-fn start() -> Cursor
-    ensures { (result.place ≡ 0) × (result.at ≡ 0) }
-{
-    Cursor {
-        place: 0,
-        left: 4096,
-        at: 0,
+const START: Cursor = Cursor {
+    place: 0,
+    left: 4096,
+    at: 0,
+};
+
+// A value of another crate, as a line shows it.
+#[derive(Drop)]
+struct Shown<T>(T);
+
+// A kind with its two lists.
+#[derive(Drop)]
+struct WithLists<K>(K, ListAt, ListAt);
+
+impl<K: Display> Display for WithLists<K> {
+    fn fmt<W: fmt::Write>(&self, f: &mut fmt::Formatter<W>) -> fmt::Result {
+        let WithLists(kind, first, second) = self;
+        write!(
+            f,
+            "{kind}, lists {} {} {} {}",
+            first.start, first.count, second.start, second.count
+        )
     }
 }
 
-// ---- the parts of a line
-
-fn text(rt: &impl Print, t: &[u8]) -> io::Result<()> {
-    rt.write_all(t)
-}
-
-fn number(rt: &impl Print, n: u64) -> io::Result<()> {
-    print!(rt; " {n}")
-}
-
-fn field(rt: &impl Print, name: &[u8], n: u64) -> io::Result<()> {
-    text(rt, b" ")?;
-    text(rt, name)?;
-    number(rt, n)
-}
-
-fn truth(rt: &impl Print, b: bool) -> io::Result<()> {
-    if b {
-        text(rt, b" true")
-    } else {
-        text(rt, b" false")
+// A record with the place after it, or the refusal's number.
+fn line<T: Display + Drop>(rt: &impl Print, read: Read<T>) -> io::Result<()> {
+    match read {
+        Ok((record, d)) => println!(rt; "{record}, place {}", d.place),
+        Err(x) => println!(rt; "refused {}", x.number),
     }
-}
-
-fn flag(rt: &impl Print, name: &[u8], b: bool) -> io::Result<()> {
-    text(rt, b" ")?;
-    text(rt, name)?;
-    truth(rt, b)
-}
-
-fn lists(rt: &impl Print, first: ListAt, second: ListAt) -> io::Result<()> {
-    text(rt, b", lists")?;
-    number(rt, first.start as u64)?;
-    number(rt, first.count as u64)?;
-    number(rt, second.start as u64)?;
-    number(rt, second.count as u64)
-}
-
-fn end(rt: &impl Print, d: Cursor) -> io::Result<()> {
-    text(rt, b", place")?;
-    number(rt, d.place as u64)?;
-    text(rt, b"\n")
-}
-
-fn refused(rt: &impl Print, x: Refusal) -> io::Result<()> {
-    text(rt, b"refused")?;
-    number(rt, x.number)?;
-    text(rt, b"\n")
 }
 
 // ---- runtime types
 
-fn optional_id(rt: &impl Print, id: OptionalId) -> io::Result<()> {
-    match id {
-        OptionalId::Absent => text(rt, b" struct_meta_id absent"),
-        OptionalId::Id(n) => field(rt, b"struct_meta_id", n as u64),
+impl Display for Shown<Option<u32>> {
+    fn fmt<W: fmt::Write>(&self, f: &mut fmt::Formatter<W>) -> fmt::Result {
+        match self.0 {
+            None => write!(f, "absent"),
+            Some(id) => write!(f, "{id}"),
+        }
     }
 }
 
-fn runtime_kind(rt: &impl Print, kind: RuntimeType) -> io::Result<()> {
-    match kind {
-        RuntimeType::Basic(value_kind) => {
-            text(rt, b"Basic")?;
-            number(rt, value_kind as u64)
+impl Display for Shown<RuntimeType> {
+    fn fmt<W: fmt::Write>(&self, f: &mut fmt::Formatter<W>) -> fmt::Result {
+        match self.0 {
+            RuntimeType::Basic(value_kind) => write!(f, "Basic {value_kind}"),
+            RuntimeType::Named { id, struct_meta_id } => {
+                write!(f, "Named id {id} struct_meta_id {}", Shown(struct_meta_id))
+            }
+            RuntimeType::Pointer(elem) => write!(f, "Pointer {elem}"),
+            RuntimeType::Array { len, elem } => write!(f, "Array len {len} elem {elem}"),
+            RuntimeType::Slice(elem) => write!(f, "Slice {elem}"),
+            RuntimeType::Map { key, val } => write!(f, "Map key {key} val {val}"),
+            RuntimeType::Chan { dir, elem } => write!(f, "Chan dir {dir} elem {elem}"),
+            RuntimeType::Func { variadic } => write!(f, "Func variadic {variadic}"),
+            RuntimeType::Struct { meta_id } => write!(f, "Struct meta_id {meta_id}"),
+            RuntimeType::Interface { meta_id } => write!(f, "Interface meta_id {meta_id}"),
+            RuntimeType::Tuple => write!(f, "Tuple"),
+            RuntimeType::Port { dir, elem } => write!(f, "Port dir {dir} elem {elem}"),
+            RuntimeType::Island => write!(f, "Island"),
         }
-        RuntimeType::Named { id, struct_meta_id } => {
-            text(rt, b"Named")?;
-            field(rt, b"id", id as u64)?;
-            optional_id(rt, struct_meta_id)
-        }
-        RuntimeType::Pointer(elem) => {
-            text(rt, b"Pointer")?;
-            number(rt, elem as u64)
-        }
-        RuntimeType::Array { len, elem } => {
-            text(rt, b"Array")?;
-            field(rt, b"len", len)?;
-            field(rt, b"elem", elem as u64)
-        }
-        RuntimeType::Slice(elem) => {
-            text(rt, b"Slice")?;
-            number(rt, elem as u64)
-        }
-        RuntimeType::Map { key, val } => {
-            text(rt, b"Map")?;
-            field(rt, b"key", key as u64)?;
-            field(rt, b"val", val as u64)
-        }
-        RuntimeType::Chan { dir, elem } => {
-            text(rt, b"Chan")?;
-            field(rt, b"dir", dir as u64)?;
-            field(rt, b"elem", elem as u64)
-        }
-        RuntimeType::Func { variadic } => {
-            text(rt, b"Func")?;
-            flag(rt, b"variadic", variadic)
-        }
-        RuntimeType::Struct { meta_id } => {
-            text(rt, b"Struct")?;
-            field(rt, b"meta_id", meta_id as u64)
-        }
-        RuntimeType::Interface { meta_id } => {
-            text(rt, b"Interface")?;
-            field(rt, b"meta_id", meta_id as u64)
-        }
-        RuntimeType::Tuple => text(rt, b"Tuple"),
-        RuntimeType::Port { dir, elem } => {
-            text(rt, b"Port")?;
-            field(rt, b"dir", dir as u64)?;
-            field(rt, b"elem", elem as u64)
-        }
-        RuntimeType::Island => text(rt, b"Island"),
     }
 }
 
-fn runtime_record(rt: &impl Print, record: RuntimeTypeRecord) -> io::Result<()> {
-    let kind = record.kind;
-    runtime_kind(rt, kind)?;
-    let first = record.first;
-    let second = record.second;
-    lists(rt, first, second)
-}
-
-fn runtime_type(rt: &impl Print, s: &[u8]) -> io::Result<()> {
-    if MOST < s.len() {
-        return Ok(());
-    }
-    let set = &vob24_data::MEASURED;
+fn runtime_type(rt: &impl Print, s: &[u8]) -> io::Result<()>
+    requires { length s.now ≤ MOST }
+{
     let mut tape = [0; 64];
-    let c = start();
-    let q = runtime_type::runtime_type(s, set, c, false, &mut tape);
-    match q {
-        RuntimeTypeRead::Got(record, d) => {
-            runtime_record(rt, record)?;
-            end(rt, d)
-        }
-        RuntimeTypeRead::Not(x) => refused(rt, x),
-    }
+    let read = runtime_type::runtime_type(s, &vob24_data::MEASURED, START, false, &mut tape);
+    line(
+        rt,
+        read.map(|(record, d)| (
+            WithLists(Shown(record.kind), record.first, record.second),
+            d,
+        )),
+    )
 }
 
 // ---- instructions' metadata
 
-fn metadata_kind(rt: &impl Print, kind: Metadata) -> io::Result<()> {
-    match kind {
-        Metadata::None => text(rt, b"None"),
-        Metadata::ElemLayout {
-            elem_bytes,
-            needs_sign_extend,
-        } => {
-            text(rt, b"ElemLayout")?;
-            field(rt, b"elem_bytes", elem_bytes as u64)?;
-            flag(rt, b"needs_sign_extend", needs_sign_extend)
+impl Display for Shown<Metadata> {
+    fn fmt<W: fmt::Write>(&self, f: &mut fmt::Formatter<W>) -> fmt::Result {
+        match self.0 {
+            Metadata::None => write!(f, "None"),
+            Metadata::ElemLayout {
+                elem_bytes,
+                needs_sign_extend,
+            } => write!(
+                f,
+                "ElemLayout elem_bytes {elem_bytes} needs_sign_extend {needs_sign_extend}"
+            ),
+            Metadata::MapGet { has_ok } => write!(f, "MapGet has_ok {has_ok}"),
+            Metadata::MapSet => write!(f, "MapSet"),
+            Metadata::MapDelete => write!(f, "MapDelete"),
+            Metadata::LoopEnd { end_pc } => write!(f, "LoopEnd end_pc {end_pc}"),
+            Metadata::PtrLayout => write!(f, "PtrLayout"),
+            Metadata::SlotLayout { array_len } => write!(f, "SlotLayout array_len {array_len}"),
+            Metadata::CallLayout => write!(f, "CallLayout"),
+            Metadata::CallExternLayout => write!(f, "CallExternLayout"),
+            Metadata::QueueLayout => write!(f, "QueueLayout"),
+            Metadata::MapIterNext => write!(f, "MapIterNext"),
+            Metadata::IfaceAssertLayout {
+                assert_kind,
+                target_id,
+            } => write!(
+                f,
+                "IfaceAssertLayout assert_kind {assert_kind} target_id {target_id}"
+            ),
+            Metadata::MapNew => write!(f, "MapNew"),
+            Metadata::CallIfaceLayout {
+                iface_meta_id,
+                method_idx,
+            } => write!(
+                f,
+                "CallIfaceLayout iface_meta_id {iface_meta_id} method_idx {method_idx}"
+            ),
+            Metadata::SelectExecLayout => write!(f, "SelectExecLayout"),
         }
-        Metadata::MapGet { has_ok } => {
-            text(rt, b"MapGet")?;
-            flag(rt, b"has_ok", has_ok)
-        }
-        Metadata::MapSet => text(rt, b"MapSet"),
-        Metadata::MapDelete => text(rt, b"MapDelete"),
-        Metadata::LoopEnd { end_pc } => {
-            text(rt, b"LoopEnd")?;
-            field(rt, b"end_pc", end_pc as u64)
-        }
-        Metadata::PtrLayout => text(rt, b"PtrLayout"),
-        Metadata::SlotLayout { array_len } => {
-            text(rt, b"SlotLayout")?;
-            field(rt, b"array_len", array_len as u64)
-        }
-        Metadata::CallLayout => text(rt, b"CallLayout"),
-        Metadata::CallExternLayout => text(rt, b"CallExternLayout"),
-        Metadata::QueueLayout => text(rt, b"QueueLayout"),
-        Metadata::MapIterNext => text(rt, b"MapIterNext"),
-        Metadata::IfaceAssertLayout {
-            assert_kind,
-            target_id,
-        } => {
-            text(rt, b"IfaceAssertLayout")?;
-            field(rt, b"assert_kind", assert_kind as u64)?;
-            field(rt, b"target_id", target_id as u64)
-        }
-        Metadata::MapNew => text(rt, b"MapNew"),
-        Metadata::CallIfaceLayout {
-            iface_meta_id,
-            method_idx,
-        } => {
-            text(rt, b"CallIfaceLayout")?;
-            field(rt, b"iface_meta_id", iface_meta_id as u64)?;
-            field(rt, b"method_idx", method_idx as u64)
-        }
-        Metadata::SelectExecLayout => text(rt, b"SelectExecLayout"),
     }
 }
 
-fn metadata_record(rt: &impl Print, record: MetadataRecord) -> io::Result<()> {
-    let kind = record.kind;
-    metadata_kind(rt, kind)?;
-    let first = record.first;
-    let second = record.second;
-    lists(rt, first, second)
-}
-
-fn metadata(rt: &impl Print, s: &[u8]) -> io::Result<()> {
-    if MOST < s.len() {
-        return Ok(());
-    }
-    let set = &vob24_data::MEASURED;
+fn read_metadata(s: &[u8]) -> Read<MetadataRecord>
+    requires { length s.now ≤ MOST }
+{
     let mut tape = [0; 64];
-    match metadata::instruction_metadata(s, set, start(), &mut tape) {
-        MetadataRead::Got(record, d) => {
-            metadata_record(rt, record)?;
-            end(rt, d)
-        }
-        MetadataRead::Not(x) => refused(rt, x),
-    }
+    metadata::instruction_metadata(s, &vob24_data::MEASURED, START, &mut tape)
+}
+
+fn metadata(rt: &impl Print, s: &[u8]) -> io::Result<()>
+    requires { length s.now ≤ MOST }
+{
+    let read = read_metadata(s);
+    line(
+        rt,
+        read.map(|(record, d)| (
+            WithLists(Shown(record.kind), record.first, record.second),
+            d,
+        )),
+    )
 }
 
 // ---- select cases
 
-fn select_kind(rt: &impl Print, case: SelectCase) -> io::Result<()> {
-    match case {
-        SelectCase::Send {
-            queue,
-            value,
-            elem_slots,
-        } => {
-            text(rt, b"  Send")?;
-            field(rt, b"queue", queue as u64)?;
-            field(rt, b"value", value as u64)?;
-            field(rt, b"elem_slots", elem_slots as u64)
-        }
-        SelectCase::Recv {
-            destination,
-            queue,
-            elem_slots,
-            has_ok,
-        } => {
-            text(rt, b"  Recv")?;
-            field(rt, b"destination", destination as u64)?;
-            field(rt, b"queue", queue as u64)?;
-            field(rt, b"elem_slots", elem_slots as u64)?;
-            flag(rt, b"has_ok", has_ok)
+impl Display for Shown<SelectCase> {
+    fn fmt<W: fmt::Write>(&self, f: &mut fmt::Formatter<W>) -> fmt::Result {
+        match self.0 {
+            SelectCase::Send {
+                queue,
+                value,
+                elem_slots,
+            } => write!(
+                f,
+                "  Send queue {queue} value {value} elem_slots {elem_slots}"
+            ),
+            SelectCase::Recv {
+                destination,
+                queue,
+                elem_slots,
+                has_ok,
+            } => write!(
+                f,
+                "  Recv destination {destination} queue {queue} elem_slots {elem_slots} has_ok {has_ok}"
+            ),
         }
     }
 }
 
-// Returns the place after the case; past the end where it is refused.
-fn select_case(rt: &impl Print, s: &[u8], place: usize) -> io::Result<usize>
-    requires { (place ≤ length s.now) × (length s.now ≤ 64) }
+// Returns the place after the case, where it is taken.
+fn select_case(rt: &impl Print, s: &[u8], place: usize) -> io::Result<Option<usize>>
+    requires { length s.now ≤ MOST }
 {
-    let mut tape = [0; 64];
-    let c = Cursor {
-        place,
-        left: 4096,
-        at: 0,
-    };
-    match select_case::select_case(s, c, &mut tape) {
-        SelectCaseRead::Got(case, d) => {
-            select_kind(rt, case)?;
-            end(rt, d)?;
-            Ok(d.place)
-        }
-        SelectCaseRead::Not(x) => {
-            refused(rt, x)?;
-            Ok(s.len() + 1)
-        }
+    if s.len() < place {
+        return Ok(None);
     }
+    let mut tape = [0; 64];
+    let read = select_case::select_case(s, Cursor { place, ..START }, &mut tape);
+    let next = read.as_ref().ok().map(|(_, d)| d.place);
+    line(rt, read.map(|(case, d)| (Shown(case), d)))?;
+    Ok(next)
 }
 
-// The cases of a select: the list of their metadata's record, from its start on.
-fn select_cases(rt: &impl Print, s: &[u8], from: ListAt) -> io::Result<()> {
-    if MOST < s.len() {
+// A select's metadata, and below it the cases of its first list.
+fn select(rt: &impl Print, s: &[u8]) -> io::Result<()>
+    requires { length s.now ≤ MOST }
+{
+    metadata(rt, s)?;
+    let Ok((record, _)) = read_metadata(s) else {
         return Ok(());
-    }
-    let mut place = from.start;
-    let mut k = from.count;
-    while 0 < k {
-        if s.len() < place {
+    };
+    let mut place = record.first.start;
+    for _ in 0..record.first.count {
+        let Some(next) = select_case(rt, s, place)? else {
             return Ok(());
-        }
-        place = select_case(rt, s, place)?;
-        k -= 1;
+        };
+        place = next;
     }
     Ok(())
-}
-
-// A select's metadata, and its cases below it.
-fn select(rt: &impl Print, s: &[u8]) -> io::Result<()> {
-    if MOST < s.len() {
-        return Ok(());
-    }
-    let set = &vob24_data::MEASURED;
-    let mut tape = [0; 64];
-    match metadata::instruction_metadata(s, set, start(), &mut tape) {
-        MetadataRead::Got(record, d) => {
-            metadata_record(rt, record)?;
-            end(rt, d)?;
-            let cases = record.first;
-            select_cases(rt, s, cases)
-        }
-        MetadataRead::Not(x) => refused(rt, x),
-    }
 }
 
 // ---- constants
 
-fn magnitude(n: i64) -> u64 {
-    if n < 0 {
-        let below = (-1 - n) as u64;
-        below + 1
-    } else {
-        n as u64
-    }
-}
-
-fn signed(rt: &impl Print, n: i64) -> io::Result<()> {
-    if n < 0 {
-        text(rt, b" -")?;
-    } else {
-        text(rt, b" ")?;
-    }
-    let magnitude = magnitude(n);
-    print!(rt; "{magnitude}")
-}
-
-// By its bits, since there is no other way to show a float here; a NaN has none.
-fn float(rt: &impl Print, x: f64) -> io::Result<()> {
-    if x == x {
-        let bits = f64::to_bits(x);
-        print!(rt; " {bits:016x}")
-    } else {
-        text(rt, b" NaN")
-    }
-}
-
-fn constant_kind(rt: &impl Print, constant: Constant) -> io::Result<()> {
-    match constant {
-        Constant::Nil => text(rt, b"Nil"),
-        Constant::Bool(b) => {
-            text(rt, b"Bool")?;
-            truth(rt, b)
-        }
-        Constant::Int(n) => {
-            text(rt, b"Int")?;
-            signed(rt, n)
-        }
-        Constant::Float(x) => {
-            text(rt, b"Float")?;
-            float(rt, x)
-        }
-        Constant::Text { start, length } => {
-            text(rt, b"Text")?;
-            field(rt, b"start", start as u64)?;
-            field(rt, b"length", length as u64)
+// By its bits; a NaN has none.
+impl Display for Shown<f64> {
+    fn fmt<W: fmt::Write>(&self, f: &mut fmt::Formatter<W>) -> fmt::Result {
+        if self.0.is_nan() {
+            write!(f, "NaN")
+        } else {
+            write!(f, "{:016x}", self.0.to_bits())
         }
     }
 }
 
-fn wide(x: u32) -> u64 {
-    x as u64
+impl Display for Shown<Constant> {
+    fn fmt<W: fmt::Write>(&self, f: &mut fmt::Formatter<W>) -> fmt::Result {
+        match self.0 {
+            Constant::Nil => write!(f, "Nil"),
+            Constant::Bool(b) => write!(f, "Bool {b}"),
+            Constant::Int(n) => write!(f, "Int {n}"),
+            Constant::Float(x) => write!(f, "Float {}", Shown(x)),
+            Constant::Text { start, length } => write!(f, "Text start {start} length {length}"),
+        }
+    }
 }
 
-// A constant has one to three words.
-fn words(rt: &impl Print, tape: &[u32; 64], n: usize) -> io::Result<()> {
-    text(rt, b", words")?;
-    number(rt, wide(tape[0]))?;
-    if 1 < n {
-        number(rt, wide(tape[1]))?;
+// A constant with its words, one to three.
+#[derive(Drop)]
+struct WithWords<'a>(Constant, &'a [u32]);
+
+impl Display for WithWords<'_> {
+    fn fmt<W: fmt::Write>(&self, f: &mut fmt::Formatter<W>) -> fmt::Result {
+        write!(f, "{}, words", Shown(self.0))?;
+        for word in self.1 {
+            write!(f, " {word}")?;
+        }
+        Ok(())
     }
-    if 2 < n {
-        number(rt, wide(tape[2]))?;
-    }
-    Ok(())
 }
 
-fn constant(rt: &impl Print, s: &[u8]) -> io::Result<()> {
-    if MOST < s.len() {
-        return Ok(());
-    }
+fn constant(rt: &impl Print, s: &[u8]) -> io::Result<()>
+    requires { length s.now ≤ MOST }
+{
     let mut tape = [0; 64];
-    match constants::constant(s, start(), &mut tape) {
-        ConstantRead::Got(constant, d) => {
-            constant_kind(rt, constant)?;
-            let n = d.at;
-            words(rt, &tape, n)?;
-            end(rt, d)
-        }
-        ConstantRead::Not(x) => refused(rt, x),
-    }
+    let read = constants::constant(s, START, &mut tape);
+    line(
+        rt,
+        read.map(|(constant, d)| (WithWords(constant, &tape[..d.at.min(tape.len())]), d)),
+    )
 }
 
 fn runtime_types(rt: &impl Print) -> io::Result<()> {

@@ -1,6 +1,6 @@
 -- Request 2, names that print alike: what a caller knows of the answer q that `alike_names(pack)` gives. s is the pack;
 -- set the sizes and limits, which for the call are `settings`.
-use Rattle.std.specs.Prelude.{ℕ, ◌+◌, ◌≤◌, ◌<◌, ◌≡◌, true, ◌⊎◌, ◌↔◌, length}
+use Rattle.std.specs.Prelude.{ℕ, ◌+◌, ◌≤◌, ◌<◌, ◌≡◌, true, Option, Result, ◌⊎◌, ◌↔◌, length}
 use Rattle.std.proofs.Common.{sym, ◌∙◌}
 use mathlib.Core.List.{List, [], ◌∷◌, ◌++◌, Memᴰ}
 use Rattle.format.specs.Trace.{Wrong, refused, taken}
@@ -21,7 +21,8 @@ use Rattle.alike_theorems.specs.Pairs.{PairOf}
 use Rattle.alike_theorems.specs.Answers as spec
 use Rattle.alike_theorems.specs.Answers.{Alikes, Spans}
 use Rattle.alike_names.specs.Contract.{answer_of, AlikeCall}
-use Rattle.alike_names.specs.declared.Alike.{Alike}
+use Rattle.alike_names.specs.declared.AlikeNames.{AlikeNames}
+use Rattle.reader.specs.declared.Refusal.{Refusal}
 use Rattle.promises.specs.Lookup.{reread}
 
 -- ---- the letters
@@ -68,7 +69,7 @@ module _ (x : List ℕ) (h : well_formed x ≡ true) where
 
 -- ---- the answer
 
-module _ {set : Settings} {s : List ℕ} {q : Alike} (call : AlikeCall set s q) where
+module _ {set : Settings} {s : List ℕ} {q : Result (Option AlikeNames) Refusal} (call : AlikeCall set s q) where
   -- Demand 1: a pair, none, or "refused with one number of document 01".
   pub one_answer : Alikes (answer_of q)
   one_answer = rw call.is (spec.alike-numbered set s)

@@ -19,8 +19,7 @@ use Rattle.vob24.specs.Calls.{Taken, Refused, no_room_for}
 use Rattle.vob24.specs.CallTheorems.{left_of, Account, IsBroke}
 use Rattle.vob24_theorems.specs.RefusalNumbers.{Answered}
 use Rattle.vob24_theorems.specs.HostCalls.{Claims, base_section}
-use Rattle.calls.specs.Contract.{answer_of, SectionCall}
-use Rattle.calls.specs.declared.Answer.{Answer}
+use Rattle.calls.specs.Contract.{Answer, answer_of, SectionCall}
 use Rattle.position.specs.Moving.{position_of}
 use Rattle.position.specs.Contract.{LentCall}
 use Rattle.position.specs.declared.Position.{Position}

@@ -1,7 +1,7 @@
 -- The demands, of the lookup: what a caller knows of the answer q that `locate_artifact(pack, name)` gives, and of the
 -- part that `find_artifact(pack, name)` returns. s is the pack; set the sizes and limits, which for both are
 -- `settings`.
-use Rattle.std.specs.Prelude.{ℕ, ◌+◌, ◌-◌, ◌≤◌, ◌≡◌, refl, List, [], ◌↔◌, length}
+use Rattle.std.specs.Prelude.{ℕ, ◌+◌, ◌-◌, ◌≤◌, ◌≡◌, refl, List, [], Result, Ok, Err, ◌↔◌, length}
 use Rattle.std.proofs.Common.{ap, ◌∙◌, arith}
 use Rattle.format.specs.Trace.{Wrong, wrong, total, Settled, refused, taken, settle}
 use Rattle.format.specs.Format.{Value, start, content, entries}
@@ -19,7 +19,8 @@ use Rattle.vob24_theorems.specs.LookupTheorems.{NoneNamed, FirstNamed, payload_o
 use Rattle.vob24_theorems.specs.RefusalNumbers.{Looked, find-numbered, whole-listed}
 use Rattle.vob24_theorems.specs.HostCalls.{Claims, some-claim, Counts, base_find, find-claims, find-as-before}
 use Rattle.lookup.specs.Look.{found_of, Room, LocateCall, FindCall}
-use Rattle.lookup.specs.declared.Found.{Found}
+use Rattle.reader.specs.declared.Refusal.{Refusal}
+use Rattle.reader.specs.declared.Span.{Span}
 use Rattle.promises.specs.Common.{ends-cost}
 use Rattle.promises.specs.Pack.{charges, LaysOut}
 
@@ -45,7 +46,7 @@ looked-in set s v bs = (
 )
 
 -- "Its companion gives start and length, or the refusal."
-module _ {set : Settings} {s name : List ℕ} {q : Found} (call : LocateCall set s name q) where
+module _ {set : Settings} {s name : List ℕ} {q : Result Span Refusal} (call : LocateCall set s name q) where
   -- Demand 1: found, or "refused with one number of document 01".
   pub one_answer : Looked (found_of q)
   one_answer = rw call.is (find-numbered set s name)
@@ -54,9 +55,9 @@ module _ {set : Settings} {s name : List ℕ} {q : Found} (call : LocateCall set
   pub places : {p n : ℕ} → found_of q ≡ At p n → p + n ≤ length s
   places = go q call.room
     where
-      go : (q : Found) → Room s q → {p n : ℕ} → found_of q ≡ At p n → p + n ≤ length s
-      go (Found.At i j) r {p} {n} e = let a : i ≡ p = cc in let b : j ≡ n = cc in omega (arith, r.fits i j refl)
-      go (Found.Not x) r e = let no : ◌≡◌ {A = ℕ} 0 1 = cc in absurd (omega arith)
+      go : (q : Result Span Refusal) → Room s q → {p n : ℕ} → found_of q ≡ At p n → p + n ≤ length s
+      go (Ok x) r {p} {n} e = let a : x.start ≡ p = cc in let b : x.length ≡ n = cc in omega (arith, r.fits x refl)
+      go (Err x) r e = let no : ⊥ = cc in absurd no
 
   -- A pack that is refused shows its refusal.
   pub located-refused : {x : Wrong} {p l : ℕ} → reread set s ≡ refused x p l → found_of q ≡ Not x p l

@@ -1,7 +1,7 @@
 -- The demands, of the call on a whole pack: what a caller knows of the answer q and of the tape t' that `read(pack,
 -- budget, tape)` leaves. s is the pack, b the starting budget, t the tape at entry; set the sizes and limits, which for
 -- `read` are `settings`.
-use Rattle.std.specs.Prelude.{ℕ, ◌+◌, ◌-◌, ◌^◌, ◌≤◌, ◌<◌, ◌≡◌, refl, List, [], ◌++◌, ◌↔◌, length, take, drop}
+use Rattle.std.specs.Prelude.{ℕ, ◌+◌, ◌-◌, ◌^◌, ◌≤◌, ◌<◌, ◌≡◌, refl, List, [], ◌++◌, Ok, ◌↔◌, length, take, drop}
 use Rattle.std.proofs.Common.{ap, sym, ◌∙◌, arith}
 use Rattle.format.specs.Trace.{Wrong, Trace, amounts, total, stopped, out, Ends}
 use Rattle.format.specs.Format.{Value}
@@ -18,8 +18,7 @@ use Rattle.vob24.specs.CallTheorems.{left_of, Account, IsBroke}
 use Rattle.vob24_theorems.specs.Theorems as spec
 use Rattle.vob24_theorems.specs.RefusalNumbers.{Answered, read-numbered, whole-listed}
 use Rattle.vob24_theorems.specs.HostCalls.{Claims, some-claim, Counts, base_read, read-claims, read-as-before}
-use Rattle.calls.specs.Contract.{answer_of, ReadCall}
-use Rattle.calls.specs.declared.Answer.{Answer}
+use Rattle.calls.specs.Contract.{Answer, answer_of, ReadCall}
 use Rattle.promises.specs.Common as common
 use Rattle.promises.specs.Common.{Kept, StaysWithin, AnswersTaken, Call}
 
@@ -156,5 +155,5 @@ some-budget set licensed s bs = (
   λ h.
       let r = (common.some-when (pack set) 0 (charges set s) (2 ^ 64) (λ _ _ _. spec.whole-bound set licensed s bs)).1 h in
       let o = vob.read_outcome set s r.0 r.1 in
-      (r.0, r.1, Answer.Taken r.2 r.3 r.4 r.5, o.tape, r.6, record { is = ap (λ a. record { answer = a; tape = o.tape }) r.7 }, (_, _, _, _, refl)),
+      (r.0, r.1, Ok (record { words = r.2; bytes = r.3; charged = r.4; left = r.5 }), o.tape, r.6, record { is = ap (λ a. record { answer = a; tape = o.tape }) r.7 }, (_, _, _, _, refl)),
 )

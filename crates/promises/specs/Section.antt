@@ -2,7 +2,7 @@
 -- section, place, budget, tape)` leaves. s is the pack, x the section, m the number of functions that bounds the inline
 -- sources, a the place, b the budget, t the tape at entry; set the sizes and limits, which for `read_section` are
 -- `settings`.
-use Rattle.std.specs.Prelude.{ℕ, ◌+◌, ◌-◌, ◌^◌, ◌≤◌, ◌<◌, ◌≡◌, refl, List, [], ◌++◌, ◌↔◌, length, take, drop}
+use Rattle.std.specs.Prelude.{ℕ, ◌+◌, ◌-◌, ◌^◌, ◌≤◌, ◌<◌, ◌≡◌, refl, List, [], ◌++◌, Ok, ◌↔◌, length, take, drop}
 use Rattle.std.proofs.Common.{ap, sym, ◌∙◌, arith}
 use Rattle.format.specs.Trace.{Wrong, Trace, amounts, total, stopped, out, Ends}
 use Rattle.format.specs.Format.{Value}
@@ -21,8 +21,7 @@ use Rattle.vob24.specs.CallTheorems.{left_of, Account, IsBroke}
 use Rattle.vob24_theorems.specs.Theorems as spec
 use Rattle.vob24_theorems.specs.RefusalNumbers.{Answered, section-numbered, section-listed}
 use Rattle.vob24_theorems.specs.HostCalls.{Claims, some-claim, base_section, section-claims, section-as-before}
-use Rattle.calls.specs.Contract.{answer_of, SectionCall}
-use Rattle.calls.specs.declared.Answer.{Answer}
+use Rattle.calls.specs.Contract.{Answer, answer_of, SectionCall}
 use Rattle.promises.specs.Common as common
 use Rattle.promises.specs.Common.{Kept, StaysWithin, AnswersTaken, Call}
 
@@ -158,5 +157,5 @@ some-budget set licensed m x s a bs = (
   λ h.
       let r = (common.some-when (section set m x) a (charges set m x s a) (2 ^ 64) (λ _ _ h. spec.section-fits set licensed m x s a bs h)).1 h in
       let o = vob.section_outcome set m x s a r.0 r.1 in
-      (r.0, r.1, Answer.Taken r.2 r.3 r.4 r.5, o.tape, r.6, record { is = ap (λ i. record { answer = i; tape = o.tape }) r.7 }, (_, _, _, _, refl)),
+      (r.0, r.1, Ok (record { words = r.2; bytes = r.3; charged = r.4; left = r.5 }), o.tape, r.6, record { is = ap (λ i. record { answer = i; tape = o.tape }) r.7 }, (_, _, _, _, refl)),
 )

@@ -1,4 +1,6 @@
 -- The laws of a reading section by section.
+use Rattle.std.specs.Prelude.{Ok, Err}
+use Rattle.std.specs.Result.{IsErrAnd}
 use Prim.Native.Nat.{ℕ, suc, zero, ◌+◌, ◌-◌, ◌≤◌, ◌<◌}
 use mathlib.Core.Path.{◌≡◌, refl, ap, sym, ◌∙◌}
 use mathlib.Core.List.{List, [], ◌∷◌}
@@ -15,20 +17,16 @@ use Rattle.vob24.specs.Fields.{after}
 use Rattle.vob24.specs.Cost.{all_sections, part_of}
 use Rattle.vob24_data.specs.Sections.{section_of, functions_of, number_of}
 use Rattle.vob24_data.specs.declared.Section.{Section}
-use Rattle.reader.specs.Contract as reader
-use Rattle.reader.specs.Contract.{step_of, Ready, ReadyAt, Reader, ComesTo, On, NumberOf}
+use Rattle.reader.specs.Contract.{step_of, Ready, ReadyAt, Reads, takes, refuses, Reader, ComesTo, On, ReadsOf, got, lost, NumberOf, Step, Read}
+use Rattle.reader.proofs.Errors.{handed}
 use Rattle.reader.proofs.Accepting.{on-next}
-use Rattle.reader.proofs.Laws.{field_reads, number_just, at-refused, comes-not, comes_then, comes-on, comes-next}
+use Rattle.reader.proofs.Laws.{field_reads, at-refused, comes-not, comes_then, comes-on, comes-next}
 use Rattle.reader.specs.declared.Cursor.{Cursor}
-use Rattle.reader.specs.declared.Number.{Number}
-use Rattle.reader.specs.declared.Number.TheVariants.{Got, Not}
 use Rattle.reader.specs.declared.Refusal.{Refusal}
-use Rattle.reader.specs.declared.Step.{Step}
-use Rattle.reader.specs.declared.Step.TheVariants.{Taken, Refused}
 use Rattle.in_place.specs.Walk.{Stands, value_at, stand, parts}
 use Rattle.deserialize.specs.Parts.{format_of, functions_by, in_order, from_number, count_of}
 use Rattle.deserialize.proofs.Laws.{number-comes}
-use Rattle.reach.specs.Reach.{Between, place_of, SectionAt, Reaches}
+use Rattle.reach.specs.Reach.{Between, with_number, place_of, SectionAt, Reaches}
 
 -- ---- one section
 
@@ -62,13 +60,23 @@ others_keep (suc (suc (suc (suc (suc (suc (suc (suc (suc (suc (suc (suc (suc (su
 others_keep (suc (suc (suc (suc (suc (suc (suc (suc (suc (suc (suc (suc (suc (suc (suc (suc (suc i))))))))))))))))) h n v = refl
 
 -- an answer without its number, and the number
-step-of : (n : ℕ) (r : Step) → step_of (reader.number_of n r) ≡ r
-step-of n (Taken c) = refl
-step-of n (Refused x) = refl
+step-of : (n : ℕ) (r : Step) → step_of (with_number n r) ≡ r
+step-of n (Ok c) = refl
+step-of n (Err x) = refl
 
 after-after : (m n : ℕ) (v : Value) → after n (after m v) ≡ after (m + n) v
 after-after zero n v = let e : 0 + n ≡ n = omega arith in rw e
 after-after (suc m) n v = let e : suc m + n ≡ suc (m + n) = omega arith in after-after m n (second v) ∙ rw e
+
+-- the functions, read as any section is
+stepped : {f : Format} {of : Value → ℕ} {s : List ℕ} {c : Cursor} {t t' : List ℕ} {q : Read ℕ} → NumberOf f of s c t q t'
+    → Reader f s (Ok c) t (step_of q) t'
+stepped h = record { reads = go h.reads; ready = h.ready }
+  where
+    go : {f : Format} {of : Value → ℕ} {s : List ℕ} {c : Cursor} {t t' : List ℕ} {q : Read ℕ} → ReadsOf f of s c t q t'
+        → Reads f s (Ok c) t (step_of q) t'
+    go (got e k) = takes k
+    go (lost k) = refuses k
 
 -- In a pack that is taken, a section read is followed by the next.
 on-section : (set : Settings) {s : List ℕ} {i : ℕ} (x : vob.Section) {r r' : Step} {t t' : List ℕ}
@@ -81,54 +89,55 @@ on-section set {s} {i} x y h r m v p l o =
 
 -- A section other than the functions leaves the number as it was.
 comes-section : (set : Settings) {s : List ℕ} {i : ℕ} (n : ℕ) (x : vob.Section) {c : Cursor} {r : Step} {t t' : List ℕ}
-    → x ≡ get_or all_sections i inline_sources → i < 16 → (i ≡ 9 → ⊥) → Reader (section set 0 x) s (Taken c) t r t'
-    → ComesTo (from_number set n i) (from_number set (count_of (reader.number_of n r)) (i + 1)) s (Taken c) t (step_of (reader.number_of n r)) t'
+    → x ≡ get_or all_sections i inline_sources → i < 16 → (i ≡ 9 → ⊥) → Reader (section set 0 x) s (Ok c) t r t'
+    → ComesTo (from_number set n i) (from_number set (count_of (with_number n r)) (i + 1)) s (Ok c) t (step_of (with_number n r)) t'
 comes-section set {s} {i} n x {c} {r} {t} {t'} y h w k = rw (section-first set n all_sections i (omega arith), ← y, add-one i) (go r k)
   where
     keeps : (v : Value) → functions_by n x v ≡ n
     keeps v = rw y (others_keep i w n v)
 
-    go : (r : Step) → Reader (section set 0 x) s (Taken c) t r t'
-        → ComesTo (seq (section set 0 x) (λ v. from_number set (functions_by n x v) (suc i))) (from_number set (count_of (reader.number_of n r)) (suc i)) s (Taken c) t (step_of (reader.number_of n r)) t'
-    go (Taken d) k = record { rest = λ m. field_reads k.reads (λ v. rw (keeps v) m); ready = k.ready }
-    go (Refused z) k = record { rest = λ m. field_reads k.reads (λ v. (comes-not refl).rest m); ready = tt }
+    go : (r : Step) → Reader (section set 0 x) s (Ok c) t r t'
+        → ComesTo (seq (section set 0 x) (λ v. from_number set (functions_by n x v) (suc i))) (from_number set (count_of (with_number n r)) (suc i)) s (Ok c) t (step_of (with_number n r)) t'
+    go (Ok d) k = record { rest = λ m. field_reads k.reads (λ v. rw (keeps v) m); ready = k.ready }
+    go (Err z) k = record { rest = λ m. field_reads k.reads (λ v. (comes-not refl).rest m); ready = tt }
 
 module _ (set : Settings) {s : List ℕ} where
   -- what is refused stays so
-  pub between-refused : {a b : ℕ} {q : Number} {x : Refusal} {t : List ℕ} → q ≡ Not x → Between set a b s q t q t
-  between-refused e = rw e (record { comes = comes-not refl; on = λ n v p l o. let no : ◌≡◌ {A = ℕ} 0 1 = cc o.is in absurd (omega arith) })
+  pub between-refused : {a b : ℕ} {q d : Read ℕ} {x : Refusal} {t : List ℕ} → q ≡ Err x → IsErrAnd d (λ y. y ≡ x)
+      → Between set a b s q t d t
+  between-refused {d = d} e i = rw (handed d i, e) (record { comes = comes-not refl; on = λ n v p l o. let no : ◌≡◌ {A = ℕ} 0 1 = cc o.is in absurd (omega arith) })
 
-  module _ {i n : ℕ} {q d : Number} {c : Cursor} {t t' : List ℕ} (e : q ≡ Got n c) where
+  module _ {i n : ℕ} {q d : Read ℕ} {c : Cursor} {t t' : List ℕ} (e : q ≡ Ok (n, c)) where
     -- the functions
     pub between-functions : i ≡ 9 → NumberOf (section set 0 vob.functions) counted s c t d t'
         → Between set i (i + 1) s q t d t'
     between-functions y h =
         rw (e, y) (record {
           comes = number-comes (λ k. from_number set k 10) h;
-          on = on-section set {i = 9} vob.functions refl (omega arith) (number_just refl h);
+          on = on-section set {i = 9} vob.functions refl (omega arith) (stepped h);
         })
 
     -- any other
     pub between-other : (x : Section) {r : Step} → (i ≡ 9 → ⊥) → i < 16
         → (section_of x ≡ get_or all_sections i inline_sources) × (functions_of x ≡ 0)
-        → Reader (format_of set x) s (Taken c) t r t' → d ≡ reader.number_of n r → Between set i (i + 1) s q t d t'
+        → Reader (format_of set x) s (Ok c) t r t' → d ≡ with_number n r → Between set i (i + 1) s q t d t'
     between-other x {r} y h w k z =
-        let k' : Reader (section set 0 (section_of x)) s (Taken c) t r t' = rw w.1 at k in
+        let k' : Reader (section set 0 (section_of x)) s (Ok c) t r t' = rw w.1 at k in
         rw (e, z) (record { comes = comes-section set n (section_of x) w.0 h y k'; on = rw (step-of n r) (on-section set (section_of x) w.0 h k') })
 
-  pub got-ready : {q : Number} {n : ℕ} {c : Cursor} → q ≡ Got n c → Ready s (step_of q) → ReadyAt s c
+  pub got-ready : {q : Read ℕ} {n : ℕ} {c : Cursor} → q ≡ Ok (n, c) → Ready s (step_of q) → ReadyAt s c
   got-ready e y = rw e at y
 
   -- ---- sections in a row
 
-  pub between_start : {a : ℕ} {q : Number} {t : List ℕ} → Ready s (step_of q) → Between set a a s q t q t
+  pub between_start : {a : ℕ} {q : Read ℕ} {t : List ℕ} → Ready s (step_of q) → Between set a a s q t q t
   between_start {a} y =
       record {
         comes = record { rest = λ k. k; ready = y };
         on = λ n v p l o. let e : a - a ≡ 0 = omega arith in (n, rw e o);
       }
 
-  pub between_more : {a b c : ℕ} {q d e : Number} {t t₁ t₂ : List ℕ} → a ≤ b → b ≤ c → Between set a b s q t d t₁
+  pub between_more : {a b c : ℕ} {q d e : Read ℕ} {t t₁ t₂ : List ℕ} → a ≤ b → b ≤ c → Between set a b s q t d t₁
       → Between set b c s d t₁ e t₂ → Between set a c s q t e t₂
   between_more {a} {b} {c} h i x y =
       record {
@@ -140,15 +149,15 @@ module _ (set : Settings) {s : List ℕ} where
             (m.0, rw (after-after (b - a) (c - b) v, j) at m.1);
       }
 
-  pub between-end : {a b c : ℕ} {q d : Number} {t t' : List ℕ} → b ≡ c → Between set a b s q t d t'
+  pub between-end : {a b c : ℕ} {q d : Read ℕ} {t t' : List ℕ} → b ≡ c → Between set a b s q t d t'
       → Between set a c s q t d t'
   between-end e x = rw (← e) x
 
 -- ---- the whole pack
 
-place-taken : (q : Number) {c : Cursor} → step_of q ≡ Taken c → place_of q ≡ c.place
-place-taken (Got n d) {c} e = let i : d ≡ c = cc in rw i
-place-taken (Not x) e = let no : ◌≡◌ {A = ℕ} 0 1 = cc in absurd (omega arith)
+place-taken : (q : Read ℕ) {c : Cursor} → step_of q ≡ Ok c → place_of q ≡ c.place
+place-taken (Ok (n, d)) {c} e = let i : d ≡ c = cc in rw i
+place-taken (Err x) e = let no : ◌≡◌ {A = ℕ} 0 1 = cc in absurd (omega arith)
 
 -- what was read there, whole or as the first part
 on-all : {f : Format} {s : List ℕ} {v : Value} {p l : ℕ} {r : Step} (o : On f s v p l r)
@@ -162,7 +171,7 @@ on-first : {f : Format} {g : Value → Format} {s : List ℕ} {v : Value} {p l :
     → Stands f s o.cursor.place × (value_at f s o.cursor.place ≡ first v)
 on-first o = let a = on-all o in let b = parts a.0 in (b.fore, ap first (sym b.value ∙ a.1))
 
-module _ (set : Settings) {s : List ℕ} {p l : ℕ} (q : Number) where
+module _ (set : Settings) {s : List ℕ} {p l : ℕ} (q : Read ℕ) where
   first-at : (x : vob.Section) {g : Value → Format} {w : Value} → On (seq (section set 0 x) g) s w p l (step_of q)
       → SectionAt set x s (place_of q) (first w)
   first-at x o = let a = on-first o in rw (place-taken q o.is) (record { functions = 0; stands = a.0; value = a.1 })
@@ -189,11 +198,11 @@ module _ (set : Settings) {s : List ℕ} {p l : ℕ} (q : Number) where
   section-reached n v vob.function_locations o = first-at vob.function_locations o
   section-reached n v vob.inline_sources o = let a = on-all o in rw (place-taken q o.is) (record { functions = n; stands = a.0; value = a.1 })
 
-pub start-ready : {f : Format} {s : List ℕ} {r r' : Step} {q : Number} {t t' : List ℕ} → Reader f s r t r' t'
-    → q ≡ reader.number_of 0 r' → Ready s (step_of q)
+pub start-ready : {f : Format} {s : List ℕ} {r r' : Step} {q : Read ℕ} {t t' : List ℕ} → Reader f s r t r' t'
+    → q ≡ with_number 0 r' → Ready s (step_of q)
 start-ready {r' = r} k e = rw (e, step-of 0 r) k.ready
 
-module _ (set : Settings) (to : Section) {s : List ℕ} {r r₁ r₂ : Step} {t t₁ t₂ t₃ t₄ : List ℕ} {i : ℕ} {start at last : Number} (a : Reader magic s r t r₁ t₁) (b : Reader version s r₁ t₁ r₂ t₂) (e : start ≡ reader.number_of 0 r₂) where
+module _ (set : Settings) (to : Section) {s : List ℕ} {r r₁ r₂ : Step} {t t₁ t₂ t₃ t₄ : List ℕ} {i : ℕ} {start at last : Read ℕ} (a : Reader magic s r t r₁ t₁) (b : Reader version s r₁ t₁ r₂ t₂) (e : start ≡ with_number 0 r₂) where
   module _ (h : (i ≡ number_of (section_of to)) × (i ≤ 16)) (x : Between set 0 i s start t₂ at t₃) (y : Between set i 16 s at t₃ last t₄) where
     whole-comes : ComesTo (pack set) (from_number set (count_of last) 16) s r t (step_of last) t₄
     unfolding pack sections after_functions section
@@ -206,11 +215,11 @@ module _ (set : Settings) (to : Section) {s : List ℕ} {r r₁ r₂ : Step} {t 
         let j : i - 0 ≡ i = omega arith in
         section-reached set at k.0 v (section_of to) (rw (j, h.0) at k.1)
 
-    pub reached-not : {z : Refusal} {d : Step} {p : ℕ} → last ≡ Not z → d ≡ step_of last → p ≡ place_of at
-        → Reaches set (section_of to) s r t (record { section = p; end = d }) t₄
-    reached-not f g w = rw (w, g, f) (record { reader = comes_then (rw f at whole-comes) (at-refused refl); stands = reached-stands })
+    pub reached-not : {z : Refusal} {p : ℕ} → last ≡ Err z → p ≡ place_of at
+        → Reaches set (section_of to) s r t (record { section = p; end = Err z }) t₄
+    reached-not f w = rw w (record { reader = comes_then (rw f at whole-comes) (at-refused refl); stands = reached-stands })
 
-    pub reached-whole : {n : ℕ} {c : Cursor} {d : Step} {p : ℕ} {t₅ : List ℕ} → last ≡ Got n c → p ≡ place_of at
-        → Reader (section set n inline_sources) s (Taken c) t₄ d t₅
+    pub reached-whole : {n : ℕ} {c : Cursor} {d : Step} {p : ℕ} {t₅ : List ℕ} → last ≡ Ok (n, c) → p ≡ place_of at
+        → Reader (section set n inline_sources) s (Ok c) t₄ d t₅
         → Reaches set (section_of to) s r t (record { section = p; end = d }) t₅
     reached-whole f w k = rw w (record { reader = comes_then (rw f at whole-comes) k; stands = reached-stands })

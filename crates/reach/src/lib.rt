@@ -6,9 +6,9 @@ ghost use Rattle.std.specs.Prelude.{◌≡◌, ◌+◌, ◌≤◌, ◌<◌};
 ghost use Rattle.vob24.specs.Settings.{settings_of};
 ghost use Rattle.vob24_data.specs.Sections.{section_of};
 ghost use Rattle.reader.specs.Contract.{step_of, Ready};
-ghost use Rattle.reach.specs.Reach.{Between, place_of, Reaches};
+ghost use Rattle.reach.specs.Reach.{Between, with_number, place_of, Reaches};
 
-use reader::{Number, Step};
+use reader::{Read, Step};
 use vob24_data::{Section, Settings};
 
 // The numbers of the functions and of the inline sources, the last section, which goes by the number of functions.
@@ -24,20 +24,17 @@ pub struct Reached {
 }
 
 // The section numbered i. The number that comes with the answers is that of the functions so far.
-fn number_section(s: &[u8], set: &Settings, i: usize, q: Number, tape: &mut [u32]) -> Number
+fn number_section(s: &[u8], set: &Settings, i: usize, q: Read<u64>, tape: &mut [u32]) -> Read<u64>
     requires { (i < 16) × Ready s.now (step_of q) }
     ensures { Between (settings_of set.now) i (i + 1) s.now q tape.old result
         tape.new }
 {
-    let Number::Got(n, c) = q else {
-        return q;
-    };
+    let (n, c) = q?;
     if i == FUNCTIONS {
         return functions::number_functions(s, set, c, tape);
     }
     let x = vob24_data::section_at(i);
-    let r = deserialize::section(s, set, x, Step::Taken(c), false, tape);
-    reader::number_of(n, r)
+    with_number(n, deserialize::section(s, set, x, Ok(c), false, tape))
 }
 
 // The sections from that numbered `from` on, up to that numbered `to`.
@@ -46,28 +43,33 @@ fn number_sections(
     set: &Settings,
     from: usize,
     to: usize,
-    q: Number,
+    q: Read<u64>,
     tape: &mut [u32],
-) -> Number
+) -> Read<u64>
     requires { (from ≤ to) × (to ≤ 16) × Ready s.now (step_of q) }
     ensures { Between (settings_of set.now) from to s.now q tape.old result
         tape.new }
 {
     let mut here = q;
-    let mut i = from;
-    while i < to {
+    for i in from..to {
         here = number_section(s, set, i, here, tape);
-        i += 1;
     }
     here
 }
 
-fn place_of(q: Number) -> usize
+// The answer so far with a number.
+fn with_number(n: u64, r: Step) -> Read<u64>
+    ensures { result ≡ with_number n r }
+{
+    r.map(|c| (n, c))
+}
+
+fn place_of(q: Read<u64>) -> usize
     ensures { result ≡ place_of q }
 {
     match q {
-        Number::Got(_, c) => c.place,
-        Number::Not(x) => x.place,
+        Ok((_, c)) => c.place,
+        Err(x) => x.place,
     }
 }
 
@@ -80,19 +82,18 @@ pub fn reach_section(s: &[u8], set: &Settings, to: Section, r: Step, tape: &mut 
     let r1 = fields::field_magic(s, r, tape);
     let r2 = fields::field_version(s, r1, tape);
     let i = vob24_data::section_number(to);
-    let start = reader::number_of(0, r2);
+    let start = with_number(0, r2);
     let at = number_sections(s, set, 0, i, start, tape);
     let section = place_of(at);
     let last = number_sections(s, set, i, LAST, at, tape);
-    let Number::Got(n, d) = last else {
-        return Reached {
-            section: section,
-            end: reader::step_of(last),
-        };
-    };
-    let end = debug_info::inline_sources(s, set, Step::Taken(d), n, tape);
-    Reached {
-        section: section,
-        end: end,
+    match last {
+        Ok((n, d)) => {
+            let end = debug_info::inline_sources(s, set, Ok(d), n, tape);
+            Reached { section, end }
+        }
+        Err(x) => Reached {
+            section,
+            end: Err(x),
+        },
     }
 }

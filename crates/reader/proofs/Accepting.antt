@@ -1,4 +1,5 @@
 -- The laws of what a second pass knows: what would refuse a part would refuse the whole.
+use Rattle.std.specs.Prelude.{Ok, Err}
 use Prim.Native.Nat.{ℕ, ◌<◌}
 use mathlib.Core.Path.{◌≡◌, refl, sym, ◌∙◌}
 use mathlib.Core.List.{List, []}
@@ -9,13 +10,9 @@ use Rattle.format.specs.Format.{Value, pair, first, second, number, Rule, count,
 use Rattle.format.specs.Reading.{trace}
 use Rattle.format.specs.SettleTheorems.{then_s, settle-taken}
 use Rattle.format.proofs.TraceTheorems.{settle-seq}
-use Rattle.reader.specs.Contract.{refusal, Refuses, Reads, takes, refuses, skips, Reader, On, NumberOf}
+use Rattle.reader.specs.Contract.{refusal, Refuses, Reads, takes, refuses, skips, Reader, On, NumberOf, Step, Read}
 use Rattle.reader.specs.declared.Cursor.{Cursor}
 use Rattle.reader.specs.declared.Refusal.{Refusal}
-use Rattle.reader.specs.declared.Step.{Step}
-use Rattle.reader.specs.declared.Step.TheVariants.{Taken, Refused}
-use Rattle.reader.specs.declared.Number.{Number}
-use Rattle.reader.specs.declared.Number.TheVariants.{Got}
 use Rattle.reader.proofs.Laws.{at-refused, field_then, Turns}
 use Rattle.reader.proofs.Parts.{list-refused}
 use Rattle.reader.specs.Accepted.{Goes, Accepted}
@@ -25,27 +22,27 @@ pub unknown : {f : Format} {s : List ℕ} {r : Step} → Accepted false f s r
 unknown = record { is = λ e. let no : ◌≡◌ {A = ℕ} 0 1 = cc in absurd (omega arith) }
 
 -- what was taken is not refused when it is read again
-pub taken-accepted : {b : Bool} {f : Format} {s : List ℕ} {r : Step} {c : Cursor} {v : Value} {p l : ℕ} → r ≡ Taken c
+pub taken-accepted : {b : Bool} {f : Format} {s : List ℕ} {r : Step} {c : Cursor} {v : Value} {p l : ℕ} → r ≡ Ok c
     → settle c.left (trace f s c.place) ≡ taken v p l → Accepted b f s r
 taken-accepted {c = c} o i = record { is = λ _. record { cursor = c; is = o; never = λ x k. let no : ◌≡◌ {A = ℕ} 0 1 = cc (i, k.settles) in absurd (omega arith) } }
 
 module _ {b : Bool} {f : Format} {s : List ℕ} {r : Step} where
-  pub denied : {x : Refusal} {t t' : List ℕ} → Accepted b f s r → b ≡ true → Reads f s r t (Refused x) t' → ⊥
+  pub denied : {x : Refusal} {t t' : List ℕ} → Accepted b f s r → b ≡ true → Reads f s r t (Err x) t' → ⊥
   denied {x} {t} {t'} g e h = let k = g.is e in go k (rw k.is at h)
     where
-      go : (k : Goes f s r) → Reads f s (Taken k.cursor) t (Refused x) t' → ⊥
+      go : (k : Goes f s r) → Reads f s (Ok k.cursor) t (Err x) t' → ⊥
       go k (refuses i) = k.never x i
 
   -- THE law
   pub accepted-part : {g : Format} {r' : Step} {t t' : List ℕ}
-      → ((x : Refusal) → Reader g s r' t' (Refused x) t' → Reader f s r t (Refused x) t') → Accepted b f s r
+      → ((x : Refusal) → Reader g s r' t' (Err x) t' → Reader f s r t (Err x) t') → Accepted b f s r
       → Accepted b g s r'
   accepted-part {g} {r'} {t} {t'} k a = record { is = λ e. go e r' k }
     where
-      go : b ≡ true → (r' : Step) → ((x : Refusal) → Reader g s r' t' (Refused x) t' → Reader f s r t (Refused x) t')
+      go : b ≡ true → (r' : Step) → ((x : Refusal) → Reader g s r' t' (Err x) t' → Reader f s r t (Err x) t')
           → Goes g s r'
-      go e (Taken c) k = record { cursor = c; is = refl; never = λ x h. denied a e (k x (record { reads = refuses h; ready = tt })).reads }
-      go e (Refused x) k = absurd (denied a e (k x (record { reads = skips; ready = tt })).reads)
+      go e (Ok c) k = record { cursor = c; is = refl; never = λ x h. denied a e (k x (record { reads = refuses h; ready = tt })).reads }
+      go e (Err x) k = absurd (denied a e (k x (record { reads = skips; ready = tt })).reads)
 
 -- what is accepted is taken
 pub accepted-on : {f : Format} {s : List ℕ} {r : Step} → Accepted true f s r
@@ -58,7 +55,7 @@ accepted-on {f} {s} {r} g = let k = g.is refl in go k (settle k.cursor.left (tra
     go k (taken v p l) e = (v, p, l, record { cursor = k.cursor; is = k.is; settles = e })
 
 -- what is accepted comes to an end
-pub accepted-ends : {b : Bool} {f : Format} {s : List ℕ} {c : Cursor} → b ≡ true → Accepted b f s (Taken c)
+pub accepted-ends : {b : Bool} {f : Format} {s : List ℕ} {c : Cursor} → b ≡ true → Accepted b f s (Ok c)
     → (v : Value) × (q : ℕ) × Ends (trace f s c.place) v q
 accepted-ends {b} {f} {s} {c} i g = let k = g.is i in let e : k.cursor ≡ c = cc k.is in go (rw e at k.never) (settle c.left (trace f s c.place)) refl
   where
@@ -67,8 +64,8 @@ accepted-ends {b} {f} {s} {c} i g = let k = g.is i in let e : k.cursor ≡ c = c
     go n (refused w p l) e = absurd (n (refusal w p l) (record { settles = e }))
     go n (taken v p l) e = (v, p, ((settle-taken c.left (trace f s c.place) v p l).0 e).0)
 
-pub accepted-at : {b : Bool} {f : Format} {s : List ℕ} {r : Step} {c : Cursor} → r ≡ Taken c → Accepted b f s r
-    → Accepted b f s (Taken c)
+pub accepted-at : {b : Bool} {f : Format} {s : List ℕ} {r : Step} {c : Cursor} → r ≡ Ok c → Accepted b f s r
+    → Accepted b f s (Ok c)
 accepted-at e g = rw e at g
 
 module _ {b : Bool} {f : Format} {g : Value → Format} {s : List ℕ} {r : Step} where
@@ -81,9 +78,9 @@ module _ {b : Bool} {f g : Format} {s : List ℕ} {r : Step} where
   accepted-next h = accepted-part (λ x k. field_then h (λ _. k))
 
 -- an item of a list
-pub accepted-item : {b : Bool} {ρ : Rule} {m k z : ℕ} {f : Format} {s : List ℕ} {c d : Cursor} {q : Number} {n : ℕ} {r r₂ : Step} {t t₁ t₂ : List ℕ} {j : ℕ}
-    → r ≡ Taken c → q ≡ Got n d → NumberOf (leaf (count ρ m k z)) number s c t q t₁ → 0 < j
-    → Turns f s t₁ (Taken d) n t₂ r₂ j
+pub accepted-item : {b : Bool} {ρ : Rule} {m k z : ℕ} {f : Format} {s : List ℕ} {c d : Cursor} {q : Read ℕ} {n : ℕ} {r r₂ : Step} {t t₁ t₂ : List ℕ} {j : ℕ}
+    → r ≡ Ok c → q ≡ Ok (n, d) → NumberOf (leaf (count ρ m k z)) number s c t q t₁ → 0 < j
+    → Turns f s t₁ (Ok d) n t₂ r₂ j
     → Accepted b (seq (leaf (count ρ m k z)) (λ v. times f (number v))) s r → Accepted b f s r₂
 accepted-item y e h i l = accepted-part (λ x k. list-refused y e h i l k refl)
 
@@ -108,7 +105,7 @@ module _ {f : Format} {g : Value → Format} {s : List ℕ} {v : Value} {q l : �
       e : then_s (settle o.cursor.left (trace f s o.cursor.place)) (λ v q l. then_s (settle l (trace (g v) s q)) (λ w r m. taken (pair v w) r m)) ≡ taken v q l
       e = sym (settle-seq o.cursor.left f g s o.cursor.place) ∙ o.settles
 
-      go : {r' : Step} → Reads f s (Taken o.cursor) t r' t' → On (g (first v)) s (second v) q l r'
+      go : {r' : Step} → Reads f s (Ok o.cursor) t r' t' → On (g (first v)) s (second v) q l r'
       go (takes {v = v₁} {c' = d} h) =
           let x = then-taken (settle d.left (trace (g v₁) s d.place)) (rw h.settles at e) in
           record { cursor = d; is = refl; settles = rw (← x.0) x.1 }

@@ -1,4 +1,5 @@
 -- The laws of questions: one after another, and after the part whose value they ask about.
+use Rattle.std.specs.Prelude.{Ok, Err}
 use Prim.Native.Nat.{ℕ, ◌-◌, ◌≤◌}
 use mathlib.Core.Path.{◌≡◌, refl, ◌∙◌}
 use mathlib.Core.List.{List, [], ◌∷◌, ◌++◌}
@@ -12,11 +13,9 @@ use Rattle.format.specs.Reading.{trace, trace_ask, trace_leaf}
 use Rattle.format.specs.Record.{words, words_leaf}
 use Rattle.format.specs.SettleTheorems.{then_s}
 use Rattle.vob24.specs.Questions.{refuse_unless}
-use Rattle.reader.specs.Contract.{refusal, Ready, ReadyAt, Reads, takes, refuses, skips, Reader, Paid, Asks, passes, denies, Behind, Follows}
+use Rattle.reader.specs.Contract.{refusal, Ready, ReadyAt, Reads, takes, refuses, skips, Reader, Paid, Asks, passes, denies, Behind, Follows, Step}
 use Rattle.reader.specs.declared.Cursor.{Cursor}
 use Rattle.reader.specs.declared.Refusal.{Refusal}
-use Rattle.reader.specs.declared.Step.{Step}
-use Rattle.reader.specs.declared.Step.TheVariants.{Taken, Refused}
 use Rattle.reader.proofs.Laws.{takes-ends, then_reads, seq-refuses}
 use Rattle.reader.proofs.Settles.{pay-yes, pay-no}
 use Rattle.reader.proofs.Paying.{paid-spent, paid-bought}
@@ -49,7 +48,7 @@ asks-place (deny w ∷ l) p b e = let z : ◌≡◌ {A = ℕ} 0 1 = cc in absurd
 
 module _ {l : List Ask} (m : List Ask) {c : Cursor} where
   -- what has passed leads on
-  pub asks-then : {d : Cursor} {q : Step} → Asks l c (Taken d) → Asks m d q → Asks (l ++ m) c q
+  pub asks-then : {d : Cursor} {q : Step} → Asks l c (Ok d) → Asks m d q → Asks (l ++ m) c q
   unfolding then_s
   asks-then {d} {q} (passes e i) k =
       let y : d.place ≡ c.place = asks-place l c.place c.left e in
@@ -61,25 +60,25 @@ module _ {l : List Ask} (m : List Ask) {c : Cursor} where
       go (passes a b) y w = passes (w ∙ (rw y at a)) (b ∙ i)
       go (denies a) y w = denies (w ∙ (rw y at a))
 
-  pub asks-not : {x : Refusal} → Asks l c (Refused x) → Asks (l ++ m) c (Refused x)
+  pub asks-not : {x : Refusal} → Asks l c (Err x) → Asks (l ++ m) c (Err x)
   unfolding then_s
   asks-not {x} (denies e) = denies {x = x} (asks_both l m c.place c.left ∙ rw e)
 
-pub asks_none : {c : Cursor} → Asks [] c (Taken c)
+pub asks_none : {c : Cursor} → Asks [] c (Ok c)
 unfolding trace_ask settle
 asks_none = passes refl refl
 
-pub asks-deny : {w : Wrong} {l : List Ask} {c : Cursor} → Asks (deny w ∷ l) c (Refused (refusal w c.place c.left))
+pub asks-deny : {w : Wrong} {l : List Ask} {c : Cursor} → Asks (deny w ∷ l) c (Err (refusal w c.place c.left))
 unfolding trace_ask settle
 asks-deny = denies refl
 
 -- a charge, and the rest
 module _ {k n : ℕ} {l : List Ask} {c : Cursor} {p : Step} (h : Paid k n c p) where
-  pub asks-poor : {x : Refusal} → p ≡ Refused x → Asks (pay k n ∷ l) c p
+  pub asks-poor : {x : Refusal} → p ≡ Err x → Asks (pay k n ∷ l) c p
   unfolding trace_ask
   asks-poor e = let w = paid-spent e h in rw (e, w.is) (denies (pay-no c.left k n c.place _ w.poor))
 
-  pub asks-paid : {d : Cursor} {q : Step} → p ≡ Taken d → Asks l d q → Asks (pay k n ∷ l) c q
+  pub asks-paid : {d : Cursor} {q : Step} → p ≡ Ok d → Asks l d q → Asks (pay k n ∷ l) c q
   unfolding trace_ask
   asks-paid {d} e a = let w = paid-bought e h in go w.rich (rw w.is at a)
     where
@@ -90,7 +89,7 @@ module _ {k n : ℕ} {l : List Ask} {c : Cursor} {p : Step} (h : Paid k n c p) w
 
 -- the questions as a part of a format
 pub asks-reads : {l : List Ask} {s : List ℕ} {c : Cursor} {t : List ℕ} {q : Step} → Asks l c q
-    → Reads (leaf (ask l)) s (Taken c) t q t
+    → Reads (leaf (ask l)) s (Ok c) t q t
 unfolding trace trace_leaf words words_leaf
 asks-reads {l} {s} {c} (passes {d} e i) = takes {v = none} {c = c} {c' = d} (record { settles = e; moves = i ∙ omega arith; writes = refl })
 asks-reads {l} {s} {c} (denies {x} e) = refuses {c = c} {x = x} (record { settles = e })
@@ -101,7 +100,7 @@ pub behind : {f : Format} {s : List ℕ} {t t₁ : List ℕ} {r r₁ : Step} →
     → Behind f s r r₁
 behind {f} {s} {t} {t₁} {r} {r₁} h k = record { before = h; ready = k.ready; comes = λ c d e i. go (rw (e, i) at k.reads) }
   where
-    go : {c d : Cursor} → Reads f s (Taken c) t (Taken d) t₁ → (v : Value) × Ends (trace f s c.place) v d.place
+    go : {c d : Cursor} → Reads f s (Ok c) t (Ok d) t₁ → (v : Value) × Ends (trace f s c.place) v d.place
     go (takes {v = v} a) = (v, takes-ends a)
 
 asks-ready : {l : List Ask} {s : List ℕ} {c : Cursor} {q : Step} → ReadyAt s c → Asks l c q → Ready s q
@@ -112,26 +111,26 @@ pub follow_then : {f : Format} {l : Value → List Ask} {s : List ℕ} {t t₁ :
     → Follows f l s r r₁ q → Reader (seq f (λ v. leaf (ask (l v)))) s r t q t₁
 follow_then {f} {l} {s} {t} {t₁} {r} {r₁} {q} h k = go r r₁ h.reads h.ready k.stays k.asks
   where
-    go : (r r₁ : Step) → Reads f s r t r₁ t₁ → Ready s r₁ → ((x : Refusal) → r₁ ≡ Refused x → q ≡ r₁)
-        → ((c d : Cursor) (v : Value) → r ≡ Taken c → r₁ ≡ Taken d → Ends (trace f s c.place) v d.place → Asks (l v) d q)
+    go : (r r₁ : Step) → Reads f s r t r₁ t₁ → Ready s r₁ → ((x : Refusal) → r₁ ≡ Err x → q ≡ r₁)
+        → ((c d : Cursor) (v : Value) → r ≡ Ok c → r₁ ≡ Ok d → Ends (trace f s c.place) v d.place → Asks (l v) d q)
         → Reader (seq f (λ v. leaf (ask (l v)))) s r t q t₁
-    go (Taken c) (Taken d) (takes {v = v} a) y i j = let b = j c d v refl refl (takes-ends a) in record { reads = then_reads a (asks-reads b); ready = asks-ready y b }
-    go (Taken c) (Refused x) (refuses a) y i j = rw (i x refl) (record { reads = refuses (seq-refuses a); ready = tt })
-    go (Refused x) (Refused z) skips y i j = rw (i z refl) (record { reads = skips; ready = tt })
-    go (Refused x) (Taken d) x6 y i j = elim x6 [ ]
+    go (Ok c) (Ok d) (takes {v = v} a) y i j = let b = j c d v refl refl (takes-ends a) in record { reads = then_reads a (asks-reads b); ready = asks-ready y b }
+    go (Ok c) (Err x) (refuses a) y i j = rw (i x refl) (record { reads = refuses (seq-refuses a); ready = tt })
+    go (Err x) (Err z) skips y i j = rw (i z refl) (record { reads = skips; ready = tt })
+    go (Err x) (Ok d) x6 y i j = elim x6 [ ]
 
 -- ---- two counts that must agree
 
 module _ (a b : ℕ) (w : Wrong) {s : List ℕ} {d : Cursor} {t : List ℕ} (h : ReadyAt s d) where
   asked : {q : Step} → Asks (refuse_unless (eqb a b) w) d q
-      → Reader (leaf (ask (refuse_unless (eqb a b) w))) s (Taken d) t q t
+      → Reader (leaf (ask (refuse_unless (eqb a b) w))) s (Ok d) t q t
   asked k = record { reads = asks-reads k; ready = asks-ready h k }
 
-  pub agree : a ≡ b → Reader (leaf (ask (refuse_unless (eqb a b) w))) s (Taken d) t (Taken d) t
+  pub agree : a ≡ b → Reader (leaf (ask (refuse_unless (eqb a b) w))) s (Ok d) t (Ok d) t
   unfolding pick
   agree e = asked (rw (eq-eqb a b e) asks_none)
 
   pub differ : {x : Refusal} → (a ≡ b → ⊥) → x ≡ refusal w d.place d.left
-      → Reader (leaf (ask (refuse_unless (eqb a b) w))) s (Taken d) t (Refused x) t
+      → Reader (leaf (ask (refuse_unless (eqb a b) w))) s (Ok d) t (Err x) t
   unfolding pick
   differ i e = rw e (asked (rw (ne_eqb a b i) asks-deny))

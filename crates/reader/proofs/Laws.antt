@@ -1,4 +1,6 @@
 -- The laws of readings: how a reading of a sequence goes on from that of its first part.
+use Rattle.std.specs.Prelude.{Ok, Err}
+use Rattle.std.specs.Result.{IsErrAnd}
 use Prim.Native.Nat.{ℕ, suc, zero, ◌+◌, ◌-◌, ◌≤◌, ◌<◌}
 use mathlib.Core.Path.{◌≡◌, refl, ap, sym, ◌∙◌}
 use mathlib.Core.List.{List, [], ◌∷◌, ◌++◌}
@@ -12,13 +14,10 @@ use Rattle.format.specs.Reading.{trace}
 use Rattle.format.specs.Record.{words}
 use Rattle.format.specs.SettleTheorems.{then_s, settle-taken}
 use Rattle.format.proofs.TraceTheorems.{settle-seq, trace-within, slim}
-use Rattle.reader.specs.Contract.{step_of, Ready, ReadyAt, Takes, Refuses, Reads, takes, refuses, skips, Reader, ComesTo, ReadsOf, got, lost, NumberOf}
+use Rattle.reader.specs.Contract.{Ready, ReadyAt, Takes, Refuses, Reads, takes, refuses, skips, Reader, ComesTo, ReadsOf, got, lost, NumberOf, Step, Read}
 use Rattle.reader.specs.declared.Cursor.{Cursor}
 use Rattle.reader.specs.declared.Refusal.{Refusal}
-use Rattle.reader.specs.declared.Step.{Step}
-use Rattle.reader.specs.declared.Step.TheVariants.{Taken, Refused}
-use Rattle.reader.specs.declared.Number.{Number}
-use Rattle.reader.specs.declared.Number.TheVariants.{Got, Not}
+use Rattle.reader.proofs.Errors.{handed}
 
 pub sets-append : (t : List ℕ) (i : ℕ) (xs ys : List ℕ) → sets t i (xs ++ ys) ≡ sets (sets t i xs) (i + length xs) ys
 sets-append t i [] ys = rw add-zero
@@ -57,7 +56,7 @@ module _ {s : List ℕ} {f : Format} {g : Value → Format} {c : Cursor} where
       }
 
   pub then_reads : {t t₁ t₂ : List ℕ} {v : Value} {c₁ : Cursor} {r : Step} → Takes f s c t v c₁ t₁
-      → Reads (g v) s (Taken c₁) t₁ r t₂ → Reads (seq f g) s (Taken c) t r t₂
+      → Reads (g v) s (Ok c₁) t₁ r t₂ → Reads (seq f g) s (Ok c) t r t₂
   then_reads h (takes k) = takes (then-takes h k)
   then_reads h (refuses k) = refuses (then-refuses h k)
 
@@ -69,12 +68,12 @@ module _ {s : List ℕ} {f : Format} {g : Value → Format} where
   field_reads (refuses h) k = go h (k none)
     where
       go : {c : Cursor} {x : Refusal} {t t₁ t₂ : List ℕ} {r₂ : Step} {e : Format} → Refuses f s c x
-          → Reads e s (Refused x) t₁ r₂ t₂ → Reads (seq f g) s (Taken c) t r₂ t₂
+          → Reads e s (Err x) t₁ r₂ t₂ → Reads (seq f g) s (Ok c) t r₂ t₂
       go h skips = refuses (seq-refuses h)
   field_reads skips k = go (k none)
     where
-      go : {x : Refusal} {t t₁ t₂ : List ℕ} {r₂ : Step} {e : Format} → Reads e s (Refused x) t₁ r₂ t₂
-          → Reads (seq f g) s (Refused x) t r₂ t₂
+      go : {x : Refusal} {t t₁ t₂ : List ℕ} {r₂ : Step} {e : Format} → Reads e s (Err x) t₁ r₂ t₂
+          → Reads (seq f g) s (Err x) t r₂ t₂
       go skips = skips
 
 -- nothing: the answer so far
@@ -83,8 +82,8 @@ unfolding trace settle words
 empty-takes s c t = record { settles = refl; moves = omega arith; writes = refl }
 
 empty_reads : (s : List ℕ) (r : Step) (t : List ℕ) → Reads empty s r t r t
-empty_reads s (Taken c) t = takes (empty-takes s c t)
-empty_reads s (Refused x) t = skips
+empty_reads s (Ok c) t = takes (empty-takes s c t)
+empty_reads s (Err x) t = skips
 
 pub empty_then : {s : List ℕ} {r : Step} {t : List ℕ} → Ready s r → Reader empty s r t r t
 empty_then {s} {r} {t} h = record { reads = empty_reads s r t; ready = h }
@@ -98,13 +97,17 @@ module _ {s : List ℕ} {f : Format} {g : Value → Format} {t t₁ t₂ : List 
 
 -- the answer so far is at hand
 module _ {f : Format} {s : List ℕ} {t t₁ : List ℕ} {r : Step} where
-  pub at-step : {q : Step} {c : Cursor} → r ≡ Taken c → Reader f s (Taken c) t q t₁ → Reader f s r t q t₁
+  pub at-step : {q : Step} {c : Cursor} → r ≡ Ok c → Reader f s (Ok c) t q t₁ → Reader f s r t q t₁
   at-step e h = rw e h
 
-  pub at-refused : {x : Refusal} → r ≡ Refused x → Reader f s r t r t₁
+  pub at-refused : {x : Refusal} → r ≡ Err x → Reader f s r t r t₁
   at-refused e = rw e (record { reads = skips; ready = tt })
 
-pub ready_at : {s : List ℕ} {c : Cursor} {r : Step} → r ≡ Taken c → Ready s r → ReadyAt s c
+-- the refusal is handed on
+pub up-refused : {f : Format} {s : List ℕ} {t : List ℕ} {r p : Step} {x : Refusal} → r ≡ Err x → IsErrAnd p (λ y. y ≡ x) → Reader f s r t p t
+up-refused {p = p} e i = rw (handed p i, e) (record { reads = skips; ready = tt })
+
+pub ready_at : {s : List ℕ} {c : Cursor} {r : Step} → r ≡ Ok c → Ready s r → ReadyAt s c
 ready_at {s} e h = rw e at h
 
 -- a number that was got
@@ -116,49 +119,57 @@ pub record GotOf (f : Format) (of : Value → ℕ) (s : List ℕ) (c : Cursor) (
 
 -- a number that is not kept
 module _ {f : Format} {of : Value → ℕ} {s : List ℕ} {c : Cursor} {t t₁ : List ℕ} where
-  just-reads : {q : Number} → ReadsOf f of s c t q t₁ → Reads f s (Taken c) t (step_of q) t₁
-  just-reads (got e h) = takes h
-  just-reads (lost h) = refuses h
-
-  pub number_just : {q : Number} {r : Step} → r ≡ step_of q → NumberOf f of s c t q t₁ → Reader f s (Taken c) t r t₁
-  number_just e h = rw e (record { reads = just-reads h.reads; ready = h.ready })
-
-  pub got_of : {q : Number} {n : ℕ} {c' : Cursor} → q ≡ Got n c' → NumberOf f of s c t q t₁ → GotOf f of s c t n c' t₁
+  pub got_of : {q : Read ℕ} {n : ℕ} {c' : Cursor} → q ≡ Ok (n, c') → NumberOf f of s c t q t₁ → GotOf f of s c t n c' t₁
   got_of {q} {n} {c'} e h = go (rw e at h.reads) (rw e at h.ready)
     where
-      go : ReadsOf f of s c t (Got n c') t₁ → ReadyAt s c' → GotOf f of s c t n c' t₁
+      go : ReadsOf f of s c t (Ok (n, c')) t₁ → ReadyAt s c' → GotOf f of s c t n c' t₁
       go (got e k) r = record { value = _; is = e; takes = k; ready = r }
 
-  pub got-ready : {q : Number} {n : ℕ} {c' : Cursor} → q ≡ Got n c' → NumberOf f of s c t q t₁ → ReadyAt s c'
+  pub got-ready : {q : Read ℕ} {n : ℕ} {c' : Cursor} → q ≡ Ok (n, c') → NumberOf f of s c t q t₁ → ReadyAt s c'
   got-ready e h = (got_of e h).ready
 
+  -- the number is not kept
+  pub number_just : {q : Read ℕ} {n : ℕ} {c' : Cursor} → q ≡ Ok (n, c') → NumberOf f of s c t q t₁ → Reader f s (Ok c) t (Ok c') t₁
+  number_just e h = let g = got_of e h in record { reads = takes g.takes; ready = g.ready }
+
   -- a number, and the rest by that number
-  pub number_then : (h : ℕ → Format) {q : Number} {n : ℕ} {c' : Cursor} {t₂ : List ℕ} {r₂ : Step} → q ≡ Got n c'
-      → NumberOf f of s c t q t₁ → Reader (h n) s (Taken c') t₁ r₂ t₂
-      → Reader (seq f (λ v. h (of v))) s (Taken c) t r₂ t₂
+  pub number_then : (h : ℕ → Format) {q : Read ℕ} {n : ℕ} {c' : Cursor} {t₂ : List ℕ} {r₂ : Step} → q ≡ Ok (n, c')
+      → NumberOf f of s c t q t₁ → Reader (h n) s (Ok c') t₁ r₂ t₂
+      → Reader (seq f (λ v. h (of v))) s (Ok c) t r₂ t₂
   number_then h {q} {n} {c'} {t₂} {r₂} e k m =
       let g = got_of e k in
       record { reads = then_reads g.takes (rw g.is at m.reads); ready = m.ready }
 
   -- not got: the whole is refused
-  pub number_not : (g : Value → Format) {q : Number} {x : Refusal} {r : Step} {t₂ : List ℕ} → q ≡ Not x → r ≡ step_of q
-      → NumberOf f of s c t q t₁ → Reader (seq f g) s (Taken c) t r t₂
-  number_not g {q} {x} {r} {t₂} e i k = rw (i, e) (go (rw e at k.reads))
+  pub number_not : (g : Value → Format) {q : Read ℕ} {x : Refusal} {r : Step} {t₂ : List ℕ} → q ≡ Err x → IsErrAnd r (λ y. y ≡ x)
+      → NumberOf f of s c t q t₁ → Reader (seq f g) s (Ok c) t r t₂
+  number_not g {q} {x} {r} {t₂} e i k = rw (handed r i) (go (rw e at k.reads))
     where
-      go : ReadsOf f of s c t (Not x) t₁ → Reader (seq f g) s (Taken c) t (Refused x) t₂
+      go : ReadsOf f of s c t (Err x) t₁ → Reader (seq f g) s (Ok c) t (Err x) t₂
       go (lost h) = record { reads = refuses (seq-refuses h); ready = tt }
+
+  -- alone
+  pub number_lost : {q : Read ℕ} {x : Refusal} {r : Step} {t₂ : List ℕ} → q ≡ Err x → IsErrAnd r (λ y. y ≡ x)
+      → NumberOf f of s c t q t₁ → Reader f s (Ok c) t r t₂
+  number_lost {q} {x} {r} {t₂} e i k = rw (handed r i) (go (rw e at k.reads))
+    where
+      go : ReadsOf f of s c t (Err x) t₁ → Reader f s (Ok c) t (Err x) t₂
+      go (lost h) = record { reads = refuses h; ready = tt }
 
 -- ---- some parts of a sequence
 
-refused-alike : {f g : Format} {s t : List ℕ} {x : Refusal} {q : Step} {t'' : List ℕ} → Reads g s (Refused x) t q t''
-    → Reads f s (Refused x) t q t''
+refused-alike : {f g : Format} {s t : List ℕ} {x : Refusal} {q : Step} {t'' : List ℕ} → Reads g s (Err x) t q t''
+    → Reads f s (Err x) t q t''
 refused-alike skips = skips
 
 module _ {f g : Format} {s t : List ℕ} {r : Step} where
-  pub comes-not : {x : Refusal} → r ≡ Refused x → ComesTo f g s r t r t
+  pub comes-not : {x : Refusal} → r ≡ Err x → ComesTo f g s r t r t
   comes-not e = rw e (record { rest = refused-alike; ready = tt })
 
-  pub comes-at : {c : Cursor} {q : Step} {t' : List ℕ} → r ≡ Taken c → ComesTo f g s (Taken c) t q t'
+  pub comes-up : {q : Step} {x : Refusal} → r ≡ Err x → IsErrAnd q (λ y. y ≡ x) → ComesTo f g s r t q t
+  comes-up {q} e i = rw (handed q i, e) (record { rest = refused-alike; ready = tt })
+
+  pub comes-at : {c : Cursor} {q : Step} {t' : List ℕ} → r ≡ Ok c → ComesTo f g s (Ok c) t q t'
       → ComesTo f g s r t q t'
   comes-at e k = rw e k
 
@@ -212,23 +223,23 @@ module _ {S : Type 0} {f : S → Format} {u : S → Value → S} {s : List ℕ} 
         record { comes = record { rest = λ p. l'.rest (field_reads m.reads (λ v. rw (i v) p)); ready = m.ready }; long = e ∙ l.long }
 
     -- an item of which the state takes in a number
-    pub chained_more : {t₁ : List ℕ} (of : Value → ℕ) (w : S → ℕ → S) {c c' : Cursor} {q : Number} {m : ℕ}
-        → ((v : Value) → u x v ≡ w x (of v)) → q ≡ Got m c' → Chained f u s t₀ r₀ x₀ n t (Taken c) x k
+    pub chained_more : {t₁ : List ℕ} (of : Value → ℕ) (w : S → ℕ → S) {c c' : Cursor} {q : Read ℕ} {m : ℕ}
+        → ((v : Value) → u x v ≡ w x (of v)) → q ≡ Ok (m, c') → Chained f u s t₀ r₀ x₀ n t (Ok c) x k
         → NumberOf (f x) of s c t q t₁ → length t₁ ≡ length t
-        → Chained f u s t₀ r₀ x₀ n t₁ (Taken c') (w x m) (k - 1)
+        → Chained f u s t₀ r₀ x₀ n t₁ (Ok c') (w x m) (k - 1)
     chained_more {t₁} of w {c} {c'} {q} {m} i e l p j =
         let l' = one_more l in
         let g = got_of e p in
         let y : u x g.value ≡ w x m = i g.value ∙ ap (w x) (sym g.is) in
         record { comes = record { rest = λ z. l'.rest (then_reads g.takes (rw y z)); ready = g.ready }; long = j ∙ l.long }
 
-    pub chained-not : {t₁ : List ℕ} {c : Cursor} (of : Value → ℕ) {q : Number} {y : Refusal} {r : Step} → q ≡ Not y
-        → r ≡ step_of q → Chained f u s t₀ r₀ x₀ n t (Taken c) x k → NumberOf (f x) of s c t q t₁
+    pub chained-not : {t₁ : List ℕ} {c : Cursor} (of : Value → ℕ) {q : Read ℕ} {y : Refusal} {r : Step} → q ≡ Err y
+        → IsErrAnd r (λ z. z ≡ y) → Chained f u s t₀ r₀ x₀ n t (Ok c) x k → NumberOf (f x) of s c t q t₁
         → Reader (chain f u x₀ n) s r₀ t₀ r t₁
     chained-not of e i l p = comes_then (one_more l) (number_not _ e i p)
 
     pub chained_refused : {t₁ : List ℕ} {r r₁ : Step} {y : Refusal} → Chained f u s t₀ r₀ x₀ n t r x k
-        → Reader (f x) s r t r₁ t₁ → r₁ ≡ Refused y → Reader (chain f u x₀ n) s r₀ t₀ r₁ t₁
+        → Reader (f x) s r t r₁ t₁ → r₁ ≡ Err y → Reader (chain f u x₀ n) s r₀ t₀ r₁ t₁
     chained_refused l m e = comes_then (one_more l) (field_then m (λ v. at-refused e))
 
   pub chained-done : {t : List ℕ} {r : Step} {x : S} {k : ℕ} → k ≤ 0 → Chained f u s t₀ r₀ x₀ n t r x k
@@ -255,7 +266,7 @@ module _ {f : Format} {s : List ℕ} {t₀ : List ℕ} {r₀ : Step} {n : ℕ} w
   turns_more h l m e = turns-of (chained-plain h (λ _. refl) l.chained m e)
 
   pub turns-refused : {t t₁ : List ℕ} {r r₁ : Step} {k : ℕ} {x : Refusal} → 0 < k → Turns f s t₀ r₀ n t r k
-      → Reader f s r t r₁ t₁ → r₁ ≡ Refused x → Reader (times f n) s r₀ t₀ r₁ t₁
+      → Reader f s r t r₁ t₁ → r₁ ≡ Err x → Reader (times f n) s r₀ t₀ r₁ t₁
   turns-refused h l m e = chained_refused h l.chained m e
 
   pub turns-done : {t : List ℕ} {r : Step} {k : ℕ} → k ≤ 0 → Turns f s t₀ r₀ n t r k → Reader (times f n) s r₀ t₀ r t

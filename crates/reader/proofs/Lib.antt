@@ -1,10 +1,11 @@
 pub mod Gather
+pub mod Little
 pub mod Settles
 pub mod Paying
+pub mod Errors
 pub mod Laws
 pub mod Asks
 pub mod Leaves
-pub mod Signs
 pub mod Keeping
 pub mod Parts
 pub mod Reading

@@ -1,5 +1,5 @@
 -- The contracts of the leaves, ByteReader's methods: a value and the next cursor, or the refusal. No word is written.
-use Rattle.std.specs.Prelude.{ℕ, ◌+◌, ◌*◌, ◌≤◌, ◌<◌, ◌≡◌, List, ℤ, Float, length}
+use Rattle.std.specs.Prelude.{ℕ, ◌+◌, ◌*◌, ◌≤◌, ◌<◌, ◌≡◌, List, ℤ, Float, length, Ok, Err}
 use Rattle.std.specs.Float.{binary64}
 use Rattle.std.specs.Float.Ieee.{of_bits}
 use Rattle.std.specs.Int.{w64}
@@ -9,17 +9,12 @@ use Rattle.format.specs.Format.{Value, none, num, text, Leaf}
 use Rattle.format.specs.Reading.{little, part, room, field, trace_leaf}
 use Rattle.format.specs.Layout.{Bytes}
 use Rattle.vob24.specs.Utf8.{scan, ill_formed, characters}
-use Rattle.reader.specs.Contract.{refusal, wrong_of, ReadyAt}
+use Rattle.reader.specs.Contract.{refusal, wrong_of, ReadyAt, Step, Read, span_at, text_at, bits_of}
 use Rattle.reader.specs.declared.Cursor.{Cursor}
 use Rattle.reader.specs.declared.Refusal.{Refusal}
-use Rattle.reader.specs.declared.Number.{Number}
-use Rattle.reader.specs.declared.Number.TheVariants.{Got, Not}
-use Rattle.reader.specs.declared.Signed.{Signed}
-use Rattle.reader.specs.declared.Float.{Float as FloatAnswer}
-use Rattle.reader.specs.declared.Payload.{Payload}
+use Rattle.reader.specs.declared.Span.{Span}
 use Rattle.reader.specs.declared.Text.{Text}
-use Rattle.reader.specs.declared.Step.{Step}
-use Rattle.reader.specs.declared.Step.TheVariants.{Taken, Refused}
+use Rattle.reader.specs.declared.Bits.{Bits}
 
 -- k bytes from c on: their number, and the cursor past them.
 abbrev pub past : ℕ → Cursor → Cursor
@@ -36,9 +31,9 @@ pub record Short (k : ℕ) (s : List ℕ) (c : Cursor) (x : Refusal) : Type 0 wh
   pub room : length s < c.place + k
   pub is : x ≡ refusal (wrong unexpected_eof 0) c.place c.left
 
-pub data Fetches (k : ℕ) (s : List ℕ) (c : Cursor) : Number → Type 0 where
-  there : {n : ℕ} {d : Cursor} → Fetched k s c n d → Fetches k s c (Got n d)
-  short : {x : Refusal} → Short k s c x → Fetches k s c (Not x)
+pub data Fetches (k : ℕ) (s : List ℕ) (c : Cursor) : Read ℕ → Type 0 where
+  there : {n : ℕ} {d : Cursor} → Fetched k s c n d → Fetches k s c (Ok (n, d))
+  short : {x : Refusal} → Short k s c x → Fetches k s c (Err x)
 
 -- What follows a count: its entries' bytes are there, then the charge.
 unfoldable pub entries_trace : List ℕ → ℕ → ℕ → ℕ → ℕ → ℕ → Trace Value
@@ -55,21 +50,21 @@ pub record CountAt (s : List ℕ) (d : Cursor) (n m z : ℕ) : Type 0 where
   pub least : m < 4294967296
   pub size : z < 4294967296
 
-pub data Counted (s : List ℕ) (d : Cursor) (n m k z : ℕ) : Number → Type 0 where
+pub data Counted (s : List ℕ) (d : Cursor) (n m k z : ℕ) : Read ℕ → Type 0 where
   enough : {e : Cursor} → settle d.left (entries_trace s d.place n m k z) ≡ taken (num n) e.place e.left
-      → e.at ≡ d.at → Counted s d n m k z (Got n e)
+      → e.at ≡ d.at → Counted s d n m k z (Ok (n, e))
   few : {x : Refusal} → settle d.left (entries_trace s d.place n m k z) ≡ refused (wrong_of x) x.place x.left
-      → Counted s d n m k z (Not x)
+      → Counted s d n m k z (Err x)
 
 -- Eight bytes as a signed number or as a float, and their bits.
-pub data FetchesSigned (s : List ℕ) (c : Cursor) : Signed → Type 0 where
-  signed : {i : ℤ} {n : ℕ} {d : Cursor} → Fetched 8 s c n d → i ≡ to_z w64 n → FetchesSigned s c (Signed.Got i n d)
-  short_signed : {x : Refusal} → Short 8 s c x → FetchesSigned s c (Signed.Not x)
+pub data FetchesSigned (s : List ℕ) (c : Cursor) : Read (Bits ℤ) → Type 0 where
+  signed : {i : ℤ} {n : ℕ} {d : Cursor} → Fetched 8 s c n d → i ≡ to_z w64 n → FetchesSigned s c (Ok (bits_of i n, d))
+  short_signed : {x : Refusal} → Short 8 s c x → FetchesSigned s c (Err x)
 
-pub data FetchesFloat (s : List ℕ) (c : Cursor) : FloatAnswer → Type 0 where
+pub data FetchesFloat (s : List ℕ) (c : Cursor) : Read (Bits Float) → Type 0 where
   float : {y : Float} {n : ℕ} {d : Cursor} → Fetched 8 s c n d → y ≡ of_bits binary64 n
-      → FetchesFloat s c (FloatAnswer.Got y n d)
-  short_float : {x : Refusal} → Short 8 s c x → FetchesFloat s c (FloatAnswer.Not x)
+      → FetchesFloat s c (Ok (bits_of y n, d))
+  short_float : {x : Refusal} → Short 8 s c x → FetchesFloat s c (Err x)
 
 -- The trace of the leaf l at c under c's budget gives the number n, which fits a word, and goes on at d.
 pub record Answered (l : Leaf) (s : List ℕ) (c : Cursor) (n : ℕ) (d : Cursor) : Type 0 where
@@ -82,9 +77,9 @@ pub record Denied (l : Leaf) (s : List ℕ) (c : Cursor) (x : Refusal) : Type 0 
   pub settles : settle c.left (trace_leaf l s c.place) ≡ refused (wrong_of x) x.place x.left
 
 -- The contract of a leaf that answers a number.
-pub data Answers (l : Leaf) (s : List ℕ) (c : Cursor) : Number → Type 0 where
-  answered : {n : ℕ} {d : Cursor} → Answered l s c n d → Answers l s c (Got n d)
-  denied : {x : Refusal} → Denied l s c x → Answers l s c (Not x)
+pub data Answers (l : Leaf) (s : List ℕ) (c : Cursor) : Read ℕ → Type 0 where
+  answered : {n : ℕ} {d : Cursor} → Answered l s c n d → Answers l s c (Ok (n, d))
+  denied : {x : Refusal} → Denied l s c x → Answers l s c (Err x)
 
 -- The trace gives the n bytes from p on, and goes on at d.
 pub record Spanned (l : Leaf) (s : List ℕ) (c : Cursor) (p n : ℕ) (d : Cursor) : Type 0 where
@@ -93,34 +88,33 @@ pub record Spanned (l : Leaf) (s : List ℕ) (c : Cursor) (p n : ℕ) (d : Curso
   pub stays : d.at ≡ c.at
 
 -- The contract of a leaf that answers a payload: where it starts, and how long it is.
-pub data Spans (l : Leaf) (s : List ℕ) (c : Cursor) : Payload → Type 0 where
-  spanned : {p n : ℕ} {d : Cursor} → Spanned l s c p n d → Spans l s c (Payload.Got p n d)
-  unspanned : {x : Refusal} → Denied l s c x → Spans l s c (Payload.Not x)
+pub data Spans (l : Leaf) (s : List ℕ) (c : Cursor) : Read Span → Type 0 where
+  spanned : {p n : ℕ} {d : Cursor} → Spanned l s c p n d → Spans l s c (Ok (span_at p n, d))
+  unspanned : {x : Refusal} → Denied l s c x → Spans l s c (Err x)
 
 -- What follows a length.
-pub data Bought (s : List ℕ) (d : Cursor) (n k : ℕ) : Payload → Type 0 where
+pub data Bought (s : List ℕ) (d : Cursor) (n k : ℕ) : Read Span → Type 0 where
   bought : {e : Cursor} → d.place + n ≤ length s
       → settle d.left (bytes_trace s d.place n k) ≡ taken (text d.place (part s d.place n)) e.place e.left
-      → e.at ≡ d.at → Bought s d n k (Payload.Got d.place n e)
+      → e.at ≡ d.at → Bought s d n k (Ok (span_at d.place n, e))
   unbought : {x : Refusal} → settle d.left (bytes_trace s d.place n k) ≡ refused (wrong_of x) x.place x.left
-      → Bought s d n k (Payload.Not x)
+      → Bought s d n k (Err x)
 
 -- A mark of the file: passed or refused.
 pub data Marks (l : Leaf) (s : List ℕ) (c : Cursor) : Step → Type 0 where
   marked : {d : Cursor} → settle c.left (trace_leaf l s c.place) ≡ taken none d.place d.left → d.at ≡ c.at
-      → Marks l s c (Taken d)
-  unmarked : {x : Refusal} → Denied l s c x → Marks l s c (Refused x)
+      → Marks l s c (Ok d)
+  unmarked : {x : Refusal} → Denied l s c x → Marks l s c (Err x)
 
 -- The contract of a leaf that answers a text: a payload whose bytes are well-formed, and how many characters they are.
-pub data Texts (l : Leaf) (s : List ℕ) (c : Cursor) : Text → Type 0 where
+pub data Texts (l : Leaf) (s : List ℕ) (c : Cursor) : Read Text → Type 0 where
   written : {p n k : ℕ} {d : Cursor} → Spanned l s c p n d → scan (part s p n) ≡ characters k
-      → Texts l s c (Text.Got p n k d)
-  unwritten : {x : Refusal} → Denied l s c x → Texts l s c (Text.Not x)
+      → Texts l s c (Ok (text_at (span_at p n) k, d))
+  unwritten : {x : Refusal} → Denied l s c x → Texts l s c (Err x)
 
 -- A payload's bytes as a text, or 6.
-pub data Checked (s : List ℕ) : Payload → Text → Type 0 where
-  formed : {p n k : ℕ} {d : Cursor} → scan (part s p n) ≡ characters k
-      → Checked s (Payload.Got p n d) (Text.Got p n k d)
-  malformed : {p n : ℕ} {d : Cursor} {x : Refusal} → scan (part s p n) ≡ ill_formed
-      → x ≡ refusal (wrong invalid_utf8 0) d.place d.left → Checked s (Payload.Got p n d) (Text.Not x)
-  passed : {x : Refusal} → Checked s (Payload.Not x) (Text.Not x)
+pub data Checked (s : List ℕ) : Read Span → Read Text → Type 0 where
+  formed : {p : Span} {k : ℕ} {d : Cursor} → scan (part s p.start p.length) ≡ characters k
+      → Checked s (Ok (p, d)) (Ok (text_at p k, d))
+  malformed : {p : Span} {d : Cursor} {x : Refusal} → scan (part s p.start p.length) ≡ ill_formed
+      → x ≡ refusal (wrong invalid_utf8 0) d.place d.left → Checked s (Ok (p, d)) (Err x)

@@ -2,66 +2,48 @@
 // the refusal's number; then the place.
 #![tactic(auto)]
 
-ghost use Rattle.std.specs.Prelude.{◌≡◌};
+ghost use Rattle.std.specs.Prelude.{◌≤◌, length};
 
-use reader::{Cursor, Number, Text, numbers};
+use reader::{Cursor, Read, numbers};
 use std::io;
 
 // More than any case here.
 const MOST: usize = 16;
 
-fn start() -> Cursor
-    ensures { (result.place ≡ 0) × (result.at ≡ 0) }
+const START: Cursor = Cursor {
+    place: 0,
+    left: 16,
+    at: 0,
+};
+
+fn line(rt: &impl Print, read: Read<u64>) -> io::Result<()> {
+    match read {
+        Ok((n, d)) => println!(rt; "taken {n} {}", d.place),
+        Err(x) => println!(rt; "refused {} {}", x.number, x.place),
+    }
+}
+
+fn packed(rt: &impl Print, s: &[u8]) -> io::Result<()>
+    requires { length s.now ≤ MOST }
 {
-    Cursor {
-        place: 0,
-        left: 16,
-        at: 0,
-    }
+    line(rt, number_leaves::read_source_u32(s, START))
 }
 
-fn line(rt: &impl Print, taken: bool, n: u64, place: usize) -> io::Result<()> {
-    if taken {
-        println!(rt; "taken {n} {place}")
-    } else {
-        println!(rt; "refused {n} {place}")
-    }
-}
-
-fn number(rt: &impl Print, q: Number) -> io::Result<()> {
-    match q {
-        Number::Got(n, d) => line(rt, true, n, d.place),
-        Number::Not(x) => line(rt, false, x.number, x.place),
-    }
-}
-
-fn packed(rt: &impl Print, s: &[u8]) -> io::Result<()> {
-    if MOST < s.len() {
-        return Ok(());
-    }
-    number(rt, number_leaves::read_source_u32(s, start()))
-}
-
-fn value_meta(rt: &impl Print, s: &[u8]) -> io::Result<()> {
-    if MOST < s.len() {
-        return Ok(());
-    }
-    number(
+fn value_meta(rt: &impl Print, s: &[u8]) -> io::Result<()>
+    requires { length s.now ≤ MOST }
+{
+    line(
         rt,
-        number_leaves::read_packed_word(s, start(), numbers::INVALID_PACKED_VALUE_META),
+        number_leaves::read_packed_word(s, START, numbers::INVALID_PACKED_VALUE_META),
     )
 }
 
 // The text stands after its length word.
-fn text(rt: &impl Print, s: &[u8]) -> io::Result<()> {
-    if MOST < s.len() {
-        return Ok(());
-    }
-    let c = start();
-    match length_leaves::read_string(s, c.place, c.left, c.at) {
-        Text::Got(_, _, n, d) => line(rt, true, n as u64, d.place),
-        Text::Not(x) => line(rt, false, x.number, x.place),
-    }
+fn text(rt: &impl Print, s: &[u8]) -> io::Result<()>
+    requires { length s.now ≤ MOST }
+{
+    let read = length_leaves::read_string(s, START.place, START.left, START.at);
+    line(rt, read.map(|(text, d)| (text.characters as u64, d)))
 }
 
 fn main(rt: HostRuntime) -> io::Result<()> {

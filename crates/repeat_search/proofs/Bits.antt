@@ -1,10 +1,8 @@
--- The laws of bits: what a word has, it has with more bits.
-use Prim.Native.Nat.{ℕ, ◌/◌, ◌%◌, ◌≤◌, min, max}
-use mathlib.Core.Path.{◌≡◌, ◌∙◌}
-use native.Mathlib.Omega.{arith}
-use native.Mathlib.Nat.{min-le_left, min-le_right, le-max_left, le-min, max-le, le_antisymm}
-use lib.Bits.{bit_and, bit_or, and_step, or_step, and_zero_r, and_self, or_comm}
+-- The law of bits: what a word has, it has with more bits.
+use Rattle.std.proofs.Common.{ℕ, ◌/◌, ◌%◌, ◌≤◌, min, max, ◌≡◌, ◌∙◌, arith, le_antisymm, bit_and, bit_or}
+use native.Mathlib.Nat.{min-le_left, min-le_right, le-max_left, le-min, max-le}
 use lib.Arith.{bin_ind}
+use lib.Bits.{and_step, or_step, and_zero_r}
 
 digit-stays : (b v m : ℕ) → b ≤ 1 → v ≤ 1 → m ≤ 1 → min b m ≡ m → min (max b v) m ≡ m
 digit-stays b v m h i j e = le_antisymm (min-le_right _ _) (le-min (omega (arith, min-le_left b m, le-max_left b v)) (omega arith))
@@ -27,6 +25,3 @@ bits-stay w = bin_ind (λ (n : ℕ). (v m : ℕ) → bit_and n m ≡ m → bit_a
         let x : bit_or n v / 2 ≡ bit_or (n / 2) (v / 2) = omega arith in
         let y : bit_or n v % 2 ≡ max (n % 2) (v % 2) = omega arith in
         and_step (bit_or n v) m ∙ rw (x, y, ih (v / 2) (m / 2) h, digit-stays (n % 2) (v % 2) (m % 2) (omega arith) (omega arith) (omega arith) l) (omega arith)
-
-pub bits-set : (w m : ℕ) → bit_and (bit_or w m) m ≡ m
-bits-set w m = rw (or_comm w m) (bits-stay m w m (and_self m))

@@ -1,14 +1,7 @@
 -- The laws of the hash: what the words and bytes that are read come to.
-use Prim.Native.Nat.{ℕ, suc, zero, ◌+◌, ◌-◌, ◌*◌, ◌/◌, ◌%◌, ◌^◌, ◌≤◌, ◌<◌}
-use mathlib.Core.Path.{◌≡◌, refl, ap, sym, ◌∙◌}
-use mathlib.Core.List.{List, [], ◌∷◌}
-use mathlib.Core.Bool.{Bool, false}
-use native.Mathlib.Omega.{arith}
-use native.Mathlib.Nat.{mul-le-mul}
-use lib.ListN.{length, get_or, take, drop}
-use lib.Seq.{take-nil, take-take, drop-drop, get_or-take, get_or-drop}
-use lib.Bits.{bit_xor, xor_zero_l}
-use borrow.Author.Tests.{lt-ltb, le-ltb, eq-eqb, ne_eqb}
+use Rattle.std.proofs.Common.{ℕ, suc, zero, ◌+◌, ◌-◌, ◌*◌, ◌/◌, ◌^◌, ◌≤◌, ◌<◌, ◌≡◌, refl, ap, sym, ◌∙◌, List, [], ◌∷◌, Bool, false, arith, mul-le-mul, length, get_or, take, drop, take-take, drop-drop, get_or-take, get_or-drop, bit_xor, lt-ltb, le-ltb, eq-eqb, ne_eqb}
+use lib.Seq.{take-nil}
+use lib.Bits.{xor_zero_l}
 use Rattle.format.specs.Trace.{pick}
 use Rattle.format.specs.Reading.{little, part}
 use Rattle.format.proofs.TraceTheorems.{part_length}
@@ -18,14 +11,14 @@ use Rattle.in_place.specs.declared.Table.{Table}
 use Rattle.in_place.specs.declared.Table.TheVariants.{Fields, Methods, Identities, Alike}
 use Rattle.in_place.specs.Items.{text_at}
 use Rattle.in_place.specs.Tables.{format_in, key_text, package_text}
-use Rattle.in_place.specs.Contract.{TextAt, WordIs, PackageIs, Placed}
+use Rattle.in_place.specs.Contract.{TextAt, WordIs, Placed}
 use Rattle.in_place.proofs.Texts.{text-room, text-part}
 use Rattle.in_place.proofs.Keys.{key-name, key-package}
 use Rattle.repeat_search.specs.Hashes.{mixed, folded, second_seed, word_in, short_hash, lanes_hash, bytes_hash, text_hash, stream_hash, ended, plain_hash, streamed_hash, PartAt, JoinIs, HashIs, TakenIn, Streams}
-use Rattle.repeat_search.specs.declared.Taken.{Taken}
-use Rattle.folding.specs.Bytes.{fold_bytes}
+use Rattle.folding.specs.Bytes.{head_fold, fold_bytes}
+use Rattle.folding.specs.declared.Letter.{Letter}
 use Rattle.folding.specs.FoldLaws.{fold-nil}
-use Rattle.folding.specs.Contract.{span, FoldAt}
+use Rattle.folding.specs.Contract.{span, LetterAt}
 use Rattle.folding.proofs.Folded.{plain-first, folded-stays, letter-room, folded-letter}
 use Rattle.repeat_search.specs.Tables.{key_hash, TextHash, EndedHash, FoldedHash, PackageHash, KeyHash}
 
@@ -39,19 +32,6 @@ halves-fit x a h k = go _ (product-fits x a h k)
   where
     go : (m : ℕ) → m ≤ 18446744065119617025 → m < 2 ^ 64
     go m a = omega arith
-
-module _ (a x : ℕ) (k : a < 4294967296) where
-  low_fits : x % 4294967296 * a ≤ 18446744065119617025
-  low_fits = product-fits (x % 4294967296) a (omega arith) k
-
-  pub product_small : x % 4294967296 * a < 2 ^ 64
-  product_small = halves-fit (x % 4294967296) a (omega arith) k
-
-  pub mixed-small : x < 2 ^ 64 → x % 4294967296 * a + x / 4294967296 < 2 ^ 64
-  mixed-small f = go _ _ low_fits (omega arith)
-    where
-      go : (m q : ℕ) → m ≤ 18446744065119617025 → q < 4294967296 → m + q < 2 ^ 64
-      go m q a b = omega arith
 
 -- ---- the bytes and words of a part
 
@@ -70,7 +50,7 @@ unfolding word_in
 word-in s p k j q h e = ap little (ap (take 4) (drop-part j k (drop p s)) ∙ take-take 4 (k - j) (drop j (drop p s)) (omega arith) ∙ ap (take 4) (drop-drop j p s ∙ ap (λ m. drop m s) e))
 
 -- ---- fewer than eight bytes
-module _ {seed : ℕ} {s : List ℕ} {start n : ℕ} (f : PartAt seed s start n) where
+module _ (seed : ℕ) {s : List ℕ} {start n : ℕ} (f : PartAt s start n) where
   short-bytes : (h : ℕ) → n < 8 → bytes_hash seed h (part s start n) ≡ short_hash seed h (part s start n)
   unfolding bytes_hash pick
   short-bytes h d = rw (part_length s start n f.room, lt-ltb n 8 d)
@@ -122,19 +102,16 @@ pub joined : {seed b g e : ℕ} {s : List ℕ} {p end v₁ w₁ v₂ w₂ x y : 
     → JoinIs seed g e s p end (bit_xor x y)
 joined i₁ j₁ i₂ j₂ k x y = record { is = rw (x, y, k, i₁.is, j₁.is, i₂.is, j₂.is) }
 
-pub lanes-joined : {seed h : ℕ} {s : List ℕ} {start n q : ℕ} → PartAt seed s start n → 8 ≤ n → n ≤ 16
+pub lanes-joined : {seed h : ℕ} {s : List ℕ} {start n q : ℕ} → PartAt s start n → 8 ≤ n → n ≤ 16
     → JoinIs seed h h s start (start + n) q → HashIs seed h (part s start n) q
 lanes-joined {seed} {h} {s} {start} {n} f d l i = let z : (n - 1) / 16 ≡ 0 = omega arith in record { is = sym (lanes_bytes seed h s start n f.room d ∙ rw z (lanes-last start n 0 f.room d (omega arith) i)) }
 
--- the loop of `hash_long`: of n bytes at start, k from p on are left
-pub record Blocks (seed b h : ℕ) (s : List ℕ) (start n g e p k : ℕ) : Type 0 where
+-- the loop of `hash_long`: i blocks were taken in
+pub record Blocks (seed b h : ℕ) (s : List ℕ) (start n g e i : ℕ) : Type 0 where
   pub second : b ≡ second_seed seed
   pub room : start + n ≤ length s
   pub long : 16 < n
-  pub some : 0 < k
-  pub from : start ≤ p
-  pub fit : p + k ≡ start + n
-  pub leads : bytes_hash seed h (part s start n) ≡ lanes_hash seed g e (part s start n) (p - start) ((k - 1) / 16)
+  pub leads : bytes_hash seed h (part s start n) ≡ lanes_hash seed g e (part s start n) (16 * i) ((n - 1) / 16 - i)
 
 block : (seed g e : ℕ) (x : List ℕ) (j m : ℕ)
     → lanes_hash seed g e x j (suc m) ≡ lanes_hash seed (folded seed g (word_in x j) (word_in x (j + 4))) (folded (second_seed seed) e (word_in x (j + 8)) (word_in x (j + 12))) x (j + 16) m
@@ -142,43 +119,32 @@ unfolding lanes_hash
 block seed g e x j m = refl
 
 module _ {seed b h : ℕ} {s : List ℕ} {start n : ℕ} where
-  pub blocks_start : PartAt seed s start n → b ≡ second_seed seed → 16 < n → Blocks seed b h s start n h h start n
-  blocks_start f k l = let z : start - start ≡ 0 = omega arith in record { second = k; room = f.room; long = l; some = omega arith; from = omega arith; fit = omega arith; leads = lanes_bytes seed h s start n f.room (omega arith) ∙ rw z }
+  pub blocks_start : PartAt s start n → b ≡ second_seed seed → 16 < n → Blocks seed b h s start n h h 0
+  blocks_start f k l = let z : (n - 1) / 16 - 0 ≡ (n - 1) / 16 = omega arith in record { second = k; room = f.room; long = l; leads = lanes_bytes seed h s start n f.room (omega arith) ∙ rw z }
 
-  module _ {g e p k : ℕ} (l : Blocks seed b h s start n g e p k) where
-    pub blocks-second : b < 4294967296
-    blocks-second = omega (arith, l.second)
-
-    pub blocks-room : p + k ≤ length s
-    blocks-room = omega (arith, l.fit, l.room)
-
-    pub blocks_more : {v₁ w₁ v₂ w₂ g' e' : ℕ} → 16 < k → WordIs s p v₁ → WordIs s (p + 4) w₁ → WordIs s (p + 8) v₂
-        → WordIs s (p + 12) w₂
-        → g' ≡ folded seed g v₁ w₁ → e' ≡ folded b e v₂ w₂ → Blocks seed b h s start n g' e' (p + 16) (k - 16)
+  module _ {g e i : ℕ} (l : Blocks seed b h s start n g e i) where
+    pub blocks_more : {v₁ w₁ v₂ w₂ g' e' : ℕ} → i < (n - 1) / 16 → WordIs s (start + 16 * i) v₁ → WordIs s (start + 16 * i + 4) w₁
+        → WordIs s (start + 16 * i + 8) v₂ → WordIs s (start + 16 * i + 12) w₂
+        → g' ≡ folded seed g v₁ w₁ → e' ≡ folded b e v₂ w₂ → Blocks seed b h s start n g' e' (i + 1)
     blocks_more d i₁ j₁ i₂ j₂ x y =
-        let i : (k - 1) / 16 ≡ suc ((k - 16 - 1) / 16) = omega arith in
-        let j : p - start + 16 ≡ p + 16 - start = omega (arith, l.from) in
-        let f = l.fit in
-        let o = l.from in
+        let k : (n - 1) / 16 - i ≡ suc ((n - 1) / 16 - (i + 1)) = omega arith in
+        let j : 16 * i + 16 ≡ 16 * (i + 1) = omega arith in
         record {
           second = l.second;
           room = l.room;
           long = l.long;
-          some = omega arith;
-          from = omega arith;
-          fit = omega arith;
           leads =
               l.leads
-              ∙ ap (lanes_hash seed g e (part s start n) (p - start)) i
-              ∙ block seed g e (part s start n) (p - start) ((k - 16 - 1) / 16)
-              ∙ rw (word-in s start n (p - start) p (omega arith) (omega arith), word-in s start n (p - start + 4) (p + 4) (omega arith) (omega arith), word-in s start n (p - start + 8) (p + 8) (omega arith) (omega arith), word-in s start n (p - start + 12) (p + 12) (omega arith) (omega arith), j, x, y, i₁.is, j₁.is, i₂.is, j₂.is, l.second);
+              ∙ ap (lanes_hash seed g e (part s start n) (16 * i)) k
+              ∙ block seed g e (part s start n) (16 * i) ((n - 1) / 16 - (i + 1))
+              ∙ rw (word-in s start n (16 * i) (start + 16 * i) (omega arith) (omega arith), word-in s start n (16 * i + 4) (start + 16 * i + 4) (omega arith) (omega arith), word-in s start n (16 * i + 8) (start + 16 * i + 8) (omega arith) (omega arith), word-in s start n (16 * i + 12) (start + 16 * i + 12) (omega arith) (omega arith), j, x, y, i₁.is, j₁.is, i₂.is, j₂.is, l.second);
         }
 
-    pub blocks_end : {q : ℕ} → k ≤ 16 → JoinIs seed g e s (p + k - 16) (p + k) q → HashIs seed h (part s start n) q
-    blocks_end d i =
-        let z : (k - 1) / 16 ≡ 0 = omega (arith, l.some) in
-        let f = l.fit in
-        record { is = sym (l.leads ∙ rw z (lanes-last start n (p - start) l.room (omega (arith, l.long)) (omega (arith, l.long)) (rw f at i))) }
+    pub blocks_end : {q : ℕ} → (n - 1) / 16 ≤ i → JoinIs seed g e s (start + n - 16) (start + n) q
+        → HashIs seed h (part s start n) q
+    blocks_end d k =
+        let z : (n - 1) / 16 - i ≡ 0 = omega arith in
+        record { is = sym (l.leads ∙ rw z (lanes-last start n (16 * i) l.room (omega (arith, l.long)) (omega (arith, l.long)) k)) }
 
 -- ---- the hash of a text, and of a key
 
@@ -192,36 +158,32 @@ empty-hash : (seed : ℕ) → text_hash seed 0 [] ≡ 0
 unfolding text_hash bytes_hash short_hash pick
 empty-hash seed = rw (xor_zero_l 0) (omega arith)
 
-pub ended-hash : {seed h g x q : ℕ} {s : List ℕ} {p : ℕ} → TextHash seed h s p g → x ≡ mixed seed g 0 → q ≡ mixed seed x 0
-    → EndedHash seed h s p q
-ended-hash j k l = record { is = l ∙ rw (k, j.is) }
-
-pub package-hash : {seed x q : ℕ} {s : List ℕ} {p : ℕ} → PackageIs s p x → TextHash seed 0 s x q → PackageHash seed s p q
-package-hash w i = record { is = i.is ∙ rw w.is }
-
 no-package : {seed q : ℕ} {s : List ℕ} {p : ℕ} → EndedHash seed 0 s p q → q ≡ plain_hash seed (text_at s p) []
 unfolding plain_hash
 no-package {seed} h = h.is ∙ sym (rw (empty-hash seed))
 
 -- the answers of `hash_key`
-module _ {t : Table} {seed : ℕ} {s : List ℕ} {p q : ℕ} (w : Placed (format_in t) s p) where
+module _ {seed : ℕ} {s : List ℕ} {p q : ℕ} where
   -- by the bytes of the key
-  hash-by-bytes : q ≡ key_hash t seed (key_text t s p) (package_text t s p) → KeyHash seed t s p q
-  hash-by-bytes h = record { is = h ∙ sym (rw (key-name t w.stands, key-package t w.stands)) }
+  hash-by-bytes : {t : Table} → Placed (format_in t) s p → q ≡ key_hash t seed (key_text t s p) (package_text t s p)
+      → KeyHash seed t s p q
+  hash-by-bytes {t} w h = record { is = h ∙ sym (rw (key-name t w.stands, key-package t w.stands)) }
 
-  pub hash-field : t ≡ Fields → EndedHash seed 0 s p q → KeyHash seed t s p q
-  hash-field e h = hash-by-bytes (rw e (no-package h))
+  pub hash-plain : (t : Table) → Placed (format_in t) s p → (t ≡ Identities → ⊥) → ((i : Item) → t ≡ Alike i → ⊥)
+      → EndedHash seed 0 s p q → KeyHash seed t s p q
+  hash-plain Fields w n a h = hash-by-bytes {t = Fields} w (no-package h)
+  hash-plain (Methods i) w n a h = hash-by-bytes {t = Methods i} w (no-package h)
+  hash-plain Identities w n a h = absurd (n refl)
+  hash-plain (Alike i) w n a h = absurd (a i refl)
 
-  pub hash-method : {m : Item} → t ≡ Methods m → EndedHash seed 0 s p q → KeyHash seed t s p q
-  hash-method e h = hash-by-bytes (rw e (no-package h))
+  module _ {t : Table} (w : Placed (format_in t) s p) where
+    pub hash-identity : {g : ℕ} → t ≡ Identities → PackageHash seed s p g → EndedHash seed g s p q → KeyHash seed t s p q
+    unfolding plain_hash
+    hash-identity e k h = hash-by-bytes w (rw e (h.is ∙ rw k.is))
 
-  pub hash-identity : {g : ℕ} → t ≡ Identities → PackageHash seed s p g → EndedHash seed g s p q → KeyHash seed t s p q
-  unfolding plain_hash
-  hash-identity e k h = hash-by-bytes (rw e (h.is ∙ rw k.is))
-
-  pub hash-alike : {m : Item} → t ≡ Alike m → FoldedHash seed s p q → KeyHash seed t s p q
-  unfolding streamed_hash
-  hash-alike e h = hash-by-bytes (rw e h.is)
+    pub hash-alike : {m : Item} → t ≡ Alike m → FoldedHash seed s p q → KeyHash seed t s p q
+    unfolding streamed_hash
+    hash-alike e h = hash-by-bytes w (rw e h.is)
 
 -- ---- bytes that come one by one
 
@@ -229,7 +191,7 @@ stream-cons : (seed h b : ℕ) (bs : List ℕ) → stream_hash seed h (b ∷ bs)
 unfolding stream_hash
 stream-cons seed h b bs = refl
 
-module _ {seed : ℕ} {s : List ℕ} {at end h : ℕ} (l : Streams seed s at end) where
+module _ {seed : ℕ} {s : List ℕ} {at end h : ℕ} (l : Streams s at end) where
   -- a byte that stays
   one-taken : {b x : ℕ} → fold_bytes (span s at end) ≡ get_or s at 0 ∷ fold_bytes (span s (at + 1) end) → b ≡ get_or s at 0
       → x ≡ mixed seed h b → TakenIn seed s at end h (record { hash = x; at = at + 1 })
@@ -244,55 +206,35 @@ module _ {seed : ℕ} {s : List ℕ} {at end h : ℕ} (l : Streams seed s at end
       → TakenIn seed s at end h (record { hash = x; at = at + 1 })
   taken-plain i j = one-taken (plain-first s at end l.some l.room (sym i ∙ j))
 
-  module _ {f : ℕ} (e : FoldAt s at end f) where
-    pub taken-stays : {b x : ℕ} → f ≡ 0 → b ≡ get_or s at 0 → x ≡ mixed seed h b
-        → TakenIn seed s at end h (record { hash = x; at = at + 1 })
-    taken-stays z = one-taken (folded-stays s at end l.some l.room e z)
+  pub taken-stays : {b x : ℕ} → head_fold (span s at end) ≡ 0 → b ≡ get_or s at 0 → x ≡ mixed seed h b
+      → TakenIn seed s at end h (record { hash = x; at = at + 1 })
+  taken-stays z = one-taken (folded-stays s at end l.some l.room z)
 
-    pub taken-letter : {x y z : ℕ} → (f ≡ 0 → ⊥) → x ≡ mixed seed h (f / 256) → y ≡ mixed seed x 204 → z ≡ mixed seed y (f % 256)
-        → TakenIn seed s at end h (record { hash = z; at = at + 2 })
-    taken-letter n i j k =
-        record {
-          is = ap (stream_hash seed h) (folded-letter s at end l.some l.room e n)
-              ∙ stream-cons seed h (f / 256) _
-              ∙ stream-cons seed (mixed seed h (f / 256)) 204 _
-              ∙ stream-cons seed (mixed seed (mixed seed h (f / 256)) 204) (f % 256) _
-              ∙ rw (k, j, i);
-          on = omega arith;
-          within = omega (arith, letter-room s at end l.some l.room e n);
-        }
-
-pub taken-room : {seed : ℕ} {s : List ℕ} {at end f : ℕ} → Streams seed s at end → FoldAt s at end f → (f ≡ 0 → ⊥)
-    → at + 2 ≤ length s
-taken-room {s = s} {at} {end} l e z = omega (arith, letter-room s at end l.some l.room e z, l.room)
+  pub taken-letter : {f : Letter} {x y z : ℕ} → LetterAt s at end f → x ≡ mixed seed h f.base → y ≡ mixed seed x 204
+      → z ≡ mixed seed y f.mark → TakenIn seed s at end h (record { hash = z; at = at + 2 })
+  taken-letter {f} e i j k =
+      record {
+        is = ap (stream_hash seed h) (folded-letter s at end l.some l.room e)
+            ∙ stream-cons seed h f.base _
+            ∙ stream-cons seed (mixed seed h f.base) 204 _
+            ∙ stream-cons seed (mixed seed (mixed seed h f.base) 204) f.mark _
+            ∙ rw (k, j, i);
+        on = omega arith;
+        within = omega (arith, letter-room s at end l.some l.room e);
+      }
 
 -- the loop of `hash_folded`
 pub record Streaming (seed : ℕ) (s : List ℕ) (p end at h : ℕ) : Type 0 where
-  pub small : seed < 4294967296
   pub room : end ≤ length s
   pub within : at ≤ end
   pub leads : stream_hash seed seed (fold_bytes (text_at s p)) ≡ stream_hash seed h (fold_bytes (span s at end))
 
 module _ {seed : ℕ} {s : List ℕ} {p end : ℕ} where
-  pub streaming-start : {n : ℕ} → TextAt s p → WordIs s p n → seed < 4294967296 → end ≡ p + 4 + n
-      → Streaming seed s p end (p + 4) seed
-  streaming-start {n} t e z i =
-      let j : end - (p + 4) ≡ n = omega arith in
-      record { small = z; room = omega (arith, text-room t e); within = omega arith; leads = rw (text-part t e, j) }
-
   module _ {at h : ℕ} (l : Streaming seed s p end at h) where
-    pub streaming-some : at < end → Streams seed s at end
-    streaming-some z = record { some = z; room = l.room; small = l.small }
-
-    pub streaming-more : {q : Taken} → TakenIn seed s at end h q → Streaming seed s p end q.at q.hash
-    streaming-more x = record { small = l.small; room = l.room; within = x.within; leads = l.leads ∙ x.is }
-
-    pub streaming-done : {c q : ℕ} → end ≤ at → c ≡ mixed seed h 0 → q ≡ mixed seed c 0 → FoldedHash seed s p q
+    pub streaming-done : {q : ℕ} → end ≤ at → q ≡ ended seed h → FoldedHash seed s p q
     unfolding streamed_hash stream_hash
-    streaming-done z x y =
+    streaming-done z y =
         let e : end - at ≡ 0 = omega arith in
-        record { is = y ∙ rw x (sym (ap (ended seed) (l.leads ∙ ap (stream_hash seed h) (ap fold_bytes (ap (λ n. part s at n) e) ∙ fold-nil)))) }
+        record { is = y ∙ (sym (ap (ended seed) (l.leads ∙ ap (stream_hash seed h) (ap fold_bytes (ap (λ n. part s at n) e) ∙ fold-nil)))) }
 
-pub ruleset hashing = (short_none, short-three, short-words, lanes-joined, blocks_start, blocks-second, blocks-room, blocks_more, blocks_end, text-hash, ended-hash, package-hash, hash-field, hash-method, hash-identity, hash-alike)
-
-pub ruleset streams = (taken-plain, taken-stays, taken-letter, taken-room, streaming-start, streaming-some, streaming-more, streaming-done)
+pub ruleset hashing = (short_none, short-three, short-words, lanes-joined, text-hash)

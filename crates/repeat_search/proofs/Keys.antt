@@ -1,8 +1,5 @@
 -- The laws of repeats in a row of keys.
-use Prim.Native.Nat.{ℕ, suc, zero, ◌<◌}
-use mathlib.Core.Path.{◌≡◌, refl}
-use mathlib.Core.Bool.{Bool, true, false}
-use native.Mathlib.Omega.{arith}
+use Rattle.std.proofs.Common.{ℕ, suc, zero, ◌<◌, ◌≡◌, refl, Bool, true, false, arith}
 use Rattle.format.specs.Trace.{pick}
 use Rattle.format.specs.Reading.{same}
 use Rattle.format.proofs.LayoutTheorems.{same-eq}

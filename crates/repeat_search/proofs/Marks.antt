@@ -1,12 +1,6 @@
 -- The laws of marks, and the loop that compares the items whose mark is not new.
-use Prim.Native.Nat.{ℕ, suc, zero, ◌+◌, ◌-◌, ◌*◌, ◌≤◌, ◌<◌}
-use mathlib.Core.Path.{◌≡◌, refl, ap, sym, ◌∙◌}
-use mathlib.Core.List.{List, [], ◌∷◌}
-use mathlib.Core.Bool.{Bool, true, false}
-use native.Mathlib.Omega.{arith}
-use lib.ListN.{length, get_or}
-use lib.Bits.{bit_and, bit_or}
-use borrow.Author.Count.{below_more}
+use Rattle.std.proofs.Common.{ℕ, suc, zero, ◌+◌, ◌-◌, ◌*◌, ◌≤◌, ◌<◌, ◌≡◌, refl, ap, sym, ◌∙◌, List, [], ◌∷◌, Bool, false, arith, length, get_or, bit_and, bit_or, below_more}
+use Rattle.std.proofs.lemmas.Nat.{and_or_self}
 use Rattle.format.specs.Reading.{little, part}
 use Rattle.in_place.specs.declared.Item.{Item}
 use Rattle.in_place.specs.declared.Table.{Table}
@@ -15,10 +9,10 @@ use Rattle.in_place.specs.Tables.{format_in}
 use Rattle.in_place.specs.Contract.{TextAt, WordIs, Past, Items}
 use Rattle.in_place.proofs.Texts.{piece, text-part, text-length}
 use Rattle.in_place.proofs.Walking.{Walking, walking_start, walking-next}
-use Rattle.repeat_search.specs.Keys.{Key, repeat_at, FirstRepeat}
-use Rattle.repeat_search.specs.Tables.{as_read, keys_at, mark_in, TextMark, MarkIs, FoldedHash, Standing}
-use Rattle.repeat_search.specs.Marks.{bit, mark_of, streamed_mark, Marked, AllNew}
-use Rattle.repeat_search.proofs.Bits.{bits-stay, bits-set}
+use Rattle.repeat_search.specs.Keys.{repeat_at}
+use Rattle.repeat_search.specs.Tables.{keys_at, mark_in, TextMark, MarkIs, FoldedHash, Standing}
+use Rattle.repeat_search.specs.Marks.{bit, mark_of, streamed_mark, Marked}
+use Rattle.repeat_search.proofs.Bits.{bits-stay}
 use Rattle.repeat_search.proofs.Keys.{repeat-none}
 use Rattle.repeat_search.proofs.Tables.{walking-stands, standing-text, standing-name}
 use Rattle.repeat_search.proofs.Hashes.{byte-in}
@@ -47,28 +41,16 @@ unfolding mark_of
 text-mark {s} {p} {n} h e i j = record { is = j ∙ rw (i, text-length h e, text-part h e, last_byte n h e) }
 
 -- the answers of `mark`
-module _ {t : Table} {s : List ℕ} {p q : ℕ} where
-  pub mark-field : t ≡ Fields → TextMark s p q → MarkIs t s p q
-  mark-field e w = rw e (record { is = w.is })
+pub mark-read : (t : Table) {s : List ℕ} {p q : ℕ} → ((i : Item) → t ≡ Alike i → ⊥) → TextMark s p q → MarkIs t s p q
+mark-read Fields n w = record { is = w.is }
+mark-read (Methods i) n w = record { is = w.is }
+mark-read Identities n w = record { is = w.is }
+mark-read (Alike i) n w = absurd (n i refl)
 
-  pub mark-method : {i : Item} → t ≡ Methods i → TextMark s p q → MarkIs t s p q
-  mark-method e w = rw e (record { is = w.is })
-
-  pub mark-identity : t ≡ Identities → TextMark s p q → MarkIs t s p q
-  mark-identity e w = rw e (record { is = w.is })
-
-  pub mark-alike : {i : Item} {h : ℕ} → t ≡ Alike i → FoldedHash 2654435761 s p h → q ≡ bit h → MarkIs t s p q
-  unfolding streamed_mark
-  mark-alike e w i = rw e (record { is = i ∙ rw w.is })
-
-pub ruleset marking = (text-mark, mark-field, mark-method, mark-identity, mark-alike)
-
--- a table whose names are compared as they stand
-as-read : (t : Table) {s : List ℕ} {p q : ℕ} → as_read t ≡ true → TextMark s p q → MarkIs t s p q
-as-read Fields e w = mark-field refl w
-as-read (Methods i) e w = mark-method refl w
-as-read Identities e w = mark-identity refl w
-as-read (Alike i) e w = let z : ◌≡◌ {A = ℕ} 0 1 = cc in absurd (omega arith)
+pub mark-alike : {t : Table} {s : List ℕ} {p q h : ℕ} {i : Item} → t ≡ Alike i → FoldedHash 2654435761 s p h → q ≡ bit h
+    → MarkIs t s p q
+unfolding streamed_mark
+mark-alike e w i = rw e (record { is = i ∙ rw w.is })
 
 -- ---- the marks of the keys before
 module _ {t : Table} {s : List ℕ} {from i p m q : ℕ} (w : Standing t s from i p) (l : Marked (mark_in t) (keys_at t s from) i m) (e : MarkIs t s p q) where
@@ -79,7 +61,7 @@ module _ {t : Table} {s : List ℕ} {from i p m q : ℕ} (w : Standing t s from 
   mark-new h = sym (repeat-none (keys_at t s from) i (λ k d x y. h (let z : q ≡ mark_in t (keys_at t s from k).name = mark-at ∙ ap (mark_in t) x in rw z (l.has k d))))
 
   pub marked_more : Marked (mark_in t) (keys_at t s from) (i + 1) (bit_or m q)
-  marked_more = record { has = below_more _ i (λ k d. bits-stay m q (mark_in t (keys_at t s from k).name) (l.has k d)) (let z = mark-at in rw (← z) (bits-set m q)) }
+  marked_more = record { has = below_more _ i (λ k d. bits-stay m q (mark_in t (keys_at t s from k).name) (l.has k d)) (let z = mark-at in rw (← z) (and_or_self q m)) }
 
 -- ---- the loop of `scan`
 pub record Scanning (t : Table) (s : List ℕ) (from n p i m : ℕ) : Type 0 where
@@ -92,9 +74,6 @@ module _ {t : Table} {s : List ℕ} {from n : ℕ} where
   scanning-start h = record { walk = walking_start h; marked = record { has = λ k d. absurd (omega arith) }; new = λ k d. absurd (omega arith) }
 
   module _ {p i m : ℕ} (l : Scanning t s from n p i m) where
-    pub scanning-done : n ≤ i → FirstRepeat (keys_at t s from) n n
-    scanning-done h = record { within = omega arith; new = λ k d. l.new k (omega arith); found = λ d. absurd (omega arith) }
-
     module _ (h : i < n) where
       pub scanning-text : TextAt s p
       scanning-text = standing-text {t = t} (walking-stands h l.walk)
@@ -103,9 +82,6 @@ module _ {t : Table} {s : List ℕ} {from n : ℕ} where
       scanning-asks e = (walking-stands h l.walk, l.marked, e)
 
       module _ {b : Bool} (e : b ≡ repeat_at (keys_at t s from) i) where
-        pub scanning-found : b ≡ true → FirstRepeat (keys_at t s from) n i
-        scanning-found r = record { within = omega arith; new = l.new; found = λ d. sym e ∙ r }
-
         pub scanning-more : {q z : ℕ} → b ≡ false → MarkIs t s p q → Past (format_in t) s p z
             → Scanning t s from n z (i + 1) (bit_or m q)
         scanning-more r g w =
@@ -117,14 +93,6 @@ module _ {t : Table} {s : List ℕ} {from n : ℕ} where
       scanning-new e d w = scanning-more (mark-new (walking-stands h l.walk) l.marked e d) refl e w
 
       -- by the text's own mark
-      pub scanning-read : {q z : ℕ} {b : Bool} → b ≡ as_read t → b ≡ true → TextMark s p q → (bit_and m q ≡ q → ⊥)
+      pub scanning-read : {q z : ℕ} → ((x : Item) → t ≡ Alike x → ⊥) → TextMark s p q → (bit_and m q ≡ q → ⊥)
           → Past (format_in t) s p z → Scanning t s from n z (i + 1) (bit_or m q)
-      scanning-read r o e = scanning-new (as-read t (sym r ∙ o) e)
-
-    pub all_new : n ≤ i → AllNew (keys_at t s from) n true
-    all_new h = record { first = λ _. scanning-done h }
-
-pub not_new : {keys : ℕ → Key} {n : ℕ} → AllNew keys n false
-not_new = record { first = λ e. let z : ◌≡◌ {A = ℕ} 0 1 = cc in absurd (omega arith) }
-
-pub ruleset scanning = (scanning-start, scanning-done, scanning-text, scanning-asks, scanning-found, scanning-more, all_new, not_new)
+      scanning-read r e = scanning-new (mark-read t r e)

@@ -1,28 +1,20 @@
 -- The keys of a table's items: what the values say of them, and what the code tells of the item at a place.
-use Prim.Native.Nat.{ℕ, suc, zero, ◌-◌, ◌≤◌, ◌<◌}
-use mathlib.Core.Path.{◌≡◌, refl, ap, sym, ◌∙◌}
-use mathlib.Core.List.{List, map}
-use mathlib.Core.Bool.{Bool, true, false}
-use native.Mathlib.Omega.{arith}
-use lib.ListN.{length}
+use Rattle.std.proofs.Common.{ℕ, ◌+◌, suc, zero, ◌-◌, ◌≤◌, ◌<◌, ◌≡◌, refl, ap, sym, ◌∙◌, List, map, Bool, true, false, arith, length}
 use Rattle.format.specs.Trace.{pick}
 use Rattle.format.specs.Format.{Value, content, Format}
 use Rattle.format.specs.Reading.{same}
 use Rattle.format.proofs.TraceTheorems.{trace-within}
 use Rattle.vob24.specs.Questions.{among_identities}
-use Rattle.in_place.specs.declared.Item.{Item}
-use Rattle.in_place.specs.declared.Item.TheVariants.{Name, StructField, InterfaceMethod, RuntimeMethod, NamedMethod, RuntimeField}
 use Rattle.in_place.specs.declared.Table.{Table}
-use Rattle.in_place.specs.declared.Table.TheVariants.{Fields, Methods, Identities, Alike}
 use Rattle.in_place.specs.Walk.{AllStand, value_at, next_at, items_at, last_at}
 use Rattle.in_place.specs.Items.{name_of}
 use Rattle.in_place.specs.Tables.{item_of, format_in, package_of, key_name, key_of, key_text}
-use Rattle.in_place.specs.Contract.{TextAt, BlankIs, Placed, Past, Items, Seen}
+use Rattle.in_place.specs.Contract.{TextAt, Placed, Past, Items, Seen}
 use Rattle.in_place.proofs.Places.{item-name}
 use Rattle.in_place.proofs.Keys.{name-content, key-name}
 use Rattle.in_place.proofs.Walking.{Walking, walking-at, items-here, items-next}
 use Rattle.repeat_search.specs.Keys.{among, repeat_at}
-use Rattle.repeat_search.specs.Tables.{exempt, repeats, key_in, key_at, keys_at, ExemptIs, Standing, Within}
+use Rattle.repeat_search.specs.Tables.{exempt, repeats, key_in, key_at, keys_at, ExemptIs, Standing}
 use Rattle.repeat_search.proofs.Keys.{repeat-exempt, repeat-asked}
 
 -- ---- by values
@@ -49,40 +41,6 @@ pub walking-stands : {t : Table} {s : List ℕ} {from n p i : ℕ} → i < n →
     → Standing t s from i p
 walking-stands h l = record { after = walking-at h l; place = l.here }
 
--- the answers of `exempt`
-module _ {t : Table} {s : List ℕ} {p : ℕ} where
-  pub exempt-field : {q : Bool} → t ≡ Fields → BlankIs s p q → ExemptIs t s p q
-  exempt-field e h = rw e (record { is = h.is })
-
-  pub exempt-method : {i : Item} → t ≡ Methods i → ExemptIs t s p false
-  exempt-method e = rw e (record { is = refl })
-
-  pub exempt-identity : {q : Bool} → t ≡ Identities → BlankIs s p q → ExemptIs t s p q
-  exempt-identity e h = rw e (record { is = h.is })
-
-  pub exempt-alike : {i : Item} {q : Bool} → t ≡ Alike i → ExemptIs (Alike i) s p q → ExemptIs t s p q
-  exempt-alike e h = rw e h
-
--- the answers of `exempt_item`
-module _ {i : Item} {s : List ℕ} {p : ℕ} where
-  pub exempt-blank : {q : Bool} → i ≡ StructField → BlankIs s p q → ExemptIs (Alike i) s p q
-  exempt-blank e h = rw e (record { is = h.is })
-
-  pub exempt-name : i ≡ Name → ExemptIs (Alike i) s p false
-  exempt-name e = rw e (record { is = refl })
-
-  pub exempt-interface : i ≡ InterfaceMethod → ExemptIs (Alike i) s p false
-  exempt-interface e = rw e (record { is = refl })
-
-  pub exempt-runtime : i ≡ RuntimeMethod → ExemptIs (Alike i) s p false
-  exempt-runtime e = rw e (record { is = refl })
-
-  pub exempt-named : i ≡ NamedMethod → ExemptIs (Alike i) s p false
-  exempt-named e = rw e (record { is = refl })
-
-  pub exempt-runtime-field : i ≡ RuntimeField → ExemptIs (Alike i) s p false
-  exempt-runtime-field e = rw e (record { is = refl })
-
 module _ {t : Table} {s : List ℕ} {from i p : ℕ} (h : Standing t s from i p) where
   pub standing-text : TextAt s p
   standing-text = item-name (item_of t) h.after.here
@@ -107,8 +65,6 @@ module _ {t : Table} {s : List ℕ} {from i p : ℕ} (h : Standing t s from i p)
     pub standing-seen : {q : Bool} → b ≡ false → Seen t s from i p q → repeat_at (keys_at t s from) i ≡ q
     standing-seen e v = repeat-asked (keys_at t s from) i (exempt-is ∙ e) ∙ rw standing-key (keys-among t s (value_at (format_in t) s p) i from ∙ sym v.is)
 
-pub ruleset standing = (walking-stands, exempt-field, exempt-method, exempt-identity, exempt-alike, exempt-blank, exempt-name, exempt-interface, exempt-runtime, exempt-named, exempt-runtime-field)
-
 -- ---- fewer items
 stand-less : (f : Format) (s : List ℕ) (m n p : ℕ) → m ≤ n → AllStand f n s p → AllStand f m s p
 unfolding AllStand
@@ -119,26 +75,20 @@ stand-less f s (suc m) (suc n) p h a = (a.0, stand-less f s m n (next_at f s p) 
 pub items-less : {f : Format} {s : List ℕ} {m n p : ℕ} → m ≤ n → Items f n s p → Items f m s p
 items-less {f} {s} {m} {n} {p} h i = record { small = i.small; all = stand-less f s m n p h i.all }
 
--- ---- the loop of `past_items`
-pub record Leaving (t : Table) (s : List ℕ) (from p k : ℕ) : Type 0 where
-  pub items : Items (format_in t) k s p
+-- ---- the loop of `past_items`: i items were passed
+pub record Leaving (t : Table) (s : List ℕ) (from n p i : ℕ) : Type 0 where
+  pub items : Items (format_in t) (n - i) s p
   pub room : from < p → p ≤ length s
 
-module _ {t : Table} {s : List ℕ} {from : ℕ} where
-  pub leaving-start : {n : ℕ} → Items (format_in t) n s from → Leaving t s from from n
-  leaving-start h = record { items = h; room = λ h. absurd (omega arith) }
+module _ {t : Table} {s : List ℕ} {from n p i : ℕ} (l : Leaving t s from n p i) (h : i < n) where
+  pub leaving-here : Placed (format_in t) s p
+  leaving-here = items-here {k = n - i} (omega arith) l.items
 
-  module _ {p k : ℕ} (l : Leaving t s from p k) where
-    pub leaving-done : Within s from p
-    leaving-done = record { room = l.room }
-
-    module _ (h : 0 < k) where
-      pub leaving-here : Placed (format_in t) s p
-      leaving-here = items-here h l.items
-
-      pub leaving-more : {q : ℕ} → Past (format_in t) s p q → Leaving t s from q (k - 1)
-      leaving-more w =
-          let i = leaving-here in
-          record { items = items-next h l.items w; room = λ _. rw w.is ((trace-within (format_in t) s p i.stands.ends).1 (omega (arith, (item-name (item_of t) i).room))) }
-
-pub ruleset leaving = (leaving-start, leaving-done, leaving-here, leaving-more)
+  pub leaving-more : {q : ℕ} → Past (format_in t) s p q → Leaving t s from n q (i + 1)
+  leaving-more w =
+      let x = leaving-here in
+      let k : n - i - 1 ≡ n - (i + 1) = omega arith in
+      record {
+        items = rw k at (items-next {k = n - i} (omega arith) l.items w);
+        room = λ _. rw w.is ((trace-within (format_in t) s p x.stands.ends).1 (omega (arith, (item-name (item_of t) x).room)));
+      }

@@ -1,12 +1,7 @@
 -- The laws of a name's last bytes: what the code reads is what the definition says, and folding leaves it.
-use Prim.Native.Nat.{ℕ, suc, zero, ◌+◌, ◌-◌, ◌*◌, ◌/◌, ◌%◌, ◌≤◌, ◌<◌}
-use mathlib.Core.Path.{◌≡◌, refl, sym, ◌∙◌}
-use mathlib.Core.List.{List, [], ◌∷◌}
-use mathlib.Core.Bool.{Bool, true, false}
-use native.Mathlib.Omega.{arith}
-use lib.Dec.{eqb, ltb}
-use lib.ListN.{length, get_or}
-use borrow.Author.Tests.{lt-ltb, le-ltb, ltb-true, eqb-false}
+use Rattle.std.proofs.Common.{ℕ, ◌&&◌, suc, zero, ◌+◌, ◌-◌, ◌*◌, ◌/◌, ◌%◌, ◌≤◌, ◌<◌, ◌≡◌, refl, sym, ◌∙◌, List, [], ◌∷◌, Bool, true, false, arith, eqb, ltb, length, get_or, lt-ltb, le-ltb, ltb-true}
+use Rattle.std.proofs.lemmas.Bool.{eqb-false}
+use Rattle.std.specs.List.{list_all}
 use Rattle.format.specs.Trace.{pick}
 use Rattle.format.specs.Reading.{little, part}
 use Rattle.folding.specs.Bytes.{fold_of, fold_bytes}
@@ -17,8 +12,7 @@ use Rattle.in_place.specs.Items.{text_at}
 use Rattle.in_place.specs.Tables.{key_text}
 use Rattle.in_place.specs.Contract.{TextAt, WordIs}
 use Rattle.in_place.proofs.Texts.{piece, text-room, text-part, text-length}
-use Rattle.repeat_search.specs.Hashes.{mixed, tail_from, tail_of, tail_hash, lows}
-use Rattle.repeat_search.specs.Filters.{Lacks}
+use Rattle.repeat_search.specs.Hashes.{ended, tail_from, tail_of, tail_hash, lows}
 use Rattle.repeat_search.specs.Tables.{keys_at, TextTail, Standing}
 use Rattle.repeat_search.proofs.Tables.{standing-name}
 use Rattle.repeat_search.proofs.Marks.{word_bytes}
@@ -83,47 +77,22 @@ tail-end s (suc m) at k w r h =
     go true e f g = f e
     go false e f g = g
 
--- the answers of `ascii`
-module _ (s : List ℕ) (p : ℕ) (r : p + 4 ≤ length s) where
-  four_bytes : part s p 4 ≡ get_or s p 0 ∷ get_or s (p + 1) 0 ∷ get_or s (p + 2) 0 ∷ get_or s (p + 3) 0 ∷ []
-  four_bytes =
-      let i : p + 1 + 1 ≡ p + 2 = omega arith in
-      let j : p + 2 + 1 ≡ p + 3 = omega arith in
-      rw (i, j) at (word_bytes s p r)
-
-  pub ascii-first : 127 < get_or s p 0 → false ≡ lows (part s p 4)
-  unfolding lows pick
-  ascii-first a = rw (four_bytes, le-ltb (get_or s p 0) 128 (omega arith))
-
-  module _ (a : get_or s p 0 ≤ 127) where
-    pub ascii-second : 127 < get_or s (p + 1) 0 → false ≡ lows (part s p 4)
-    unfolding lows pick
-    ascii-second b = rw (four_bytes, lt-ltb (get_or s p 0) 128 (omega arith), le-ltb (get_or s (p + 1) 0) 128 (omega arith))
-
-    module _ (b : get_or s (p + 1) 0 ≤ 127) where
-      pub ascii-third : 127 < get_or s (p + 2) 0 → false ≡ lows (part s p 4)
-      unfolding lows pick
-      ascii-third c = rw (four_bytes, lt-ltb (get_or s p 0) 128 (omega arith), lt-ltb (get_or s (p + 1) 0) 128 (omega arith), le-ltb (get_or s (p + 2) 0) 128 (omega arith))
-
-      pub ascii-last : get_or s (p + 2) 0 ≤ 127 → ltb (get_or s (p + 3) 0) 128 ≡ lows (part s p 4)
-      unfolding lows pick
-      ascii-last c = rw (four_bytes, lt-ltb (get_or s p 0) 128 (omega arith), lt-ltb (get_or s (p + 1) 0) 128 (omega arith), lt-ltb (get_or s (p + 2) 0) 128 (omega arith)) (go (ltb (get_or s (p + 3) 0) 128))
-        where
-          go : (t : Bool) → t ≡ pick t true false
-          go true = refl
-          go false = refl
-
-pub ruleset asciis = (ascii-first, ascii-second, ascii-third, ascii-last)
+-- the answer of `ascii`
+pub lows-all : (x : List ℕ) → list_all (λ b. ltb b 128) x ≡ lows x
+unfolding lows pick
+lows-all [] = refl
+lows-all (b ∷ x) = go (ltb b 128) (lows-all x)
+  where
+    go : (t : Bool) {y z : Bool} → y ≡ z → (t && y) ≡ pick t z false
+    go true e = e
+    go false e = refl
 
 -- the answers of `tail`
 module _ {s : List ℕ} {p n : ℕ} (h : TextAt s p) (e : WordIs s p n) where
   pub tail-few : n < 4 → TextTail s p 0
-  tail-few l = record { is = sym (tail-short 0 0 (text_at s p) (omega (arith, text-length h e))); small = omega arith }
+  tail-few l = record { is = sym (tail-short 0 0 (text_at s p) (omega (arith, text-length h e))) }
 
   module _ (l : 4 ≤ n) where
-    pub tail-room : p + n + 4 ≤ length s
-    tail-room = omega (arith, text-room h e)
-
     last-four : tail_of (text_at s p) ≡ pick (lows (part s (p + n) 4)) (little (part s (p + n) 4)) 0
     last-four =
         let i : n - 4 + 4 ≡ n = omega arith in
@@ -133,28 +102,17 @@ module _ {s : List ℕ} {p n : ℕ} (h : TextAt s p) (e : WordIs s p n) where
     module _ {q : Bool} (w : q ≡ lows (part s (p + n) 4)) where
       pub tail-ascii : {v : ℕ} → q ≡ true → WordIs s (p + n) v → TextTail s p v
       unfolding pick
-      tail-ascii t x = record { is = x.is ∙ sym (last-four ∙ rw (sym w ∙ t)); small = x.below }
+      tail-ascii t x = record { is = x.is ∙ sym (last-four ∙ rw (sym w ∙ t)) }
 
       pub tail-other : q ≡ false → TextTail s p 0
       unfolding pick
-      tail-other t = record { is = sym (last-four ∙ rw (sym w ∙ t)); small = omega arith }
-
-pub ruleset tails = (tail-few, tail-room, tail-ascii, tail-other)
+      tail-other t = record { is = sym (last-four ∙ rw (sym w ∙ t)) }
 
 -- the answer of `hash_tail`
-pub tail-hashed : (seed : ℕ) {s : List ℕ} {p x y z : ℕ} → TextTail s p x → y ≡ mixed seed x 0 → z ≡ mixed seed y 0
+pub tail-hashed : (seed : ℕ) {s : List ℕ} {p x y z : ℕ} → TextTail s p x → y ≡ x → z ≡ ended seed y
     → z ≡ tail_hash seed (text_at s p)
 unfolding tail_hash
 tail-hashed seed w e f = f ∙ rw (e, w.is)
-
--- the answers of `skips`
-pub skips-none : {u : List ℕ} {h : ℕ} → Lacks u h false
-skips-none = record { lacks = λ e. let z : ◌≡◌ {A = ℕ} 0 1 = cc in absurd (omega arith) }
-
-pub skips-lacks : {u : List ℕ} {h t : ℕ} {q : Bool} → h ≡ t → Lacks u h q → Lacks u t q
-skips-lacks e w = rw e at w
-
-pub ruleset skipping = (skips-none, skips-lacks)
 
 -- ---- of folded bytes
 

@@ -1,10 +1,8 @@
 -- The filters that find repeats: a hash says its class, and which bits of which word it leaves behind.
-use Rattle.std.specs.Prelude.{ℕ, ◌+◌, ◌-◌, ◌*◌, ◌/◌, ◌%◌, ◌^◌, ◌≤◌, ◌<◌, ◌≡◌, List, Bool, true, false, length, get_or}
+use Rattle.std.specs.Prelude.{ℕ, ◌+◌, ◌-◌, ◌*◌, ◌/◌, ◌%◌, ◌^◌, ◌≤◌, ◌<◌, ◌≡◌, List, Bool, true, false, Result, IfOk, MatchBool, length, get_or}
 use Rattle.std.specs.Int.Bits.{bit_and, bit_or}
-use Rattle.repeat_search.specs.declared.Probe.{Probe}
-use Rattle.repeat_search.specs.declared.Probe.TheVariants.{Repeat, TooMany, Next}
-use Rattle.repeat_search.specs.declared.Outcome.{Outcome}
-use Rattle.repeat_search.specs.declared.Outcome.TheVariants.{First, GaveUp}
+use Rattle.repeat_search.specs.declared.Classes.{Classes}
+use Rattle.repeat_search.specs.declared.GaveUp.{GaveUp}
 use Rattle.repeat_search.specs.Keys.{Key, hash_of, kind_of, repeat_at, FirstRepeat}
 
 -- ---- a hash in a filter
@@ -35,31 +33,31 @@ pub record Entered (filter : List ℕ) (h : ℕ) (filter' : List ℕ) (q : Bool)
   pub size : length filter' ≡ length filter
   pub new : q ≡ true → Has filter h → ⊥
 
--- h is of a class from lo to hi
-pub record Classed (lo hi h : ℕ) : Type 0 where
-  pub low : lo ≤ class h
-  pub high : class h < hi
+-- h is of one of the classes
+pub record Classed (c : Classes) (h : ℕ) : Type 0 where
+  pub low : c.lo ≤ class h
+  pub high : class h < c.hi
 
-pub record Outside (lo hi h : ℕ) (q : Bool) : Type 0 where
-  pub out : q ≡ true → Classed lo hi h → ⊥
+pub record Outside (c : Classes) (h : ℕ) (q : Bool) : Type 0 where
+  pub out : q ≡ true → Classed c h → ⊥
 
 -- a key, by its name and its package, whose hash is
-abbrev pub ClassedBy : ℕ → ℕ → (List ℕ → List ℕ → ℕ) → List ℕ → List ℕ → Type 0
-ClassedBy lo hi hash x y = Classed lo hi (hash x y)
+abbrev pub ClassedBy : Classes → (List ℕ → List ℕ → ℕ) → List ℕ → List ℕ → Type 0
+ClassedBy c hash x y = Classed c (hash x y)
 
 -- and that is a suspect: its hash is among those of suspects, and so is that of its name's last bytes
-pub record Chosen (lo hi : ℕ) (hash : List ℕ → List ℕ → ℕ) (tail : List ℕ → ℕ) (suspects x y : List ℕ) : Type 0 where
-  pub classed : Classed lo hi (hash x y)
+pub record Chosen (c : Classes) (hash : List ℕ → List ℕ → ℕ) (tail : List ℕ → ℕ) (suspects x y : List ℕ) : Type 0 where
+  pub classed : Classed c (hash x y)
   pub suspect : Has suspects (hash x y)
   pub ending : Has suspects (tail x)
 
 -- A filter and the suspects after a hash h: the filter has it if it is of such a class, and the suspects have it, and the
 -- hash t of the last bytes, if the filter had it before.
-pub record Noted (lo hi h t : ℕ) (filter filter' suspects suspects' : List ℕ) : Type 0 where
-  pub has : Classed lo hi h → Has filter' h
+pub record Noted (c : Classes) (h t : ℕ) (filter filter' suspects suspects' : List ℕ) : Type 0 where
+  pub has : Classed c h → Has filter' h
   pub keeps : (k : ℕ) → Has filter k → Has filter' k
   pub size : length filter' ≡ length filter
-  pub suspect : Classed lo hi h → Has filter h → Has suspects' h × Has suspects' t
+  pub suspect : Classed c h → Has filter h → Has suspects' h × Has suspects' t
   pub stays : (k : ℕ) → Has suspects k → Has suspects' k
   pub width : length suspects' ≡ length suspects
 
@@ -70,12 +68,15 @@ pub record Filter (Kind : List ℕ → List ℕ → Type 0) (hash : List ℕ →
   pub size : 0 < length filter
   pub has : (k : ℕ) → k < i → kind_of Kind (keys k) → Has filter (hash_of hash (keys k))
 
--- what is told of key i
-pub data Probed (Kind : List ℕ → List ℕ → Type 0) (hash : List ℕ → List ℕ → ℕ) (keys : ℕ → Key) (i : ℕ) (filter : List ℕ) : Probe → Type 0 where
-  is_repeat : repeat_at keys i ≡ true → Probed Kind hash keys i filter Repeat
-  is_too_many : Probed Kind hash keys i filter TooMany
-  is_next : {left : ℕ} → Filter Kind hash keys (i + 1) filter → (kind_of Kind (keys i) → repeat_at keys i ≡ false)
-      → Probed Kind hash keys i filter (Next left)
+-- key i repeats none before it, if it is of the kind, and is in the filter with them
+pub record Cleared (Kind : List ℕ → List ℕ → Type 0) (hash : List ℕ → List ℕ → ℕ) (keys : ℕ → Key) (i : ℕ) (filter : List ℕ) : Type 0 where
+  pub filter_on : Filter Kind hash keys (i + 1) filter
+  pub new : kind_of Kind (keys i) → repeat_at keys i ≡ false
+
+-- whether it repeats one, unless too many were compared
+abbrev pub Probed : (List ℕ → List ℕ → Type 0) → (List ℕ → List ℕ → ℕ) → (ℕ → Key) → ℕ → List ℕ → Result Bool GaveUp → Type 0
+Probed Kind hash keys i filter q =
+    IfOk q (λ b. MatchBool b (repeat_at keys i ≡ true) (Cleared Kind hash keys i filter))
 
 -- the first repeat among n keys, of those of the kind
 pub record Passed (Kind : List ℕ → List ℕ → Type 0) (keys : ℕ → Key) (n q : ℕ) : Type 0 where
@@ -83,15 +84,13 @@ pub record Passed (Kind : List ℕ → List ℕ → Type 0) (keys : ℕ → Key)
   pub new : (k : ℕ) → k < q → kind_of Kind (keys k) → repeat_at keys k ≡ false
   pub found : q < n → repeat_at keys q ≡ true
 
-pub data PassedOr (Kind : List ℕ → List ℕ → Type 0) (keys : ℕ → Key) (n : ℕ) : Outcome → Type 0 where
-  passed : {q : ℕ} → Passed Kind keys n q → PassedOr Kind keys n (First q)
-  gave_up : PassedOr Kind keys n GaveUp
+abbrev pub PassedOr : (List ℕ → List ℕ → Type 0) → (ℕ → Key) → ℕ → Result ℕ GaveUp → Type 0
+PassedOr Kind keys n q = IfOk q (Passed Kind keys n)
 
 -- each of n keys of such a class that repeats one before it is a suspect
-pub record Suspects (lo hi : ℕ) (hash : List ℕ → List ℕ → ℕ) (tail : List ℕ → ℕ) (keys : ℕ → Key) (n : ℕ) (suspects : List ℕ) : Type 0 where
-  pub has : (k : ℕ) → k < n → Classed lo hi (hash_of hash (keys k)) → repeat_at keys k ≡ true
+pub record Suspects (c : Classes) (hash : List ℕ → List ℕ → ℕ) (tail : List ℕ → ℕ) (keys : ℕ → Key) (n : ℕ) (suspects : List ℕ) : Type 0 where
+  pub has : (k : ℕ) → k < n → Classed c (hash_of hash (keys k)) → repeat_at keys k ≡ true
       → Has suspects (hash_of hash (keys k)) × Has suspects (tail (keys k).name)
 
-pub data FirstOr (keys : ℕ → Key) (n : ℕ) : Outcome → Type 0 where
-  first : {q : ℕ} → FirstRepeat keys n q → FirstOr keys n (First q)
-  none : FirstOr keys n GaveUp
+abbrev pub FirstOr : (ℕ → Key) → ℕ → Result ℕ GaveUp → Type 0
+FirstOr keys n q = IfOk q (FirstRepeat keys n)

@@ -77,10 +77,9 @@ lows (b ∷ bs) = pick (ltb b 128) (lows bs) false
 
 -- ---- of bytes in a row: what the code asks and tells
 
--- n bytes at start, to be hashed under a seed
-pub record PartAt (seed : ℕ) (s : List ℕ) (start n : ℕ) : Type 0 where
+-- n bytes at start
+pub record PartAt (s : List ℕ) (start n : ℕ) : Type 0 where
   pub room : start + n ≤ length s
-  pub small : seed < 4294967296
 
 pub record JoinIs (seed lane1 lane2 : ℕ) (s : List ℕ) (p end q : ℕ) : Type 0 where
   pub is : q ≡ bit_xor (folded seed lane1 (little (part s p 4)) (little (part s (p + 4) 4))) (folded (second_seed seed) lane2 (little (part s (end - 8) 4)) (little (part s (end - 4) 4)))
@@ -95,7 +94,6 @@ pub record TakenIn (seed : ℕ) (s : List ℕ) (at end h : ℕ) (q : Taken) : Ty
   pub within : q.at ≤ end
 
 -- bytes from a place to an end that are to be hashed
-pub record Streams (seed : ℕ) (s : List ℕ) (at end : ℕ) : Type 0 where
+pub record Streams (s : List ℕ) (at end : ℕ) : Type 0 where
   pub some : at < end
   pub room : end ≤ length s
-  pub small : seed < 4294967296

@@ -1,5 +1,5 @@
 -- The keys of a table's items, where they stand in a pack.
-use Rattle.std.specs.Prelude.{ℕ, ◌≤◌, ◌<◌, List, [], ◌∷◌, map, Bool, true, false, ◌≡◌, length}
+use Rattle.std.specs.Prelude.{ℕ, ◌≤◌, ◌<◌, List, [], ◌∷◌, map, Bool, false, ◌≡◌, length}
 use Rattle.format.specs.Trace.{pick}
 use Rattle.format.specs.Format.{Value, content}
 use Rattle.format.specs.Reading.{same}
@@ -12,10 +12,13 @@ use Rattle.in_place.specs.declared.Table.TheVariants.{Fields, Methods, Identitie
 use Rattle.in_place.specs.Walk.{value_at, last_at}
 use Rattle.in_place.specs.Items.{name_of, text_at}
 use Rattle.in_place.specs.Tables.{item_of, format_in, package_of, key_name, key_of, key_text, package_text}
-use Rattle.in_place.specs.Contract.{After}
+use Rattle.in_place.specs.Contract.{Items, After}
+use Rattle.repeat_search.specs.declared.Classes.{Classes}
+use Rattle.repeat_search.specs.declared.Listing.{Listing}
 use Rattle.repeat_search.specs.Keys.{Key, hash_of}
+use Rattle.repeat_search.specs.Filters.{Chosen}
 use Rattle.repeat_search.specs.Marks.{mark_of, streamed_mark}
-use Rattle.repeat_search.specs.Hashes.{tail_of, text_hash, ended, plain_hash, streamed_hash}
+use Rattle.repeat_search.specs.Hashes.{tail_of, tail_hash, text_hash, ended, plain_hash, streamed_hash}
 
 -- among the struct fields of names alike
 abbrev exempt_item : Item → List ℕ → Bool
@@ -47,6 +50,10 @@ key_at t s p = key_in t (value_at (format_in t) s p)
 unfoldable pub keys_at : Table → List ℕ → ℕ → ℕ → Key
 keys_at t s from k = key_at t s (last_at (format_in t) k s from)
 
+-- of a listing's items
+abbrev pub keys_of : List ℕ → Listing → ℕ → Key
+keys_of s l = keys_at l.table s l.from
+
 -- the hash of a key, by its name and its package
 abbrev pub key_hash : Table → ℕ → List ℕ → List ℕ → ℕ
 key_hash Fields seed = plain_hash seed
@@ -60,13 +67,6 @@ mark_in Fields = mark_of
 mark_in (Methods i) = mark_of
 mark_in Identities = mark_of
 mark_in (Alike i) = streamed_mark
-
--- whether names are compared as they stand
-abbrev pub as_read : Table → Bool
-as_read Fields = true
-as_read (Methods i) = true
-as_read Identities = true
-as_read (Alike i) = false
 
 -- ---- what the code tells of the item at p
 
@@ -83,7 +83,6 @@ pub record MarkIs (t : Table) (s : List ℕ) (p q : ℕ) : Type 0 where
 -- its last bytes
 pub record TextTail (s : List ℕ) (p q : ℕ) : Type 0 where
   pub is : q ≡ tail_of (text_at s p)
-  pub small : q < 4294967296
 
 -- the hash of the text at p, as a key's after that of a package, and folded
 pub record TextHash (seed h : ℕ) (s : List ℕ) (p q : ℕ) : Type 0 where
@@ -103,6 +102,14 @@ pub record KeyHash (seed : ℕ) (t : Table) (s : List ℕ) (p q : ℕ) : Type 0 
   pub is : q ≡ hash_of (key_hash t seed) (key_at t s p)
 
 -- ---- its place among the items
+
+-- The items of a listing were read.
+abbrev pub Listed : List ℕ → Listing → Type 0
+Listed s l = Items (format_in l.table) l.n s l.from
+
+-- the keys that are suspects of these classes
+abbrev pub Sought : Classes → Listing → ℕ → List ℕ → List ℕ → List ℕ → Type 0
+Sought c l seed suspects = Chosen c (key_hash l.table seed) (tail_hash seed) suspects
 
 -- Item i, which stands at p.
 pub record Standing (t : Table) (s : List ℕ) (from i p : ℕ) : Type 0 where

@@ -10,10 +10,10 @@ ghost use Rattle.in_place.specs.Items.{format_of, text_at};
 ghost use Rattle.in_place.specs.Tables.{format_in};
 ghost use Rattle.repeat_search.specs.Keys.{repeat_at, FirstRepeat};
 ghost use Rattle.repeat_search.specs.Marks.{Marked, AllNew};
-ghost use Rattle.repeat_search.specs.Hashes.{mixed, folded, second_seed, tail_hash, lows, PartAt, JoinIs, HashIs, Streams, TakenIn};
-ghost use Rattle.repeat_search.specs.Filters.{mask_of, Lacks, Entered, Outside, ClassedBy, Chosen, Noted, Filter, Probed, PassedOr, Suspects, FirstOr};
-ghost use Rattle.repeat_search.specs.Tables.{as_read, keys_at, key_hash, mark_in, ExemptIs, TextMark, MarkIs, TextHash, TextTail, EndedHash, FoldedHash, PackageHash, KeyHash, Standing, Within};
-ghost use Rattle.in_place.specs.Contract.{TextAt, Placed, Items};
+ghost use Rattle.repeat_search.specs.Hashes.{mixed, folded, ended, second_seed, tail_hash, lows, PartAt, JoinIs, HashIs, Streams, TakenIn};
+ghost use Rattle.repeat_search.specs.Filters.{mask_of, Lacks, Entered, Outside, ClassedBy, Noted, Filter, Probed, PassedOr, Suspects, FirstOr};
+ghost use Rattle.repeat_search.specs.Tables.{keys_at, keys_of, key_hash, mark_in, Sought, ExemptIs, TextMark, MarkIs, TextHash, TextTail, EndedHash, FoldedHash, PackageHash, KeyHash, Standing, Listed, Within};
+ghost use Rattle.in_place.specs.Contract.{TextAt, WordIs, Placed, Items};
 
 use in_place::{Item, Table};
 
@@ -27,43 +27,39 @@ const MIDDLING: usize = 1024;
 const MANY: usize = 24576;
 
 // How many items are searched for suspects at once: twelve to a word of the filter.
-const CLASS: usize = 196608;
+const CLASS: u64 = 196608;
 
 // How many comparisons with all items before find no repeat, in one pass, before another seed is tried. Evenly spread
 // hashes make some two; each that names are made to cause costs a walk over the table.
 const IN_VAIN: usize = 12;
 
-// An item repeats one before it; too many comparisons found no repeat; or go on, with the comparisons that are left.
+// How many seeds are tried before all items are compared.
+const SEEDS: usize = 16;
+
+const FIRST_SEED: u32 = 2654435761;
+
+// Too many comparisons found no repeat.
 #[derive(Clone, Copy)]
-enum Probe {
-    Repeat,
-    TooMany,
-    Next(usize),
+struct GaveUp;
+
+// n items of a table, from a place on.
+#[derive(Clone, Copy)]
+struct Listing {
+    table: Table,
+    from: usize,
+    n: usize,
 }
 
-// The first repeat, or the number of items where there is none; or too many comparisons found no repeat.
+// The classes of hashes from `lo` to `hi`.
 #[derive(Clone, Copy)]
-enum Outcome {
-    First(usize),
-    GaveUp,
+struct Classes {
+    lo: u64,
+    hi: u64,
 }
+
+const ALL_CLASSES: Classes = Classes { lo: 0, hi: 65536 };
 
 // ---- whether an item repeats one before it
-
-// Among names that print alike, may the name at p be repeated?
-fn exempt_item(s: &[u8], item: Item, p: usize) -> bool
-    requires { TextAt s.now p }
-    ensures { ExemptIs (Table.Alike item) s.now p result }
-{
-    match item {
-        Item::Name => false,
-        Item::StructField => in_place::blank(s, p),
-        Item::InterfaceMethod => false,
-        Item::RuntimeMethod => false,
-        Item::NamedMethod => false,
-        Item::RuntimeField => false,
-    }
-}
 
 // May the name at p be repeated?
 fn exempt(s: &[u8], table: Table, p: usize) -> bool
@@ -71,17 +67,11 @@ fn exempt(s: &[u8], table: Table, p: usize) -> bool
     ensures { ExemptIs table s.now p result }
 {
     match table {
-        Table::Fields => in_place::blank(s, p),
-        Table::Methods(_) => false,
-        Table::Identities => in_place::blank(s, p),
-        Table::Alike(item) => exempt_item(s, item, p),
+        Table::Fields | Table::Identities | Table::Alike(Item::StructField) => {
+            in_place::blank(s, p)
+        }
+        Table::Methods(_) | Table::Alike(_) => false,
     }
-}
-
-fn wide(b: u8) -> u64
-    ensures { (result ≡ b) × (result < 256) }
-{
-    b as u64
 }
 
 // A bit for the text at p, by its length and its last byte. For an empty text the last byte is that of its length word.
@@ -90,7 +80,7 @@ fn mark_text(s: &[u8], p: usize) -> u64
     ensures { TextMark s.now p result }
 {
     let n = in_place::word_at(s, p);
-    1 << ((n as u64 + wide(s[p + 3 + n])) % 64)
+    1 << ((n as u64 + u64::from(s[p + 3 + n])) % 64)
 }
 
 // A bit for the name at p: where names are folded, by its hash.
@@ -99,39 +89,21 @@ fn mark(s: &[u8], table: Table, p: usize) -> u64
     ensures { MarkIs table s.now p result }
 {
     match table {
-        Table::Fields => mark_text(s, p),
-        Table::Methods(_) => mark_text(s, p),
-        Table::Identities => mark_text(s, p),
-        Table::Alike(_) => 1 << (hash_folded(s, p, 2654435761) % 64),
+        Table::Alike(_) => 1 << (hash_folded(s, p, FIRST_SEED) % 64),
+        _ => mark_text(s, p),
     }
 }
 
 // Does the item at p, which has the mark m, repeat one of the i before it? It repeats none if its mark is new.
-fn repeats_one(s: &[u8], table: Table, from: usize, i: usize, p: usize, marks: u64, m: u64) -> bool
-    requires { (Standing table s.now from i p) × (Marked (mark_in table) (keys_at table s.now from) i marks)
-        × (MarkIs table s.now p m) }
-    ensures { result ≡ repeat_at (keys_at table s.now from) i }
+fn repeats_one(s: &[u8], list: Listing, i: usize, p: usize, marks: u64, m: u64) -> bool
+    requires { (Standing list.table s.now list.from i p) × (Marked (mark_in list.table) (keys_of s.now list) i marks)
+        × (MarkIs list.table s.now p m) }
+    ensures { result ≡ repeat_at (keys_of s.now list) i }
 {
-    let x = marks & m;
-    if x != m {
+    if marks & m != m || exempt(s, list.table, p) {
         return false;
     }
-    if exempt(s, table, p) {
-        return false;
-    }
-    in_place::seen(s, table, from, i, p)
-}
-
-// Are the names of a table compared as they stand?
-fn as_read(table: Table) -> bool
-    ensures { result ≡ as_read table }
-{
-    match table {
-        Table::Fields => true,
-        Table::Methods(_) => true,
-        Table::Identities => true,
-        Table::Alike(_) => false,
-    }
+    in_place::seen(s, list.table, list.from, i, p)
 }
 
 // Have the names of the n items from `from` on different marks, as they stand? True for most small tables. Not asked
@@ -140,70 +112,77 @@ fn all_new(s: &[u8], table: Table, from: usize, n: usize) -> bool
     requires { Items (format_in table) n s.now from }
     ensures { AllNew (keys_at table s.now from) n result }
 {
-    if !as_read(table) {
+    if let Table::Alike(_) = table {
         return false;
     }
     let mut p = from;
-    let mut i = 0;
     let mut marks: u64 = 0;
-    while i < n {
+    for _ in 0..n {
         let m = mark_text(s, p);
-        let x = marks & m;
-        if x == m {
+        if marks & m == m {
             return false;
         }
-        marks = marks | m;
+        marks |= m;
         p = in_place::past_item(s, table, p);
-        i += 1;
     }
     true
 }
 
-// The first of the n items from `from` on that repeats one before it, or n: each whose mark is not new is compared with
+// The first item that repeats one before it, or the number of items: each whose mark is not new is compared with
 // all before it.
-fn scan(s: &[u8], table: Table, from: usize, n: usize) -> usize
-    requires { Items (format_in table) n s.now from }
-    ensures { FirstRepeat (keys_at table s.now from) n result }
+fn scan(s: &[u8], list: Listing) -> usize
+    requires { Listed s.now list }
+    ensures { FirstRepeat (keys_of s.now list) list.n result }
 {
-    let mut p = from;
-    let mut i = 0;
+    let mut p = list.from;
     let mut marks: u64 = 0;
-    while i < n {
-        let m = mark(s, table, p);
-        if repeats_one(s, table, from, i, p, marks, m) {
+    for i in 0..list.n {
+        let m = mark(s, list.table, p);
+        if repeats_one(s, list, i, p, marks, m) {
             return i;
         }
-        marks = marks | m;
-        p = in_place::past_item(s, table, p);
-        i += 1;
+        marks |= m;
+        p = in_place::past_item(s, list.table, p);
     }
-    n
+    list.n
 }
 
 // ---- a hash of an item's key: its package, then its name
 
-fn mix(seed: u64, h: u64, w: u64) -> u64
-    requires { seed < 4294967296 }
+fn mix(seed: u32, h: u64, w: u64) -> u64
     ensures { result ≡ mixed seed h w }
 {
     let x = h ^ w;
-    (x % 4294967296) * seed + x / 4294967296
+    (x % 4294967296) * u64::from(seed) + x / 4294967296
 }
 
 // Two words at once: half of the hash and a word by the seed, and by another factor.
-fn fold(seed: u64, h: u64, v: u64, w: u64) -> u64
-    requires { (seed < 4294967296) × (v < 4294967296) × (w < 4294967296) }
+fn fold(seed: u32, h: u64, v: u32, w: u32) -> u64
     ensures { result ≡ folded seed h v w }
 {
-    let x = (h % 4294967296) ^ v;
-    let y = (h / 4294967296) ^ w;
-    let other = (seed + 1013904242) % 4294967296;
-    (x * seed) ^ (y * other)
+    let x = (h % 4294967296) ^ u64::from(v);
+    let y = (h / 4294967296) ^ u64::from(w);
+    let other = seed.wrapping_add(1013904242);
+    (x * u64::from(seed)) ^ (y * u64::from(other))
+}
+
+// Spreads the last words over all bits.
+fn ended(seed: u32, h: u64) -> u64
+    ensures { result ≡ ended seed h }
+{
+    mix(seed, mix(seed, h, 0), 0)
+}
+
+fn word(s: &[u8], p: usize) -> u32
+    requires { p + 4 ≤ length s.now }
+    ensures { WordIs s.now p result }
+{
+    in_place::word_at(s, p) as u32
 }
 
 // Fewer than eight bytes: the first four and the last four, or else the first, the middle and the last.
-fn hash_short(s: &[u8], start: usize, len: usize, seed: u64, h: u64) -> u64
-    requires { (PartAt seed s.now start len) × (len < 8) }
+fn hash_short(s: &[u8], start: usize, len: usize, seed: u32, h: u64) -> u64
+    requires { (PartAt s.now start len) × (len < 8) }
     ensures { HashIs seed h (part s.now start len) result }
 {
     if len == 0 {
@@ -211,62 +190,49 @@ fn hash_short(s: &[u8], start: usize, len: usize, seed: u64, h: u64) -> u64
     }
     let end = start + len;
     if len < 4 {
-        let v = wide(s[start]) + 256 * wide(s[start + len / 2]);
-        return fold(seed, h, v, wide(s[end - 1]));
+        let v = u32::from(s[start]) + 256 * u32::from(s[start + len / 2]);
+        return fold(seed, h, v, u32::from(s[end - 1]));
     }
-    let v = in_place::word_at(s, start) as u64;
-    let w = in_place::word_at(s, end - 4) as u64;
-    fold(seed, h, v, w)
+    fold(seed, h, word(s, start), word(s, end - 4))
 }
 
 // Of the second lane. No two words are taken in by one factor, or a bit of one could make up for a bit of the other
 // under many seeds.
-fn second_seed(seed: u64) -> u64
-    requires { seed < 4294967296 }
+fn second_seed(seed: u32) -> u32
     ensures { result ≡ second_seed seed }
 {
-    (seed + 2773480762) % 4294967296
+    seed.wrapping_add(2773480762)
 }
 
 // Extends the two lanes by the eight bytes at p and the eight before end, and joins them.
-fn join(s: &[u8], p: usize, end: usize, seed: u64, lane1: u64, lane2: u64) -> u64
-    requires { (p + 8 ≤ end) × (end ≤ length s.now) × (seed < 4294967296) }
+fn join(s: &[u8], p: usize, end: usize, seed: u32, lane1: u64, lane2: u64) -> u64
+    requires { (p + 8 ≤ end) × (end ≤ length s.now) }
     ensures { JoinIs seed lane1 lane2 s.now p end result }
 {
-    let v1 = in_place::word_at(s, p) as u64;
-    let w1 = in_place::word_at(s, p + 4) as u64;
-    let v2 = in_place::word_at(s, end - 8) as u64;
-    let w2 = in_place::word_at(s, end - 4) as u64;
-    fold(seed, lane1, v1, w1) ^ fold(second_seed(seed), lane2, v2, w2)
+    let first = fold(seed, lane1, word(s, p), word(s, p + 4));
+    first ^ fold(second_seed(seed), lane2, word(s, end - 8), word(s, end - 4))
 }
 
 // More than sixteen bytes: sixteen at a time in two lanes, which do not wait for each other, and then the last sixteen.
-fn hash_long(s: &[u8], start: usize, len: usize, seed: u64, h: u64) -> u64
-    requires { (PartAt seed s.now start len) × (16 < len) }
+fn hash_long(s: &[u8], start: usize, len: usize, seed: u32, h: u64) -> u64
+    requires { (PartAt s.now start len) × (16 < len) }
     ensures { HashIs seed h (part s.now start len) result }
 {
     let second = second_seed(seed);
+    let end = start + len;
     let mut lane1 = h;
     let mut lane2 = h;
-    let mut p = start;
-    let mut k = len;
-    while 16 < k {
-        let v1 = in_place::word_at(s, p) as u64;
-        let w1 = in_place::word_at(s, p + 4) as u64;
-        let v2 = in_place::word_at(s, p + 8) as u64;
-        let w2 = in_place::word_at(s, p + 12) as u64;
-        lane1 = fold(seed, lane1, v1, w1);
-        lane2 = fold(second, lane2, v2, w2);
-        p += 16;
-        k -= 16;
+    for i in 0..(len - 1) / 16 {
+        let p = start + 16 * i;
+        lane1 = fold(seed, lane1, word(s, p), word(s, p + 4));
+        lane2 = fold(second, lane2, word(s, p + 8), word(s, p + 12));
     }
-    let end = p + k;
     join(s, end - 16, end, seed, lane1, lane2)
 }
 
 // Extends the hash h by the len bytes at start.
-fn hash_bytes(s: &[u8], start: usize, len: usize, seed: u64, h: u64) -> u64
-    requires { PartAt seed s.now start len }
+fn hash_bytes(s: &[u8], start: usize, len: usize, seed: u32, h: u64) -> u64
+    requires { PartAt s.now start len }
     ensures { HashIs seed h (part s.now start len) result }
 {
     if len < 8 {
@@ -280,8 +246,8 @@ fn hash_bytes(s: &[u8], start: usize, len: usize, seed: u64, h: u64) -> u64
 
 // Extends the hash h by the text at p. Its length goes in first, times the seed: else ("a", "bc") and ("ab", "c")
 // collide, and two lanes that start from known values could be made to cancel out under every seed.
-fn hash_text(s: &[u8], p: usize, seed: u64, h: u64) -> u64
-    requires { (TextAt s.now p) × (seed < 4294967296) }
+fn hash_text(s: &[u8], p: usize, seed: u32, h: u64) -> u64
+    requires { TextAt s.now p }
     ensures { TextHash seed h s.now p result }
 {
     let n = in_place::word_at(s, p);
@@ -289,21 +255,19 @@ fn hash_text(s: &[u8], p: usize, seed: u64, h: u64) -> u64
 }
 
 // Extends the hash h, of the package, by the name at p.
-fn hash_name(s: &[u8], p: usize, seed: u64, h: u64) -> u64
-    requires { (TextAt s.now p) × (seed < 4294967296) }
+fn hash_name(s: &[u8], p: usize, seed: u32, h: u64) -> u64
+    requires { TextAt s.now p }
     ensures { EndedHash seed h s.now p result }
 {
-    let x = hash_text(s, p, seed, h);
-    mix(seed, mix(seed, x, 0), 0)
+    ended(seed, hash_text(s, p, seed, h))
 }
 
 // Of the runtime struct's field at p.
-fn hash_package(s: &[u8], p: usize, seed: u64) -> u64
-    requires { (Placed runtime_field s.now p) × (seed < 4294967296) }
+fn hash_package(s: &[u8], p: usize, seed: u32) -> u64
+    requires { Placed runtime_field s.now p }
     ensures { PackageHash seed s.now p result }
 {
-    let package = in_place::package_at(s, p);
-    hash_text(s, package, seed, 0)
+    hash_text(s, in_place::package_at(s, p), seed, 0)
 }
 
 // The hash after the character at a place, and the place past it.
@@ -314,68 +278,66 @@ struct Taken {
 }
 
 // Where a letter may be: base letter and mark are three bytes.
-fn take_letter(s: &[u8], at: usize, end: usize, seed: u64, hash: u64) -> Taken
-    requires { Streams seed s.now at end }
+fn take_letter(s: &[u8], at: usize, end: usize, seed: u32, hash: u64) -> Taken
+    requires { Streams s.now at end }
     ensures { TakenIn seed s.now at end hash result }
 {
-    let fold = folding::fold_at(s, at, end);
-    if fold == 0 {
-        let x = mix(seed, hash, wide(s[at]));
+    let Some(letter) = folding::fold_at(s, at, end) else {
         return Taken {
-            hash: x,
+            hash: mix(seed, hash, u64::from(s[at])),
             at: at + 1,
         };
-    }
-    let x = mix(seed, hash, fold / 256);
+    };
+    let x = mix(seed, hash, u64::from(letter.base));
     let y = mix(seed, x, 204);
-    let z = mix(seed, y, fold % 256);
     Taken {
-        hash: z,
+        hash: mix(seed, y, u64::from(letter.mark)),
         at: at + 2,
     }
 }
 
 // Most bytes open no letter, and this test of them is compiled into the loop.
-fn take_in(s: &[u8], at: usize, end: usize, seed: u64, hash: u64) -> Taken
-    requires { Streams seed s.now at end }
+fn take_in(s: &[u8], at: usize, end: usize, seed: u32, hash: u64) -> Taken
+    requires { Streams s.now at end }
     ensures { TakenIn seed s.now at end hash result }
 {
     if folding::opens(s[at]) {
         return take_letter(s, at, end, seed, hash);
     }
-    let x = mix(seed, hash, wide(s[at]));
     Taken {
-        hash: x,
+        hash: mix(seed, hash, u64::from(s[at])),
         at: at + 1,
     }
 }
 
 // The hash of the text at p as if its letters were decomposed: byte by byte, since a letter moves all that come after it.
-fn hash_folded(s: &[u8], p: usize, seed: u64) -> u64
-    requires { (TextAt s.now p) × (seed < 4294967296) }
+// Inlined, since its callers do little else.
+#[inline(always)]
+fn hash_folded(s: &[u8], p: usize, seed: u32) -> u64
+    requires { TextAt s.now p }
     ensures { FoldedHash seed s.now p result }
 {
     let n = in_place::word_at(s, p);
     let end = p + 4 + n;
     let mut at = p + 4;
-    let mut hash = seed;
+    let mut hash = u64::from(seed);
+    // A step takes one byte or two, which no `for` counts.
     while at < end {
         let x = take_in(s, at, end, seed, hash);
         hash = x.hash;
         at = x.at;
     }
-    mix(seed, mix(seed, hash, 0), 0)
+    ended(seed, hash)
 }
 
-fn hash_key(s: &[u8], table: Table, p: usize, seed: u64) -> u64
-    requires { (Placed (format_in table) s.now p) × (seed < 4294967296) }
+fn hash_key(s: &[u8], table: Table, p: usize, seed: u32) -> u64
+    requires { Placed (format_in table) s.now p }
     ensures { KeyHash seed table s.now p result }
 {
     match table {
-        Table::Fields => hash_name(s, p, seed, 0),
-        Table::Methods(_) => hash_name(s, p, seed, 0),
         Table::Identities => hash_name(s, p, seed, hash_package(s, p, seed)),
         Table::Alike(_) => hash_folded(s, p, seed),
+        _ => hash_name(s, p, seed, 0),
     }
 }
 
@@ -399,8 +361,7 @@ fn lacks(filter: &[u64], h: u64) -> bool
 {
     let m = mask(h);
     let k = (h as usize) & (filter.len() - 1);
-    let x = filter[k] & m;
-    x != m
+    filter[k] & m != m
 }
 
 // Enters h; true where some of its bits were not there before.
@@ -412,20 +373,18 @@ fn enter(filter: &mut [u64], h: u64) -> bool
     let k = (h as usize) & (filter.len() - 1);
     let w = filter[k];
     filter[k] = w | m;
-    let x = w & m;
-    x != m
+    w & m != m
 }
 
-// Is the class of h not from lo to hi?
-fn outside(h: u64, lo: u64, hi: u64) -> bool
-    ensures { Outside lo hi h result }
-{
-    // From the low 32 bits, which are evenly distributed; the high 32 are always below the seed.
-    let class = h / 65536 % 65536;
-    if class < lo {
-        return true;
+impl Classes {
+    // Is the class of h none of these?
+    fn exclude(self, h: u64) -> bool
+        ensures { Outside self h result }
+    {
+        // From the low 32 bits, which are evenly distributed; the high 32 are always below the seed.
+        let class = h / 65536 % 65536;
+        class < self.lo || self.hi <= class
     }
-    hi <= class
 }
 
 // ---- the last bytes of a name: read without a hash of all of it, they tell most items from all suspects
@@ -435,20 +394,11 @@ fn ascii(s: &[u8], p: usize) -> bool
     requires { p + 4 ≤ length s.now }
     ensures { result ≡ lows (part s.now p 4) }
 {
-    if 127 < s[p] {
-        return false;
-    }
-    if 127 < s[p + 1] {
-        return false;
-    }
-    if 127 < s[p + 2] {
-        return false;
-    }
-    s[p + 3] < 128
+    s[p..p + 4].iter().all(|b| *b < 128)
 }
 
 // The last four bytes of the text at p, where they are ASCII, so that folding leaves them; else 0.
-fn tail(s: &[u8], p: usize) -> u64
+fn tail(s: &[u8], p: usize) -> u32
     requires { TextAt s.now p }
     ensures { TextTail s.now p result }
 {
@@ -457,116 +407,87 @@ fn tail(s: &[u8], p: usize) -> u64
         return 0;
     }
     let at = p + n;
-    if ascii(s, at) {
-        let w = in_place::word_at(s, at);
-        return w as u64;
-    }
-    0
+    if ascii(s, at) { word(s, at) } else { 0 }
 }
 
-fn hash_tail(s: &[u8], p: usize, seed: u64) -> u64
-    requires { (TextAt s.now p) × (seed < 4294967296) }
+fn hash_tail(s: &[u8], p: usize, seed: u32) -> u64
+    requires { TextAt s.now p }
     ensures { result ≡ tail_hash seed (text_at s.now p) }
 {
-    let x = tail(s, p);
-    mix(seed, mix(seed, x, 0), 0)
+    ended(seed, u64::from(tail(s, p)))
 }
 
 // Has no suspect the last bytes of the text at p? Not asked where every item is a suspect, which one word stands for.
-fn skips(s: &[u8], p: usize, seed: u64, suspects: &[u64]) -> bool
-    requires { (TextAt s.now p) × (seed < 4294967296) × (0 < length suspects.now) }
+fn skips(s: &[u8], p: usize, seed: u32, suspects: &[u64]) -> bool
+    requires { (TextAt s.now p) × (0 < length suspects.now) }
     ensures { Lacks suspects.now (tail_hash seed (text_at s.now p)) result }
 {
-    if suspects.len() == 1 {
-        return false;
-    }
-    lacks(suspects, hash_tail(s, p, seed))
+    suspects.len() != 1 && lacks(suspects, hash_tail(s, p, seed))
 }
 
 // ---- a pass over the items
 
-// Does the item at p repeat one of the i before it? Considers only suspects of class lo to hi. `left`: how many
+// Does the item at p repeat one of the i before it? Considers only suspects of these classes. `left`: how many
 // comparisons without a repeat this pass still tolerates.
 fn probed(
     s: &[u8],
-    table: Table,
-    from: usize,
+    list: Listing,
     i: usize,
     p: usize,
-    lo: u64,
-    hi: u64,
-    seed: u64,
-    left: usize,
+    classes: Classes,
+    seed: u32,
+    left: &mut usize,
     filter: &mut [u64],
     suspects: &[u64],
-) -> Probe
-    requires { (Standing table s.now from i p)
-        × (Filter (Chosen lo hi (key_hash table seed) (tail_hash seed) suspects.now) (key_hash table seed) (keys_at table s.now from) i filter.old)
-        × (seed < 4294967296) × (0 < length suspects.now) }
-    ensures { Probed (Chosen lo hi (key_hash table seed) (tail_hash seed) suspects.now) (key_hash table seed)
-        (keys_at table s.now from) i filter.new result }
+) -> Result<bool, GaveUp>
+    requires { (Standing list.table s.now list.from i p)
+        × (Filter (Sought classes list seed suspects.now) (key_hash list.table seed) (keys_of s.now list) i filter.old)
+        × (0 < length suspects.now) }
+    ensures { Probed (Sought classes list seed suspects.now) (key_hash list.table seed)
+        (keys_of s.now list) i filter.new result }
 {
     if skips(s, p, seed, suspects) {
-        return Probe::Next(left);
+        return Ok(false);
     }
-    let h = hash_key(s, table, p, seed);
-    if outside(h, lo, hi) {
-        return Probe::Next(left);
+    let h = hash_key(s, list.table, p, seed);
+    if classes.exclude(h) || lacks(suspects, h) {
+        return Ok(false);
     }
-    if lacks(suspects, h) {
-        return Probe::Next(left);
+    if enter(filter, h) || exempt(s, list.table, p) {
+        return Ok(false);
     }
-    if enter(filter, h) {
-        return Probe::Next(left);
+    if *left == 0 {
+        return Err(GaveUp);
     }
-    if exempt(s, table, p) {
-        return Probe::Next(left);
+    if in_place::seen(s, list.table, list.from, i, p) {
+        return Ok(true);
     }
-    if left == 0 {
-        return Probe::TooMany;
-    }
-    if in_place::seen(s, table, from, i, p) {
-        return Probe::Repeat;
-    }
-    Probe::Next(left - 1)
+    *left -= 1;
+    Ok(false)
 }
 
-// The first repeat, of the suspects whose class is from lo to hi, by a filter that is empty yet.
+// The first repeat, of the suspects of these classes, by a filter that is empty yet; or the number of items.
 fn pass(
     s: &[u8],
-    table: Table,
-    from: usize,
-    n: usize,
-    lo: u64,
-    hi: u64,
-    seed: u64,
+    list: Listing,
+    classes: Classes,
+    seed: u32,
     filter: &mut [u64],
     suspects: &[u64],
-) -> Outcome
-    requires { (Items (format_in table) n s.now from) × (0 < length filter.old) × (seed < 4294967296)
-        × (0 < length suspects.now) }
-    ensures { PassedOr (Chosen lo hi (key_hash table seed) (tail_hash seed) suspects.now)
-        (keys_at table s.now from) n result }
+) -> Result<usize, GaveUp>
+    requires { (Listed s.now list) × (0 < length filter.old) × (0 < length suspects.now) }
+    ensures { PassedOr (Sought classes list seed suspects.now) (keys_of s.now list) list.n
+        result }
 {
     let mut left = IN_VAIN;
-    let mut p = from;
-    let mut i = 0;
-    while i < n {
-        match probed(s, table, from, i, p, lo, hi, seed, left, filter, suspects) {
-            Probe::Repeat => {
-                return Outcome::First(i);
-            }
-            Probe::TooMany => {
-                return Outcome::GaveUp;
-            }
-            Probe::Next(l) => {
-                left = l;
-            }
+    let mut p = list.from;
+    for i in 0..list.n {
+        if probed(s, list, i, p, classes, seed, &mut left, filter, suspects)? {
+            return Ok(i);
         }
-        p = in_place::past_item(s, table, p);
-        i += 1;
+        p = in_place::past_item(s, list.table, p);
     }
-    Outcome::First(n)
+    Ok(list.n)
 }
 
 // Enters h, the hash of the item at p, if it is of these classes, and among the suspects, with the hash of the name's last
@@ -574,18 +495,17 @@ fn pass(
 fn note(
     s: &[u8],
     p: usize,
-    seed: u64,
+    classes: Classes,
+    seed: u32,
     h: u64,
-    lo: u64,
-    hi: u64,
     filter: &mut [u64],
     suspects: &mut [u64],
 )
-    requires { (TextAt s.now p) × (seed < 4294967296) × (0 < length filter.old) × (0 < length suspects.old) }
-    ensures { Noted lo hi h (tail_hash seed (text_at s.now p)) filter.old filter.new
+    requires { (TextAt s.now p) × (0 < length filter.old) × (0 < length suspects.old) }
+    ensures { Noted classes h (tail_hash seed (text_at s.now p)) filter.old filter.new
         suspects.old suspects.new }
 {
-    if outside(h, lo, hi) {
+    if classes.exclude(h) {
         return;
     }
     if enter(filter, h) {
@@ -595,170 +515,138 @@ fn note(
     enter(suspects, hash_tail(s, p, seed));
 }
 
-// Finds the suspects among the n items of these classes, by a filter and a set of suspects that are empty yet.
+// Finds the suspects among the items of these classes, by a filter and a set of suspects that are empty yet.
 fn suspect(
     s: &[u8],
-    table: Table,
-    from: usize,
-    n: usize,
-    lo: u64,
-    hi: u64,
-    seed: u64,
+    list: Listing,
+    classes: Classes,
+    seed: u32,
     filter: &mut [u64],
     suspects: &mut [u64],
 )
-    requires { (Items (format_in table) n s.now from) × (0 < length filter.old) × (seed < 4294967296)
-        × (0 < length suspects.old) }
-    ensures { Suspects lo hi (key_hash table seed) (tail_hash seed) (keys_at table s.now from) n
-        suspects.new }
+    requires { (Listed s.now list) × (0 < length filter.old) × (0 < length suspects.old) }
+    ensures { Suspects classes (key_hash list.table seed) (tail_hash seed) (keys_of s.now list)
+        list.n suspects.new }
 {
-    let mut p = from;
-    let mut i = 0;
-    while i < n {
-        let h = hash_key(s, table, p, seed);
-        note(s, p, seed, h, lo, hi, filter, suspects);
-        p = in_place::past_item(s, table, p);
-        i += 1;
-    }
-}
-
-fn clear(filter: &mut [u64]) {
-    let mut i = 0;
-    while i < filter.len() {
-        filter[i] = 0;
-        i += 1;
+    let mut p = list.from;
+    for _ in 0..list.n {
+        let h = hash_key(s, list.table, p, seed);
+        note(s, p, classes, seed, h, filter, suspects);
+        p = in_place::past_item(s, list.table, p);
     }
 }
 
 // ---- tables of each size
 
-// The first repeat of a small table under this seed: one pass with a small filter, each item being a suspect.
-fn few(s: &[u8], table: Table, from: usize, n: usize, seed: u64) -> Outcome
-    requires { (Items (format_in table) n s.now from) × (seed < 4294967296) }
-    ensures { FirstOr (keys_at table s.now from) n result }
+// The first repeat under this seed: one pass with a filter of WORDS words, each item being a suspect. Not inlined: the
+// filter must stay out of the caller's frame.
+#[inline(never)]
+fn one_pass<const WORDS: usize>(s: &[u8], list: Listing, seed: u32) -> Result<usize, GaveUp>
+    requires { (Listed s.now list) × (0 < WORDS) × (WORDS ≤ 16384) }
+    ensures { FirstOr (keys_of s.now list) list.n result }
 {
-    let mut filter = [0u64; 1024];
-    let suspects = [18446744073709551615u64; 1];
-    pass(s, table, from, n, 0, 65536, seed, &mut filter, &suspects)
-}
-
-fn middle(s: &[u8], table: Table, from: usize, n: usize, seed: u64) -> Outcome
-    requires { (Items (format_in table) n s.now from) × (seed < 4294967296) }
-    ensures { FirstOr (keys_at table s.now from) n result }
-{
-    let mut filter = [0u64; 16384];
-    let suspects = [18446744073709551615u64; 1];
-    pass(s, table, from, n, 0, 65536, seed, &mut filter, &suspects)
+    let mut filter = [0u64; WORDS];
+    let suspects = [u64::MAX; 1];
+    pass(s, list, ALL_CLASSES, seed, &mut filter, &suspects)
 }
 
 // The first repeat of the items of these classes: a pass that finds the suspects, about one in thirty, and one that
 // compares them. A filter that the second alone could rest on has room for an eighth of the items.
-fn two_passes(s: &[u8], table: Table, from: usize, n: usize, lo: u64, hi: u64, seed: u64) -> Outcome
-    requires { (Items (format_in table) n s.now from) × (seed < 4294967296) }
-    ensures { PassedOr (ClassedBy lo hi (key_hash table seed)) (keys_at table s.now from) n result }
+#[inline(never)]
+fn two_passes(s: &[u8], list: Listing, classes: Classes, seed: u32) -> Result<usize, GaveUp>
+    requires { Listed s.now list }
+    ensures { PassedOr (ClassedBy classes (key_hash list.table seed)) (keys_of s.now list)
+        list.n result }
 {
     let mut filter = [0u64; 16384];
     let mut suspects = [0u64; 2048];
-    suspect(s, table, from, n, lo, hi, seed, &mut filter, &mut suspects);
-    clear(&mut filter);
-    pass(s, table, from, n, lo, hi, seed, &mut filter, &suspects)
+    suspect(s, list, classes, seed, &mut filter, &mut suspects);
+    filter.fill(0);
+    pass(s, list, classes, seed, &mut filter, &suspects)
 }
 
-// The first repeat of any table under this seed: one pass, or two for each 196608 items.
-fn many(s: &[u8], table: Table, from: usize, n: usize, seed: u64) -> Outcome
-    requires { (Items (format_in table) n s.now from) × (seed < 4294967296) }
-    ensures { FirstOr (keys_at table s.now from) n result }
+// The first repeat under this seed: one pass, or two for each 196608 items.
+fn under_seed(s: &[u8], list: Listing, seed: u32) -> Result<usize, GaveUp>
+    requires { Listed s.now list }
+    ensures { FirstOr (keys_of s.now list) list.n result }
 {
-    if n < MANY {
-        return middle(s, table, from, n, seed);
+    if list.n < MIDDLING {
+        return one_pass::<1024>(s, list, seed);
     }
-    let parts = n / CLASS + 1;
-    let classes = 65536 / (parts as u64) + 1;
-    let mut first = n;
-    let mut lo: u64 = 0;
-    while lo < 65536 {
-        let hi = lo + classes;
-        let Outcome::First(q) = two_passes(s, table, from, first, lo, hi, seed) else {
-            return Outcome::GaveUp;
-        };
-        first = q;
-        lo = hi;
+    if list.n < MANY {
+        return one_pass::<16384>(s, list, seed);
     }
-    Outcome::First(first)
+    let parts = list.n as u64 / CLASS + 1;
+    let classes = 65536 / parts + 1;
+    let mut first = list.n;
+    for part in 0..parts {
+        let lo = part * classes;
+        first = two_passes(
+            s,
+            Listing { n: first, ..list },
+            Classes {
+                lo,
+                hi: lo + classes,
+            },
+            seed,
+        )?;
+    }
+    Ok(first)
 }
 
-// The place past the n items from `from` on.
-fn past_items(s: &[u8], table: Table, from: usize, n: usize) -> usize
-    requires { Items (format_in table) n s.now from }
-    ensures { Within s.now from result }
+// The place past the items.
+fn past_items(s: &[u8], list: Listing) -> usize
+    requires { Listed s.now list }
+    ensures { Within s.now list.from result }
 {
-    let mut p = from;
-    let mut k = n;
-    while 0 < k {
-        p = in_place::past_item(s, table, p);
-        k -= 1;
+    let mut p = list.from;
+    for _ in 0..list.n {
+        p = in_place::past_item(s, list.table, p);
     }
     p
 }
 
 // The next seed is a hash of the whole table, under a seed that no filter uses: names that collide under it cannot be
 // chosen without changing it.
-fn fresh_seed(s: &[u8], table: Table, from: usize, n: usize, seed: u64) -> u64
-    requires { (Items (format_in table) n s.now from) × (seed < 4294967296) }
-    ensures { result < 4294967296 }
+fn fresh_seed(s: &[u8], list: Listing, seed: u32) -> u32
+    requires { Listed s.now list }
 {
-    let end = past_items(s, table, from, n);
-    if end <= from {
+    let end = past_items(s, list);
+    if end <= list.from {
         return seed;
     }
-    let h = hash_bytes(s, from, end - from, 3266489917, seed);
-    2147483649 + h / 65536 % 1073741824 * 2
+    let h = hash_bytes(s, list.from, end - list.from, 3266489917, u64::from(seed));
+    2147483649 + (h / 65536 % 1073741824) as u32 * 2
 }
 
-// The first repeat, with a large filter or a small one. Names that were made to collide under one seed do not collide
-// under the next. `many` is called at two places so that the compiler does not inline it: its large frame must stay out
-// of this one.
-fn searched(s: &[u8], table: Table, from: usize, n: usize, large: bool) -> usize
+// The first repeat where marks don't tell: of few items by comparing, else by filters. Names that were made to collide
+// under one seed do not collide under the next. Not inlined: most tables need none of this.
+#[inline(never)]
+fn searched(s: &[u8], table: Table, from: usize, n: usize) -> usize
     requires { Items (format_in table) n s.now from }
     ensures { FirstRepeat (keys_at table s.now from) n result }
 {
-    let mut seed: u64 = 2654435761;
-    if large {
-        if let Outcome::First(first) = many(s, table, from, n, seed) {
+    let list = Listing { table, from, n };
+    if n < FEW {
+        return scan(s, list);
+    }
+    let mut seed = FIRST_SEED;
+    for _ in 0..SEEDS {
+        if let Ok(first) = under_seed(s, list, seed) {
             return first;
         }
-    } else if let Outcome::First(first) = few(s, table, from, n, seed) {
-        return first;
+        seed = fresh_seed(s, list, seed);
     }
-    let mut k: usize = 1;
-    while k < 16 {
-        seed = fresh_seed(s, table, from, n, seed);
-        if large {
-            if let Outcome::First(first) = many(s, table, from, n, seed) {
-                return first;
-            }
-        } else if let Outcome::First(first) = few(s, table, from, n, seed) {
-            return first;
-        }
-        k += 1;
-    }
-    scan(s, table, from, n)
+    scan(s, list)
 }
 
-// The first of the n items from `from` on that repeats one before it, or n. `searched` is called twice, so that the
-// filters' frames stay out of this function: most tables need none.
+// The first of the n items from `from` on that repeats one before it, or n.
 pub fn first_repeat(s: &[u8], table: Table, from: usize, n: usize) -> usize
     requires { Items (format_in table) n s.now from }
     ensures { FirstRepeat (keys_at table s.now from) n result }
 {
-    if n < FEW {
-        if all_new(s, table, from, n) {
-            return n;
-        }
-        return scan(s, table, from, n);
+    if n < FEW && all_new(s, table, from, n) {
+        return n;
     }
-    if n < MIDDLING {
-        return searched(s, table, from, n, false);
-    }
-    searched(s, table, from, n, true)
+    searched(s, table, from, n)
 }

@@ -1,5 +1,5 @@
 -- The record of a runtime type, as a function of the place and the value that was read there.
-use Rattle.std.specs.Prelude.{ℕ, zero, suc, ◌+◌, ◌*◌, List, [], ◌∷◌, eqb, get_or}
+use Rattle.std.specs.Prelude.{ℕ, zero, suc, ◌+◌, ◌*◌, List, [], ◌∷◌, eqb, get_or, Option, Some, None}
 use Rattle.format.specs.Format.{Value, number, counted, Format, ◌▸◌}
 use Rattle.vob24.specs.Settings as of
 use Rattle.vob24.specs.Settings.{Settings}
@@ -8,8 +8,6 @@ use Rattle.vob24.specs.Fields as of-value
 use Rattle.vob24.specs.Fields.{variant_of}
 use Rattle.vob24.specs.Grammar as vob
 use Rattle.reader.specs.Recorded.{no_list}
-use Rattle.runtime_type.specs.declared.OptionalId.{OptionalId}
-use Rattle.runtime_type.specs.declared.OptionalId.TheVariants.{Absent, Id}
 use Rattle.runtime_type.specs.declared.RuntimeType.{RuntimeType}
 use Rattle.runtime_type.specs.declared.RuntimeType.TheVariants as kind
 use Rattle.runtime_type.specs.declared.RuntimeTypeRecord.{RuntimeTypeRecord}
@@ -49,9 +47,9 @@ interface_format set = vob.runtime_interface set
 -- ---- the records: p is the place after the tag, v the value there
 
 -- "An optional id is 0 for absent, else id plus 1."
-unfoldable pub optional_of : ℕ → OptionalId
-optional_of zero = Absent
-optional_of (suc n) = Id n
+unfoldable pub optional_of : ℕ → Option ℕ
+optional_of zero = None
+optional_of (suc n) = Some n
 
 abbrev pub bare_of : RuntimeType → RuntimeTypeRecord
 bare_of k = record { kind = k; first = no_list; second = no_list }
@@ -92,6 +90,9 @@ slice_of p v = bare_of (kind.Slice (number v))
 
 abbrev pub map_of : ℕ → Value → RuntimeTypeRecord
 map_of p v = let x = of-value.map_of v in bare_of (kind.Map (number x.key) (number x.val))
+
+abbrev pub directed_of : ℕ → Value → ℕ × ℕ
+directed_of p v = let x = of-value.chan_of v in (number x.dir, number x.elem)
 
 abbrev pub chan_of : ℕ → Value → RuntimeTypeRecord
 chan_of p v = let x = of-value.chan_of v in bare_of (kind.Chan (number x.dir) (number x.elem))

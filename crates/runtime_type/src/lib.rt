@@ -4,91 +4,97 @@
 #![tactic(auto)]
 
 ghost use Rattle.vob24.specs.Settings.{settings_of};
-ghost use Rattle.std.specs.Prelude.{◌≡◌, ◌<◌};
-ghost use Rattle.format.specs.Format.{counted};
+ghost use Rattle.std.specs.Prelude.{Bool, Ok, false, ◌≡◌, ◌<◌};
+ghost use Rattle.format.specs.Format.{counted, number};
 ghost use Rattle.vob24.specs.Leaves.{value_kind, value_rttid};
-ghost use Rattle.reader.specs.Contract.{step_of, Ready, ReadyAt, Reader, NumberOf};
-ghost use Rattle.reader.specs.declared.Step.TheVariants.{Taken};
+ghost use Rattle.reader.specs.Contract.{Ready, ReadyAt, Reader, NumberOf};
 ghost use Rattle.reader.specs.Accepted.{Accepted};
-ghost use Rattle.runtime_type.specs.Records.{type_format, type_list, rttid_list, named_format, array_format, map_format, directed_format, func_format, struct_format, interface_format, optional_of, bare_of, basic_of, named_of, pointer_of, array_of, slice_of, map_of, chan_of, func_of, struct_of, interface_of, tuple_of, port_of, runtime_type_of};
-ghost use Rattle.runtime_type.specs.Contract.{type_step, TypeReader};
+ghost use Rattle.reader.specs.Recorded.{RecordOf};
+ghost use Rattle.runtime_type.specs.Records.{type_format, type_list, rttid_list, named_format, array_format, map_format, directed_format, func_format, struct_format, interface_format, optional_of, bare_of, basic_of, named_of, array_of, map_of, directed_of, func_of, struct_of, interface_of, tuple_of, runtime_type_of};
 
-use reader::{Cursor, ListAt, Number, Refusal, Step, sizes};
+use lists::Entry;
+use reader::{Cursor, ListAt, Read, Step, sizes};
 use vob24_data::Settings;
-
-// An id that may be absent.
-#[derive(Clone, Copy)]
-pub enum OptionalId {
-    Absent,
-    Id(u32),
-}
 
 // A runtime type, without its lists. Other types are named by rttids; a direction is 0 for both, 1 for send, 2 for
 // receive.
-#[derive(Clone, Copy)]
+#[derive(Clone, Copy, PartialEq, Eq, Debug)]
 pub enum RuntimeType {
     Basic(u8),
-    Named { id: u32, struct_meta_id: OptionalId },
+    Named {
+        id: u32,
+        struct_meta_id: Option<u32>,
+    },
     Pointer(u32),
-    Array { len: u64, elem: u32 },
+    Array {
+        len: u64,
+        elem: u32,
+    },
     Slice(u32),
-    Map { key: u32, val: u32 },
-    Chan { dir: u8, elem: u32 },
-    Func { variadic: bool },
-    Struct { meta_id: u32 },
-    Interface { meta_id: u32 },
+    Map {
+        key: u32,
+        val: u32,
+    },
+    Chan {
+        dir: u8,
+        elem: u32,
+    },
+    Func {
+        variadic: bool,
+    },
+    Struct {
+        meta_id: u32,
+    },
+    Interface {
+        meta_id: u32,
+    },
     Tuple,
-    Port { dir: u8, elem: u32 },
+    Port {
+        dir: u8,
+        elem: u32,
+    },
     Island,
 }
 
 // A runtime type and its lists in file order: a function's parameters and results, a struct's fields, an interface's
 // methods, a tuple's types. Absent lists are empty.
-#[derive(Clone, Copy)]
+#[derive(Clone, Copy, PartialEq, Eq, Debug)]
 pub struct RuntimeTypeRecord {
     pub kind: RuntimeType,
     pub first: ListAt,
     pub second: ListAt,
 }
 
-#[derive(Clone, Copy)]
-pub enum RuntimeTypeRead {
-    Got(RuntimeTypeRecord, Cursor),
-    Not(Refusal),
+struct Rttid;
+
+impl Entry for Rttid {
+    ghost format = { λ _. value_rttid };
+
+    ghost again = { λ _. false };
+
+    fn read(&self, s: &[u8], r: Step, tape: &mut [u32]) -> Step {
+        fields::field_value_rttid(s, r, tape)
+    }
 }
 
 // A list of rttids. Also returns its count.
-fn number_rttids(s: &[u8], set: &Settings, c: Cursor, tape: &mut [u32]) -> Number
+fn number_rttids(s: &[u8], set: &Settings, c: Cursor, tape: &mut [u32]) -> Read<u64>
     requires { ReadyAt s.now c }
-    ensures { NumberOf (rttid_list (settings_of set.now)) counted s.now c
-        tape.old result tape.new }
+    ensures { NumberOf (rttid_list (settings_of set.now)) counted s.now c tape.old result tape.new }
 {
-    let q = fields::number_count(s, set, c, sizes::VALUE_RTTID, tape);
-    let Number::Got(n, d) = q else {
-        return q;
-    };
-    let mut k = n;
-    let mut here = Step::Taken(d);
-    while 0 < k {
-        here = fields::field_value_rttid(s, here, tape);
-        let Step::Taken(_) = here else {
-            return reader::number_of(n, here);
-        };
-        k -= 1;
-    }
-    reader::number_of(n, here)
+    lists::number_list(s, set, c, sizes::VALUE_RTTID, &Rttid, tape)
 }
 
 // ---- the records' parts
 
-fn optional_id(raw: u64) -> OptionalId
+fn optional_id(raw: u64) -> Option<u32>
     requires { raw < 4294967296 }
     ensures { result ≡ optional_of raw }
 {
     if raw == 0 {
-        return OptionalId::Absent;
+        return None;
     }
-    OptionalId::Id((raw - 1) as u32)
+    Some((raw - 1) as u32)
 }
 
 // A type that has no list.
@@ -102,146 +108,76 @@ fn bare(kind: RuntimeType) -> RuntimeTypeRecord
     }
 }
 
-// A field's refusal as this reader's answer. The first arm is never run.
-fn type_refusal(q: Number) -> RuntimeTypeRead
-    ensures { type_step result ≡ step_of q }
+// A type by its rttid.
+fn one_rttid(s: &[u8], c: Cursor, tape: &mut [u32]) -> Read<u32>
+    requires { ReadyAt s.now c }
+    ensures { NumberOf value_rttid number s.now c tape.old result tape.new }
 {
-    match q {
-        Number::Got(_, c) => RuntimeTypeRead::Got(bare(RuntimeType::Island), c),
-        Number::Not(x) => RuntimeTypeRead::Not(x),
-    }
+    let (n, d) = fields::number_value_rttid(s, c, tape)?;
+    Ok((n as u32, d))
+}
+
+// A channel's or a port's direction, and its element.
+fn directed(s: &[u8], c: Cursor, tape: &mut [u32]) -> Read<(u8, u32)>
+    requires { ReadyAt s.now c }
+    ensures { RecordOf directed_format directed_of s.now c tape.old result tape.new }
+{
+    let (dir, d) = fields::number_direction(s, c, tape)?;
+    let (elem, e) = one_rttid(s, d, tape)?;
+    Ok(((dir as u8, elem), e))
 }
 
 // ---- the variants, after their tag
 
-fn basic(s: &[u8], c: Cursor, tape: &mut [u32]) -> RuntimeTypeRead
+fn basic(s: &[u8], c: Cursor, tape: &mut [u32]) -> Read<RuntimeTypeRecord>
     requires { ReadyAt s.now c }
-    ensures { TypeReader value_kind basic_of s.now c tape.old result tape.new }
+    ensures { RecordOf value_kind basic_of s.now c tape.old result tape.new }
 {
-    let q = fields::number_value_kind(s, c, tape);
-    let Number::Got(kind, d) = q else {
-        return type_refusal(q);
-    };
-    RuntimeTypeRead::Got(bare(RuntimeType::Basic(kind as u8)), d)
+    let (kind, d) = fields::number_value_kind(s, c, tape)?;
+    Ok((bare(RuntimeType::Basic(kind as u8)), d))
 }
 
-fn named(s: &[u8], c: Cursor, tape: &mut [u32]) -> RuntimeTypeRead
+fn named(s: &[u8], c: Cursor, tape: &mut [u32]) -> Read<RuntimeTypeRecord>
     requires { ReadyAt s.now c }
-    ensures { TypeReader named_format named_of s.now c tape.old result tape.new }
+    ensures { RecordOf named_format named_of s.now c tape.old result tape.new }
 {
-    let q1 = fields::number_u32(s, c, tape);
-    let Number::Got(id, d) = q1 else {
-        return type_refusal(q1);
-    };
-    let q2 = fields::number_optional_id(s, d, tape);
-    let Number::Got(raw, e) = q2 else {
-        return type_refusal(q2);
-    };
+    let (id, d) = fields::number_u32(s, c, tape)?;
+    let (raw, e) = fields::number_optional_id(s, d, tape)?;
     let kind = RuntimeType::Named {
         id: id as u32,
         struct_meta_id: optional_id(raw),
     };
-    RuntimeTypeRead::Got(bare(kind), e)
+    Ok((bare(kind), e))
 }
 
-fn pointer(s: &[u8], c: Cursor, tape: &mut [u32]) -> RuntimeTypeRead
+fn array(s: &[u8], c: Cursor, tape: &mut [u32]) -> Read<RuntimeTypeRecord>
     requires { ReadyAt s.now c }
-    ensures { TypeReader value_rttid pointer_of s.now c tape.old result tape.new }
+    ensures { RecordOf array_format array_of s.now c tape.old result tape.new }
 {
-    let q = fields::number_value_rttid(s, c, tape);
-    let Number::Got(elem, d) = q else {
-        return type_refusal(q);
-    };
-    RuntimeTypeRead::Got(bare(RuntimeType::Pointer(elem as u32)), d)
+    let (len, d) = fields::number_u64(s, c, tape)?;
+    let (elem, e) = one_rttid(s, d, tape)?;
+    Ok((bare(RuntimeType::Array { len, elem }), e))
 }
 
-fn array(s: &[u8], c: Cursor, tape: &mut [u32]) -> RuntimeTypeRead
+fn map(s: &[u8], c: Cursor, tape: &mut [u32]) -> Read<RuntimeTypeRecord>
     requires { ReadyAt s.now c }
-    ensures { TypeReader array_format array_of s.now c tape.old result tape.new }
+    ensures { RecordOf map_format map_of s.now c tape.old result tape.new }
 {
-    let q1 = fields::number_u64(s, c, tape);
-    let Number::Got(len, d) = q1 else {
-        return type_refusal(q1);
-    };
-    let q2 = fields::number_value_rttid(s, d, tape);
-    let Number::Got(elem, e) = q2 else {
-        return type_refusal(q2);
-    };
-    let kind = RuntimeType::Array {
-        len,
-        elem: elem as u32,
-    };
-    RuntimeTypeRead::Got(bare(kind), e)
-}
-
-fn slice(s: &[u8], c: Cursor, tape: &mut [u32]) -> RuntimeTypeRead
-    requires { ReadyAt s.now c }
-    ensures { TypeReader value_rttid slice_of s.now c tape.old result tape.new }
-{
-    let q = fields::number_value_rttid(s, c, tape);
-    let Number::Got(elem, d) = q else {
-        return type_refusal(q);
-    };
-    RuntimeTypeRead::Got(bare(RuntimeType::Slice(elem as u32)), d)
-}
-
-fn map(s: &[u8], c: Cursor, tape: &mut [u32]) -> RuntimeTypeRead
-    requires { ReadyAt s.now c }
-    ensures { TypeReader map_format map_of s.now c tape.old result tape.new }
-{
-    let q1 = fields::number_value_rttid(s, c, tape);
-    let Number::Got(key, d) = q1 else {
-        return type_refusal(q1);
-    };
-    let q2 = fields::number_value_rttid(s, d, tape);
-    let Number::Got(val, e) = q2 else {
-        return type_refusal(q2);
-    };
-    let kind = RuntimeType::Map {
-        key: key as u32,
-        val: val as u32,
-    };
-    RuntimeTypeRead::Got(bare(kind), e)
-}
-
-fn chan(s: &[u8], c: Cursor, tape: &mut [u32]) -> RuntimeTypeRead
-    requires { ReadyAt s.now c }
-    ensures { TypeReader directed_format chan_of s.now c tape.old result tape.new }
-{
-    let q1 = fields::number_direction(s, c, tape);
-    let Number::Got(dir, d) = q1 else {
-        return type_refusal(q1);
-    };
-    let q2 = fields::number_value_rttid(s, d, tape);
-    let Number::Got(elem, e) = q2 else {
-        return type_refusal(q2);
-    };
-    let kind = RuntimeType::Chan {
-        dir: dir as u8,
-        elem: elem as u32,
-    };
-    RuntimeTypeRead::Got(bare(kind), e)
+    let (key, d) = one_rttid(s, c, tape)?;
+    let (val, e) = one_rttid(s, d, tape)?;
+    Ok((bare(RuntimeType::Map { key, val }), e))
 }
 
 // variadic, params, results
-fn func(s: &[u8], set: &Settings, c: Cursor, tape: &mut [u32]) -> RuntimeTypeRead
+fn func(s: &[u8], set: &Settings, c: Cursor, tape: &mut [u32]) -> Read<RuntimeTypeRecord>
     requires { ReadyAt s.now c }
-    ensures { TypeReader (func_format (settings_of set.now)) func_of s.now c
+    ensures { RecordOf (func_format (settings_of set.now)) func_of s.now c
         tape.old result tape.new }
 {
-    let q1 = fields::number_bool(s, c, tape);
-    let Number::Got(variadic, d) = q1 else {
-        return type_refusal(q1);
-    };
-    let q2 = number_rttids(s, set, d, tape);
-    let Number::Got(params, e) = q2 else {
-        return type_refusal(q2);
-    };
-    let q3 = number_rttids(s, set, e, tape);
-    let Number::Got(results, f) = q3 else {
-        return type_refusal(q3);
-    };
-    RuntimeTypeRead::Got(
+    let (variadic, d) = fields::number_bool(s, c, tape)?;
+    let (params, e) = number_rttids(s, set, d, tape)?;
+    let (results, f) = number_rttids(s, set, e, tape)?;
+    Ok((
         RuntimeTypeRecord {
             kind: RuntimeType::Func {
                 variadic: variadic == 1,
@@ -250,7 +186,7 @@ fn func(s: &[u8], set: &Settings, c: Cursor, tape: &mut [u32]) -> RuntimeTypeRea
             second: reader::list_at(s, e, results),
         },
         f,
-    )
+    ))
 }
 
 // meta_id, fields
@@ -260,89 +196,62 @@ fn struct_type(
     c: Cursor,
     again: bool,
     tape: &mut [u32],
-) -> RuntimeTypeRead
-    requires { (ReadyAt s.now c) × (Accepted again (struct_format (settings_of set.now)) s.now (Taken c)) }
-    ensures { TypeReader (struct_format (settings_of set.now)) struct_of s.now c
+) -> Read<RuntimeTypeRecord>
+    requires { (ReadyAt s.now c) × (Accepted again (struct_format (settings_of set.now)) s.now (Ok c)) }
+    ensures { RecordOf (struct_format (settings_of set.now)) struct_of s.now c
         tape.old result tape.new }
 {
-    let q1 = fields::number_u32(s, c, tape);
-    let Number::Got(id, d) = q1 else {
-        return type_refusal(q1);
-    };
-    let q2 = runtime_members::number_new_fields(s, set, d, again, tape);
-    let Number::Got(n, e) = q2 else {
-        return type_refusal(q2);
-    };
-    RuntimeTypeRead::Got(
+    let (id, d) = fields::number_u32(s, c, tape)?;
+    let (n, e) = runtime_members::number_new_fields(s, set, d, again, tape)?;
+    Ok((
         RuntimeTypeRecord {
             kind: RuntimeType::Struct { meta_id: id as u32 },
             first: reader::list_at(s, d, n),
             second: ListAt { start: 0, count: 0 },
         },
         e,
-    )
+    ))
 }
 
-// meta_id, methods
-fn interface(s: &[u8], set: &Settings, c: Cursor, again: bool, tape: &mut [u32]) -> RuntimeTypeRead
-    requires { (ReadyAt s.now c) × (Accepted again (interface_format (settings_of set.now)) s.now (Taken c)) }
-    ensures { TypeReader (interface_format (settings_of set.now)) interface_of s.now c
+// meta_id, methods. Its twin `struct_type` has another list, with another format and question: one function over both
+// would be longer than the two.
+fn interface(
+    s: &[u8],
+    set: &Settings,
+    c: Cursor,
+    again: bool,
+    tape: &mut [u32],
+) -> Read<RuntimeTypeRecord>
+    requires { (ReadyAt s.now c) × (Accepted again (interface_format (settings_of set.now)) s.now (Ok c)) }
+    ensures { RecordOf (interface_format (settings_of set.now)) interface_of s.now c
         tape.old result tape.new }
 {
-    let q1 = fields::number_u32(s, c, tape);
-    let Number::Got(id, d) = q1 else {
-        return type_refusal(q1);
-    };
-    let q2 = runtime_members::number_new_methods(s, set, d, again, tape);
-    let Number::Got(n, e) = q2 else {
-        return type_refusal(q2);
-    };
-    RuntimeTypeRead::Got(
+    let (id, d) = fields::number_u32(s, c, tape)?;
+    let (n, e) = runtime_members::number_new_methods(s, set, d, again, tape)?;
+    Ok((
         RuntimeTypeRecord {
             kind: RuntimeType::Interface { meta_id: id as u32 },
             first: reader::list_at(s, d, n),
             second: ListAt { start: 0, count: 0 },
         },
         e,
-    )
+    ))
 }
 
-fn tuple(s: &[u8], set: &Settings, c: Cursor, tape: &mut [u32]) -> RuntimeTypeRead
+fn tuple(s: &[u8], set: &Settings, c: Cursor, tape: &mut [u32]) -> Read<RuntimeTypeRecord>
     requires { ReadyAt s.now c }
-    ensures { TypeReader (rttid_list (settings_of set.now)) tuple_of s.now c
+    ensures { RecordOf (rttid_list (settings_of set.now)) tuple_of s.now c
         tape.old result tape.new }
 {
-    let q = number_rttids(s, set, c, tape);
-    let Number::Got(n, d) = q else {
-        return type_refusal(q);
-    };
-    RuntimeTypeRead::Got(
+    let (n, d) = number_rttids(s, set, c, tape)?;
+    Ok((
         RuntimeTypeRecord {
             kind: RuntimeType::Tuple,
             first: reader::list_at(s, c, n),
             second: ListAt { start: 0, count: 0 },
         },
         d,
-    )
-}
-
-fn port(s: &[u8], c: Cursor, tape: &mut [u32]) -> RuntimeTypeRead
-    requires { ReadyAt s.now c }
-    ensures { TypeReader directed_format port_of s.now c tape.old result tape.new }
-{
-    let q1 = fields::number_direction(s, c, tape);
-    let Number::Got(dir, d) = q1 else {
-        return type_refusal(q1);
-    };
-    let q2 = fields::number_value_rttid(s, d, tape);
-    let Number::Got(elem, e) = q2 else {
-        return type_refusal(q2);
-    };
-    let kind = RuntimeType::Port {
-        dir: dir as u8,
-        elem: elem as u32,
-    };
-    RuntimeTypeRead::Got(bare(kind), e)
+    ))
 }
 
 // ---- the section
@@ -354,39 +263,56 @@ pub fn runtime_type(
     c: Cursor,
     again: bool,
     tape: &mut [u32],
-) -> RuntimeTypeRead
-    requires { (ReadyAt s.now c) × (Accepted again (type_format (settings_of set.now)) s.now (Taken c)) }
-    ensures { TypeReader (type_format (settings_of set.now)) runtime_type_of s.now c
+) -> Read<RuntimeTypeRecord>
+    requires { (ReadyAt s.now c) × (Accepted again (type_format (settings_of set.now)) s.now (Ok c)) }
+    ensures { RecordOf (type_format (settings_of set.now)) runtime_type_of s.now c
         tape.old result tape.new }
 {
-    let q = fields::number_runtime_tag(s, c, tape);
-    let Number::Got(tag, d) = q else {
-        return type_refusal(q);
-    };
+    let (tag, d) = fields::number_runtime_tag(s, c, tape)?;
     match tag {
         0 => basic(s, d, tape),
         1 => named(s, d, tape),
-        2 => pointer(s, d, tape),
+        2 => {
+            let (elem, e) = one_rttid(s, d, tape)?;
+            Ok((bare(RuntimeType::Pointer(elem)), e))
+        }
         3 => array(s, d, tape),
-        4 => slice(s, d, tape),
+        4 => {
+            let (elem, e) = one_rttid(s, d, tape)?;
+            Ok((bare(RuntimeType::Slice(elem)), e))
+        }
         5 => map(s, d, tape),
-        6 => chan(s, d, tape),
+        6 => {
+            let ((dir, elem), e) = directed(s, d, tape)?;
+            Ok((bare(RuntimeType::Chan { dir, elem }), e))
+        }
         7 => func(s, set, d, tape),
         8 => struct_type(s, set, d, again, tape),
         9 => interface(s, set, d, again, tape),
         10 => tuple(s, set, d, tape),
-        11 => port(s, d, tape),
-        _ => RuntimeTypeRead::Got(bare(RuntimeType::Island), d),
+        11 => {
+            let ((dir, elem), e) = directed(s, d, tape)?;
+            Ok((bare(RuntimeType::Port { dir, elem }), e))
+        }
+        _ => Ok((bare(RuntimeType::Island), d)),
     }
 }
 
-// An item's refusal, passed up.
-fn type_step(q: RuntimeTypeRead) -> Step
-    ensures { result ≡ type_step q }
-{
-    match q {
-        RuntimeTypeRead::Got(_, c) => Step::Taken(c),
-        RuntimeTypeRead::Not(x) => Step::Refused(x),
+// A runtime type of the list: its words alone.
+#[derive(Drop)]
+struct Item<'a> {
+    set: &'a Settings,
+    again: bool,
+}
+
+impl Entry for Item<'_> {
+    ghost format = { λ x. type_format (settings_of x.set.now) };
+
+    ghost again = { λ x. x.again };
+
+    fn read(&self, s: &[u8], r: Step, tape: &mut [u32]) -> Step {
+        let (_, d) = runtime_type(s, self.set, r?, self.again, tape)?;
+        Ok(d)
     }
 }
 
@@ -395,22 +321,5 @@ pub fn runtime_types(s: &[u8], set: &Settings, r: Step, again: bool, tape: &mut 
     ensures { Reader (type_list (settings_of set.now)) s.now r tape.old result
         tape.new }
 {
-    let Step::Taken(c) = r else {
-        return r;
-    };
-    let q = fields::number_count(s, set, c, sizes::RUNTIME_TYPE, tape);
-    let Number::Got(n, d) = q else {
-        return reader::step_of(q);
-    };
-    let mut k = n;
-    let mut here = d;
-    while 0 < k {
-        let item = runtime_type(s, set, here, again, tape);
-        let RuntimeTypeRead::Got(_, next) = item else {
-            return type_step(item);
-        };
-        here = next;
-        k -= 1;
-    }
-    Step::Taken(here)
+    lists::read_list(s, set, r, sizes::RUNTIME_TYPE, &Item { set, again }, tape)
 }

@@ -6,7 +6,8 @@ ghost use Rattle.vob24.specs.Settings.{settings};
 ghost use Rattle.vob24_data.specs.Sections.{section_of, functions_of};
 ghost use Rattle.calls.specs.Contract.{SectionCall};
 
-use calls::Answer;
+use calls::Taken;
+use reader::Refusal;
 use vob24_data::Section;
 
 pub fn read_section(
@@ -15,17 +16,14 @@ pub fn read_section(
     place: usize,
     budget: u64,
     tape: &mut [u32],
-) -> Answer
+) -> Result<Taken, Refusal>
     ensures { SectionCall settings (functions_of section) (section_of section) pack.now place budget
         tape.old result tape.new }
 {
     let set = &vob24_data::MEASURED;
     let start = calls::opening(pack, place, budget);
     let first = deserialize::section(pack, set, section, start, false, &mut tape[..0]);
-    let answer = calls::closed(first, place, budget, tape.len());
-    let Answer::Taken { .. } = answer else {
-        return answer;
-    };
-    deserialize::section(pack, set, section, start, true, tape);
-    answer
+    let taken = calls::closed(first, place, budget, tape.len())?;
+    let _ = deserialize::section(pack, set, section, start, true, tape);
+    Ok(taken)
 }

@@ -1,50 +1,36 @@
--- The laws of select cases: their record by the tag, their answers' steps by their cases.
-use Prim.Native.Nat.{ℕ}
-use mathlib.Core.Path.{◌≡◌}
-use mathlib.Core.List.{List, [], ◌∷◌}
-use native.Mathlib.Omega.{arith}
-use lib.ListN.{get_or}
-use Rattle.format.specs.Format.{number, empty}
+-- The laws of select cases: their record by the tag.
+use Rattle.std.specs.Prelude.{ℕ, ◌≡◌, List, [], ◌∷◌, Ok}
+use Rattle.std.proofs.Common.{arith, get_or}
+use Rattle.format.specs.Format.{Value, number, Format, empty}
 use Rattle.vob24.specs.Grammar.{select_case, select_variants}
 use Rattle.fields.specs.Fields.{select_tag}
-use Rattle.reader.specs.Contract.{NumberOf}
+use Rattle.reader.specs.Contract.{NumberOf, Step, Read}
 use Rattle.reader.specs.declared.Cursor.{Cursor}
-use Rattle.reader.specs.declared.Refusal.{Refusal}
-use Rattle.reader.specs.declared.Step.{Step}
-use Rattle.reader.specs.declared.Step.TheVariants.{Taken, Refused}
-use Rattle.reader.specs.declared.Number.{Number}
-use Rattle.reader.specs.declared.Number.TheVariants.{Got}
-use Rattle.reader.proofs.Leaves.{got-up, not-up}
+use Rattle.reader.specs.Recorded.{Recorded, RecordOf, recorded, unrecorded}
+use Rattle.reader.proofs.Errors.{apart}
 use Rattle.reader.proofs.Parts.{tag-most-bare}
-use Rattle.reader.specs.Recorded.{Recorded}
 use Rattle.reader.proofs.Recording.{variant_at}
 use Rattle.select_case.specs.Records.{send_of, recv_of, select_of}
-use Rattle.select_case.specs.Contract.{select_step}
 use Rattle.select_case.specs.declared.SelectCase.{SelectCase}
 use Rattle.select_case.specs.declared.SelectCase.TheVariants.{Send}
-use Rattle.select_case.specs.declared.SelectCaseRead.{SelectCaseRead}
+
+-- a law of a record and its step, as one of the answer
+pub record_on : {R : Type 0} (o : R) {f g : Format} {of of' : ℕ → Value → R} {s : List ℕ} {c d : Cursor} {t t₁ t₂ : List ℕ} {q : Read R}
+    → ((r : Step) (x : R) → Recorded g of' s d t₁ r x t₂ → Recorded f of s c t r x t₂) → RecordOf g of' s d t₁ q t₂
+    → RecordOf f of s c t q t₂
+record_on o k (recorded a) = recorded (k _ _ a)
+record_on o k (unrecorded a) = unrecorded (k _ o (record { reader = a; is = λ d v i j. apart i })).reader
 
 -- ---- by the tag
 
-pub select_at : (k : ℕ) {s : List ℕ} {c d : Cursor} {q : Number} {n : ℕ} {x : SelectCase} {r : Step} {t t₁ t₂ : List ℕ}
-    → q ≡ Got n d → n ≡ k → NumberOf select_tag number s c t q t₁
-    → Recorded (get_or select_variants k empty) (λ p v. get_or (send_of p v ∷ recv_of p v ∷ []) k (Send 0 0 0)) s d t₁ r x t₂
-    → Recorded select_case select_of s c t r x t₂
+pub select_at : (k : ℕ) {s : List ℕ} {c d : Cursor} {q : Read ℕ} {n : ℕ} {p : Read SelectCase} {t t₁ t₂ : List ℕ}
+    → q ≡ Ok (n, d) → n ≡ k → NumberOf select_tag number s c t q t₁
+    → RecordOf (get_or select_variants k empty) (λ p v. get_or (send_of p v ∷ recv_of p v ∷ []) k (Send 0 0 0)) s d t₁ p t₂
+    → RecordOf select_case select_of s c t p t₂
 unfolding select_case select_of
-select_at k e i h m = variant_at select_variants (λ p v. send_of p v ∷ recv_of p v ∷ []) (Send 0 0 0) k e i h m
+select_at k e i h m = record_on (Send 0 0 0) (λ _ _. variant_at select_variants (λ p v. send_of p v ∷ recv_of p v ∷ []) (Send 0 0 0) k e i h) m
 
 -- a select case that is not 0 is 1
-pub select-one : {s : List ℕ} {c d : Cursor} {q : Number} {n : ℕ} {t t₁ : List ℕ} → q ≡ Got n d → (n ≡ 0 → ⊥)
+pub select-one : {s : List ℕ} {c d : Cursor} {q : Read ℕ} {n : ℕ} {t t₁ : List ℕ} → q ≡ Ok (n, d) → (n ≡ 0 → ⊥)
     → NumberOf select_tag number s c t q t₁ → n ≡ 1
 select-one e i h = let j = tag-most-bare e h in omega arith
-
--- ---- answers by their cases
-
-pub select-got : {q : SelectCaseRead} {x : SelectCase} {c : Cursor} → q ≡ SelectCaseRead.Got x c
-    → Taken c ≡ select_step q
-select-got e = rw e
-
-pub select-not : {q : SelectCaseRead} {x : Refusal} → q ≡ SelectCaseRead.Not x → Refused x ≡ select_step q
-select-not e = rw e
-
-pub ruleset answers = (got-up, not-up, select-got, select-not)

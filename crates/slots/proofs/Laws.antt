@@ -1,23 +1,21 @@
 -- The laws of short lists: a count and slot types that are tested first, and kept then.
-use Prim.Native.Nat.{ℕ, ◌+◌, ◌-◌, ◌*◌, ◌≤◌, ◌<◌}
-use mathlib.Core.Path.{◌≡◌, refl, sym, ◌∙◌}
-use mathlib.Core.List.{List, [], ◌∷◌}
-use native.Mathlib.Omega.{arith}
-use native.Mathlib.Nat.{mul-le-mul_right}
-use lib.ListN.{length, get_or, set}
+use Rattle.std.specs.Prelude.{ℕ, ◌+◌, ◌-◌, ◌*◌, ◌≤◌, ◌<◌, ◌≡◌, refl, List, [], ◌∷◌, Ok, length, set}
+use Rattle.std.proofs.Common.{sym, ◌∙◌, arith, add_assoc, get_or, mul-le-mul_right}
 use Rattle.format.specs.Format.{counted}
-use Rattle.format.specs.Reading.{little}
+use Rattle.format.specs.Reading.{little, part}
 use Rattle.vob24.specs.Refusals.{vector, invalid_slot_type}
 use Rattle.vob24.specs.Leaves.{free, slot_type, list_of}
 use Rattle.reader.specs.Contract.{cursor_at, ReadyAt, NumberOf, Kept}
 use Rattle.reader.specs.Leaves.{Fetches, there, past}
 use Rattle.reader.specs.declared.Cursor.{Cursor}
-use Rattle.reader.specs.declared.Number.TheVariants.{Got}
 use Rattle.reader.proofs.Laws.{turns-start, comes_then, turns-done}
+use Rattle.reader.proofs.Gather.{read_take, bytes_read}
 use Rattle.reader.proofs.Paying.{paid-yes}
-use Rattle.reader.proofs.Leaves.{fetched, fetch4, past-ready, counted-paid, count-then}
-use Rattle.reader.proofs.Keeping.{one-count, number-kept}
+use Rattle.reader.proofs.Leaves.{past-ready, counted-got, count-then}
+use Rattle.reader.proofs.Keeping.{one-count}
 use Rattle.reader.proofs.Numbering.{numbered_items}
+use Rattle.fields.specs.Kept.{kept_number}
+use Rattle.fields.proofs.Keeps.{number-kept}
 use Rattle.lists.specs.Runs.{words_at, Low, Copied, CopiedLow}
 use Rattle.lists.proofs.Copying.{byte_at}
 use Rattle.lists.proofs.Lows.{copied-start, copied_more}
@@ -48,13 +46,12 @@ pub good_of : {n m : ℕ} {s : List ℕ} {p at : ℕ} {t t' : List ℕ} → Read
     → m ≡ little (get_or s p 0 ∷ get_or s (p + 1) 0 ∷ get_or s (p + 2) 0 ∷ get_or s (p + 3) 0 ∷ [])
     → ((i : ℕ) → get_or s i 0 < 256) → m ≡ n → 0 < n → n ≤ 4 → CopiedLow n s (p + 4) 5 (set t at n) (at + 1) n t'
     → Keeps s p at t n t'
-good_of r l e b i h k m = let f = fetched refl (fetch4 r (omega arith) (sym i ∙ e) b) in kept (record { some = h; few = k; room = omega (arith, r.within); is = f.is; bytes = f.bytes; items = m })
+good_of {n} {m} {s} {p} {at} r l e b i h k items =
+    let take = read_take 4 s p (omega (arith, r.within)) in
+    let is : part s p 4 ≡ get_or s p 0 ∷ get_or s (p + 1) 0 ∷ get_or s (p + 2) 0 ∷ get_or s (p + 3) 0 ∷ [] = take ∙ simp add_assoc in
+    kept (record { some = h; few = k; room = omega (arith, r.within); is = sym i ∙ e ∙ rw is; bytes = rw take (bytes_read 4 s p b); items = items })
 
 -- ---- what is known of it
-
-pub keeps-few : {s : List ℕ} {p at : ℕ} {t : List ℕ} {n : ℕ} {t' : List ℕ} → Keeps s p at t n t' → n ≤ 4
-keeps-few (kept g) = g.few
-keeps-few other = omega arith
 
 pub keeps-good : {s : List ℕ} {p at : ℕ} {t : List ℕ} {n : ℕ} {t' : List ℕ} → 0 < n → Keeps s p at t n t'
     → Good s p at t n t'
@@ -72,12 +69,12 @@ few-paid n y h k = omega (arith, mul-le-mul_right y h)
 -- such a list is read
 pub good-list : {y z : ℕ} {s : List ℕ} {c g : Cursor} {t t' : List ℕ} {n : ℕ} → ReadyAt s c → y ≡ z → 4 * y ≤ c.left
     → Good s c.place c.at t n t' → g ≡ cursor_at (c.place + 4 + n) (c.left - n * y) (c.at + 1 + n)
-    → NumberOf (list_of free z slot_type) counted s c t (Got n g) t'
+    → NumberOf (list_of free z slot_type) counted s c t (Ok (n, g)) t'
 good-list {y} {z} {s} {c} {g} {t} {t'} {n} r e l h i =
-    let f : Fetches 4 s c (Got n (past 4 c)) = there (record { room = omega (arith, h.room); is = h.is; bytes = h.bytes; next = refl }) in
+    let f : Fetches 4 s c (Ok (n, past 4 c)) = there (record { room = omega (arith, h.room); is = h.is; bytes = h.bytes; next = refl }) in
     let d : Cursor = cursor_at (c.place + 4) (c.left - n * z) c.at in
-    let a = count-then {m = 1} {k = vector} {z = z} refl f refl (counted-paid {n = n} {m = 1} {k = vector} {z = z} (past-ready r refl f) (omega (arith, h.room)) (paid-yes (few-paid n z h.few (rw e at l))) refl) in
+    let a = count-then {m = 1} {k = vector} {z = z} refl f refl (counted-got {n = n} {m = 1} {k = vector} {z = z} (past-ready r refl f) (omega (arith, h.room)) (paid-yes (few-paid n z h.few (rw e at l))) refl) in
     let k : Kept d n t (cursor_at (c.place + 4) (c.left - n * z) (c.at + 1)) (set t c.at n) = record { is = refl; writes = refl } in
-    let m = number-kept r refl a one-count k in
+    let m = number-kept r one-count a (kept_number k) in
     let u = runs-low invalid_slot_type {n = n} m.ready (omega arith) h.room h.items.low h.items.copied refl in
-    rw (i, e) (numbered_items refl m slot_type (comes_then u (turns-done (omega arith) (turns-start u.ready))) refl)
+    rw (i, e) (numbered_items refl m slot_type refl (comes_then u (turns-done (omega arith) (turns-start u.ready))))

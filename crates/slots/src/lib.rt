@@ -10,27 +10,22 @@ ghost use Rattle.vob24.specs.Grammar.{slot_types};
 ghost use Rattle.reader.specs.Contract.{cursor_at, Ready, ReadyAt, Reader, NumberOf};
 ghost use Rattle.slots.specs.Short.{Keeps};
 
-use reader::{Cursor, Number, Step, sizes};
+use reader::{Cursor, Read, Step, sizes};
 use vob24_data::Settings;
 
 // A list of any length.
-fn number_any(s: &[u8], set: &Settings, c: Cursor, tape: &mut [u32]) -> Number
+fn number_any(s: &[u8], set: &Settings, c: Cursor, tape: &mut [u32]) -> Read<u64>
     requires { ReadyAt s.now c }
     ensures { NumberOf (slot_types (settings_of set.now)) counted s.now c
         tape.old result tape.new }
 {
-    let q = fields::number_count(s, set, c, sizes::SLOT_TYPE, tape);
-    let Number::Got(n, d) = q else {
-        return q;
-    };
-    let r = lists::slot_types(s, d, n, tape);
-    let Step::Taken(e) = r else {
-        return reader::number_of(n, r);
-    };
-    Number::Got(n, e)
+    let (n, d) = fields::number_count(s, set, c, sizes::SLOT_TYPE, tape)?;
+    let e = lists::slot_types(s, d, n, tape)?;
+    Ok((n, e))
 }
 
-// Keeps the words of a list of one to four valid slot types at `place`, and returns its count; 0 for any other list.
+// Keeps the words of a list of one to four valid slot types at `place`, and returns its count; 0 for any other list, as an
+// Option takes 1 to 4 instructions more a list. The four blocks stay, as one function of a const count takes 3 to 23 more.
 fn short(s: &[u8], place: usize, at: usize, tape: &mut [u32]) -> usize
     requires { ReadyAt s.now (cursor_at place 0 at) }
     ensures { Keeps s.now place at tape.old result tape.new }
@@ -86,7 +81,7 @@ fn short(s: &[u8], place: usize, at: usize, tape: &mut [u32]) -> usize
 
 // Also returns the count. Where four can be paid, the short way asks nothing of the budget. `number_any` gets copies: a
 // value whose address escapes is spilled on the short way too.
-pub fn number_slot_types(s: &[u8], set: &Settings, c: Cursor, tape: &mut [u32]) -> Number
+pub fn number_slot_types(s: &[u8], set: &Settings, c: Cursor, tape: &mut [u32]) -> Read<u64>
     requires { ReadyAt s.now c }
     ensures { NumberOf (slot_types (settings_of set.now)) counted s.now c
         tape.old result tape.new }
@@ -98,20 +93,19 @@ pub fn number_slot_types(s: &[u8], set: &Settings, c: Cursor, tape: &mut [u32]) 
         let at = c.at;
         let n = short(s, place, at, tape);
         if 0 < n {
-            return Number::Got(
+            return Ok((
                 n as u64,
                 Cursor {
                     place: place + 4 + n,
                     left: left - (n as u64) * size,
                     at: at + 1 + n,
                 },
-            );
+            ));
         }
     }
     let pack = s;
     let start = c;
-    let any = number_any(pack, set, start, tape);
-    any
+    number_any(pack, set, start, tape)
 }
 
 // The short way is here a second time: with `number_any` called at one place only, the compiler would inline it there,
@@ -121,9 +115,7 @@ pub fn slot_types(s: &[u8], set: &Settings, r: Step, tape: &mut [u32]) -> Step
     ensures { Reader (slot_types (settings_of set.now)) s.now r tape.old result
         tape.new }
 {
-    let Step::Taken(c) = r else {
-        return r;
-    };
+    let c = r?;
     let size = vob24_data::size(set, sizes::SLOT_TYPE);
     let left = c.left;
     if 4 * size <= left {
@@ -131,7 +123,7 @@ pub fn slot_types(s: &[u8], set: &Settings, r: Step, tape: &mut [u32]) -> Step
         let at = c.at;
         let n = short(s, place, at, tape);
         if 0 < n {
-            return Step::Taken(Cursor {
+            return Ok(Cursor {
                 place: place + 4 + n,
                 left: left - (n as u64) * size,
                 at: at + 1 + n,
@@ -140,6 +132,6 @@ pub fn slot_types(s: &[u8], set: &Settings, r: Step, tape: &mut [u32]) -> Step
     }
     let pack = s;
     let start = c;
-    let any = number_any(pack, set, start, tape);
-    reader::step_of(any)
+    let (_, d) = number_any(pack, set, start, tape)?;
+    Ok(d)
 }

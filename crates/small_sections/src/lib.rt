@@ -2,12 +2,14 @@
 // Ports what Module::deserialize of serialize.rs reads into the records of bytecode.rs.
 #![tactic(auto)]
 
+ghost use Rattle.std.specs.Prelude.{Bool, false};
 ghost use Rattle.vob24.specs.Settings.{settings_of};
 ghost use Rattle.vob24.specs.Leaves.{u32};
 ghost use Rattle.reader.specs.Contract.{Ready, Reader};
 ghost use Rattle.small_sections.specs.Tables.{itab_methods, itab_format, itab_list, field_offsets, error_format, object_format, well_known, global_format, global_list, artifact_format, artifact_list};
 
-use reader::{Number, Step, sizes};
+use lists::Entry;
+use reader::{Step, sizes};
 use vob24_data::Settings;
 
 fn itab_methods(s: &[u8], set: &Settings, r: Step, tape: &mut [u32]) -> Step
@@ -15,23 +17,24 @@ fn itab_methods(s: &[u8], set: &Settings, r: Step, tape: &mut [u32]) -> Step
     ensures { Reader (itab_methods (settings_of set.now)) s.now r tape.old result
         tape.new }
 {
-    let Step::Taken(c) = r else {
-        return r;
-    };
-    let q = fields::number_count(s, set, c, sizes::U32, tape);
-    let Number::Got(n, d) = q else {
-        return reader::step_of(q);
-    };
+    let (n, d) = fields::number_count(s, set, r?, sizes::U32, tape)?;
     lists::u32s(s, d, n, tape)
 }
 
-fn itab(s: &[u8], set: &Settings, r: Step, tape: &mut [u32]) -> Step
-    requires { Ready s.now r }
-    ensures { Reader (itab_format (settings_of set.now)) s.now r tape.old result
-        tape.new }
-{
-    let iface_meta_id = fields::field_u32(s, r, tape);
-    itab_methods(s, set, iface_meta_id, tape)
+#[derive(Clone, Copy)]
+struct Itab<'a> {
+    set: &'a Settings,
+}
+
+impl Entry for Itab<'_> {
+    ghost format = { λ x. itab_format (settings_of x.set.now) };
+
+    ghost again = { λ _. false };
+
+    fn read(&self, s: &[u8], r: Step, tape: &mut [u32]) -> Step {
+        let iface_meta_id = fields::field_u32(s, r, tape);
+        itab_methods(s, self.set, iface_meta_id, tape)
+    }
 }
 
 pub fn itabs(s: &[u8], set: &Settings, r: Step, tape: &mut [u32]) -> Step
@@ -39,23 +42,7 @@ pub fn itabs(s: &[u8], set: &Settings, r: Step, tape: &mut [u32]) -> Step
     ensures { Reader (itab_list (settings_of set.now)) s.now r tape.old result
         tape.new }
 {
-    let Step::Taken(c) = r else {
-        return r;
-    };
-    let q = fields::number_count(s, set, c, sizes::ITAB, tape);
-    let Number::Got(n, d) = q else {
-        return reader::step_of(q);
-    };
-    let mut k = n;
-    let mut here = Step::Taken(d);
-    while 0 < k {
-        here = itab(s, set, here, tape);
-        let Step::Taken(_) = here else {
-            return here;
-        };
-        k -= 1;
-    }
-    here
+    lists::read_list(s, set, r, sizes::ITAB, &Itab { set }, tape)
 }
 
 // ---- well-known ids
@@ -65,14 +52,8 @@ fn error_field_offsets(s: &[u8], r: Step, tape: &mut [u32]) -> Step
     requires { Ready s.now r }
     ensures { Reader field_offsets s.now r tape.old result tape.new }
 {
-    let Step::Taken(c) = r else {
-        return r;
-    };
-    let q = fields::number_bool(s, c, tape);
-    let Number::Got(n, d) = q else {
-        return reader::step_of(q);
-    };
-    let here = Step::Taken(d);
+    let (n, d) = fields::number_bool(s, r?, tape)?;
+    let here = Ok(d);
     if n == 0 {
         return here;
     }
@@ -112,16 +93,23 @@ pub fn well_known(s: &[u8], r: Step, tape: &mut [u32]) -> Step
 
 // ---- globals and single ids
 
-fn global(s: &[u8], set: &Settings, r: Step, tape: &mut [u32]) -> Step
-    requires { Ready s.now r }
-    ensures { Reader (global_format (settings_of set.now)) s.now r tape.old result
-        tape.new }
-{
-    let name = fields::field_str(s, r, tape);
-    let slots = fields::field_u16(s, name, tape);
-    let value_kind = fields::field_value_kind(s, slots, tape);
-    let meta_id = fields::field_u32(s, value_kind, tape);
-    slots::slot_types(s, set, meta_id, tape)
+#[derive(Clone, Copy)]
+struct Global<'a> {
+    set: &'a Settings,
+}
+
+impl Entry for Global<'_> {
+    ghost format = { λ x. global_format (settings_of x.set.now) };
+
+    ghost again = { λ _. false };
+
+    fn read(&self, s: &[u8], r: Step, tape: &mut [u32]) -> Step {
+        let name = fields::field_str(s, r, tape);
+        let slots = fields::field_u16(s, name, tape);
+        let value_kind = fields::field_value_kind(s, slots, tape);
+        let meta_id = fields::field_u32(s, value_kind, tape);
+        slots::slot_types(s, self.set, meta_id, tape)
+    }
 }
 
 pub fn globals(s: &[u8], set: &Settings, r: Step, tape: &mut [u32]) -> Step
@@ -129,23 +117,7 @@ pub fn globals(s: &[u8], set: &Settings, r: Step, tape: &mut [u32]) -> Step
     ensures { Reader (global_list (settings_of set.now)) s.now r tape.old result
         tape.new }
 {
-    let Step::Taken(c) = r else {
-        return r;
-    };
-    let q = fields::number_count(s, set, c, sizes::GLOBAL_DEF, tape);
-    let Number::Got(n, d) = q else {
-        return reader::step_of(q);
-    };
-    let mut k = n;
-    let mut here = Step::Taken(d);
-    while 0 < k {
-        here = global(s, set, here, tape);
-        let Step::Taken(_) = here else {
-            return here;
-        };
-        k -= 1;
-    }
-    here
+    lists::read_list(s, set, r, sizes::GLOBAL_DEF, &Global { set }, tape)
 }
 
 pub fn entry(s: &[u8], r: Step, tape: &mut [u32]) -> Step
@@ -164,14 +136,21 @@ pub fn island_init(s: &[u8], r: Step, tape: &mut [u32]) -> Step
 
 // ---- artifacts
 
-fn artifact(s: &[u8], set: &Settings, r: Step, tape: &mut [u32]) -> Step
-    requires { Ready s.now r }
-    ensures { Reader (artifact_format (settings_of set.now)) s.now r tape.old result
-        tape.new }
-{
-    let name = fields::field_artifact_name(s, set, r, tape);
-    let version = fields::field_u32(s, name, tape);
-    fields::field_artifact_payload(s, set, version, tape)
+#[derive(Clone, Copy)]
+struct Artifact<'a> {
+    set: &'a Settings,
+}
+
+impl Entry for Artifact<'_> {
+    ghost format = { λ x. artifact_format (settings_of x.set.now) };
+
+    ghost again = { λ _. false };
+
+    fn read(&self, s: &[u8], r: Step, tape: &mut [u32]) -> Step {
+        let name = fields::field_artifact_name(s, self.set, r, tape);
+        let version = fields::field_u32(s, name, tape);
+        fields::field_artifact_payload(s, self.set, version, tape)
+    }
 }
 
 pub fn artifacts(s: &[u8], set: &Settings, r: Step, tape: &mut [u32]) -> Step
@@ -179,21 +158,6 @@ pub fn artifacts(s: &[u8], set: &Settings, r: Step, tape: &mut [u32]) -> Step
     ensures { Reader (artifact_list (settings_of set.now)) s.now r tape.old result
         tape.new }
 {
-    let Step::Taken(c) = r else {
-        return r;
-    };
-    let q = fields::number_artifact_count(s, set, c, tape);
-    let Number::Got(n, d) = q else {
-        return reader::step_of(q);
-    };
-    let mut k = n;
-    let mut here = Step::Taken(d);
-    while 0 < k {
-        here = artifact(s, set, here, tape);
-        let Step::Taken(_) = here else {
-            return here;
-        };
-        k -= 1;
-    }
-    here
+    let (n, d) = fields::number_artifact_count(s, set, r?, tape)?;
+    lists::entries(s, Ok(d), n, &Artifact { set }, tape)
 }

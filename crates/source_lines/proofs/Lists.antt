@@ -1,9 +1,6 @@
 -- The laws of a list that was read: a count, and so many items. They stand in alike_names too, and go to in_place with
 -- the request.
-use Prim.Native.Nat.{ℕ, suc, zero, ◌+◌, ◌≤◌}
-use mathlib.Core.Path.{◌≡◌, ap, sym, ◌∙◌}
-use mathlib.Core.List.{List}
-use lib.ListN.{length}
+use Rattle.std.proofs.Common.{ℕ, suc, zero, ◌+◌, ◌≤◌, ◌≡◌, ap, sym, ◌∙◌, List, length}
 use Rattle.format.specs.Trace.{out, Ends}
 use Rattle.format.specs.Format.{Value, num, number, Rule, count, Format, leaf, seq, chain, times, entries}
 use Rattle.format.specs.Reading.{little, part, trace}

@@ -1,13 +1,6 @@
 -- The laws of the best entry, of a function's locations, and of the lists of a pack.
-use Prim.Native.Nat.{ℕ, suc, zero, ◌+◌, ◌-◌, ◌*◌, ◌≤◌, ◌<◌}
-use mathlib.Core.Path.{◌≡◌, refl, ap, sym, ◌∙◌}
-use mathlib.Core.List.{List, map}
-use mathlib.Core.Bool.{Bool, true, false, ◌&&◌}
-use native.Mathlib.Omega.{arith}
-use native.Mathlib.Numerals.{add-one}
-use lib.ListN.{length, get_or}
-use lib.Dec.{leb}
-use borrow.Author.Tests.{leb-false, lt-ltb, le-ltb}
+use Rattle.std.proofs.Common.{ℕ, suc, zero, ◌+◌, ◌-◌, ◌*◌, ◌≤◌, ◌<◌, ◌≡◌, refl, ap, sym, ◌∙◌, List, map, Bool, true, false, ◌&&◌, arith, add-one, length, get_or, leb, lt-ltb, le-ltb, Option, Some, None, Ok, Err}
+use Rattle.std.specs.Option.{option_map}
 use Rattle.format.specs.Trace.{pick}
 use Rattle.format.specs.Format.{none, number, Format}
 use Rattle.format.specs.Reading.{little, part}
@@ -21,45 +14,45 @@ use Rattle.in_place.specs.Contract.{WordIs, Placed, Past, Items}
 use Rattle.in_place.proofs.Walking.{items-here, items-next, items-cons, Walking, walking_here}
 use Rattle.source_lines.proofs.Lists.{list-stands}
 use Rattle.source_lines.specs.Packed.{Skips, LocationIs}
-use Rattle.source_lines.specs.Contract.{location_list, numbered, best_of, Zeroed, BestIs, ListIs, FunctionsAt, LineFrom}
+use Rattle.source_lines.specs.Contract.{answer_of, location_list, best_of, BestIs, ListIs, FunctionsAt, LineFrom}
 use Rattle.source_lines.specs.declared.Best.{Best}
-use Rattle.source_lines.specs.declared.SourceLine.{SourceLine}
 use Rattle.source_lines.specs.declared.packed.Packed.{Packed}
 use Rattle.source_lines.proofs.Skips.{list-end}
 
 -- ---- the best entry
 
-module _ (b : Best) (i a pc : ℕ) where
+-- the address that an entry must reach
+abbrev pub least_of : Option Best → ℕ
+least_of None = 0
+least_of (Some b) = b.pc
+
+module _ (b : Option Best) (i a pc : ℕ) {m : ℕ} (e : m ≡ least_of b) where
   -- at or below the address, and not below the best
-  pub better-taken : (leb b.pc pc && leb pc a) ≡ true
-      → (best_of (record { entry = i + 1; pc = pc }) ≡ source.better a (best_of b) i pc) × Zeroed (record { entry = i + 1; pc = pc })
+  pub better-taken : (leb m pc && leb pc a) ≡ true → source.at i pc ≡ source.better a (best_of b) i pc
   unfolding pick
-  better-taken h = (rw (add-one i) (go b.entry (leb b.pc pc) refl (leb pc a) refl h), record { none = λ e. absurd (omega arith) })
+  better-taken h = go b (leb pc a) refl (rw e at h)
     where
-      go : (n : ℕ) (d : Bool) → leb b.pc pc ≡ d → (e : Bool) → leb pc a ≡ e → (d && e) ≡ true
-          → source.at i pc ≡ source.better a (numbered n b.pc) i pc
-      go zero true x true y f = rw y
-      go zero true x false y f = let no : ◌≡◌ {A = ℕ} 0 1 = cc in absurd (omega arith)
-      go zero false x e y f = let no : ◌≡◌ {A = ℕ} 0 1 = cc in absurd (omega arith)
-      go (suc j) true x true y f = rw (y, x)
-      go (suc j) true x false y f = let no : ◌≡◌ {A = ℕ} 0 1 = cc in absurd (omega arith)
-      go (suc j) false x e y f = let no : ◌≡◌ {A = ℕ} 0 1 = cc in absurd (omega arith)
+      go : (b : Option Best) (d : Bool) → leb pc a ≡ d → (leb (least_of b) pc && d) ≡ true
+          → source.at i pc ≡ source.better a (best_of b) i pc
+      go None true x f = rw x
+      go None false x f = let no : ⊥ = grind arith in absurd no
+      go (Some b) true x f = let y : leb b.pc pc ≡ true = grind arith in rw (x, y)
+      go (Some b) false x f = let no : ⊥ = grind arith in absurd no
 
   -- any other
-  pub better-left : (leb b.pc pc && leb pc a) ≡ false → Zeroed b
-      → (best_of b ≡ source.better a (best_of b) i pc) × Zeroed b
+  pub better-left : {d : Option Best} → d ≡ b → (leb m pc && leb pc a) ≡ false → best_of d ≡ source.better a (best_of b) i pc
   unfolding pick
-  better-left h z = (go b.entry z.none (leb b.pc pc) refl (leb pc a) refl h, z)
+  better-left o h = rw o (go b (leb pc a) refl (rw e at h))
     where
-      go : (n : ℕ) → (n ≡ 0 → b.pc ≡ 0) → (d : Bool) → leb b.pc pc ≡ d → (e : Bool) → leb pc a ≡ e → (d && e) ≡ false
-          → numbered n b.pc ≡ source.better a (numbered n b.pc) i pc
-      go zero k true x true y f = let no : ◌≡◌ {A = ℕ} 0 1 = cc in absurd (omega arith)
-      go zero k true x false y f = rw y
-      go zero k false x e y f = absurd (omega (arith, leb-false b.pc pc x, k refl))
-      go (suc j) k true x true y f = let no : ◌≡◌ {A = ℕ} 0 1 = cc in absurd (omega arith)
-      go (suc j) k true x false y f = rw y
-      go (suc j) k false x true y f = rw (y, x)
-      go (suc j) k false x false y f = rw y
+      go : (b : Option Best) (d : Bool) → leb pc a ≡ d → (leb (least_of b) pc && d) ≡ false
+          → best_of b ≡ source.better a (best_of b) i pc
+      go b false x f = out b x
+        where
+          out : (b : Option Best) → leb pc a ≡ false → best_of b ≡ source.better a (best_of b) i pc
+          out None x = rw x
+          out (Some b) x = rw x
+      go None true x f = let no : ⊥ = grind arith in absurd no
+      go (Some b) true x f = let y : leb b.pc pc ≡ false = grind arith in rw (x, y)
 
 -- ---- the loop of `best_of`
 
@@ -68,24 +61,23 @@ abbrev pcs_at : ℕ → List ℕ → ℕ → List ℕ
 pcs_at n s p = map (λ v. number (location_of v).pc) (items_at location n s p)
 
 -- After i of n locations from p on, the best of them is b, and those from `at` on are to come.
-pub record Going (s : List ℕ) (p n a : ℕ) (b : Best) (at i : ℕ) : Type 0 where
+pub record Going (s : List ℕ) (p n a : ℕ) (b : Option Best) (at i : ℕ) : Type 0 where
   pub items : Items location (n - i) s at
   pub rest : source.best a (pcs_at n s p) ≡ source.best_from a i (best_of b) (pcs_at (n - i) s at)
-  pub zeroed : Zeroed b
 
 module _ {s : List ℕ} {p n : ℕ} (a : ℕ) where
-  pub going_start : Items location n s p → Going s p n a (record { entry = 0; pc = 0 }) p 0
+  pub going_start : Items location n s p → Going s p n a None p 0
   going_start h =
       let e : n - 0 ≡ n = omega arith in
-      record { items = rw e h; rest = rw e; zeroed = record { none = λ _. refl } }
+      record { items = rw e h; rest = rw e }
 
-  module _ {b : Best} {at i : ℕ} (l : Going s p n a b at i) where
+  module _ {b : Option Best} {at i : ℕ} (l : Going s p n a b at i) where
     module _ (h : i < n) where
       pub going-here : Placed location s at
       going-here = items-here {k = n - i} (omega arith) l.items
 
-      pub going_more : {x : Packed} {d : Best} → LocationIs s at x
-          → (best_of d ≡ source.better a (best_of b) i x.value) × Zeroed d → Going s p n a d x.next (i + 1)
+      pub going_more : {x : Packed} {d : Option Best} → LocationIs s at x
+          → best_of d ≡ source.better a (best_of b) i x.value → Going s p n a d x.next (i + 1)
       unfolding source.best_from
       going_more {x} {d} w k =
           let f : Past location s at x.next = record { is = w.next } in
@@ -93,8 +85,7 @@ module _ {s : List ℕ} {p n : ℕ} (a : ℕ) where
           let c = items-cons {k = n - i} (omega arith) l.items f in
           record {
             items = rw e at (items-next {k = n - i} (omega arith) l.items f);
-            rest = l.rest ∙ ap (λ vs. source.best_from a i (best_of b) (map (λ v. number (location_of v).pc) vs)) c ∙ rw (k.0, w.pc, e, add-one i);
-            zeroed = k.1;
+            rest = l.rest ∙ ap (λ vs. source.best_from a i (best_of b) (map (λ v. number (location_of v).pc) vs)) c ∙ rw (k, w.pc, e, add-one i);
           }
 
     pub going_done : n ≤ i → BestIs s p n a b
@@ -133,26 +124,23 @@ module _ (set : Settings) {s : List ℕ} {p n : ℕ} (h : FunctionsAt set s p) (
 
   module _ (f a : ℕ) (c : Cursor) where
     pub line-past : n ≤ f
-        → LineFrom set s p f a c (SourceLine.Not (record { number = source.no_such_function; context = 0; detail1 = f; detail2 = n; place = c.place; left = c.left }))
+        → LineFrom set s p f a c (Err (record { number = source.no_such_function; context = 0; detail1 = f; detail2 = n; place = c.place; left = c.left }))
     unfolding pick
     line-past l = record { is = rw (← w.is, le-ltb f (length (items_at (location_list set) n s (p + 4))) (omega (arith, lists_length)), lists_length) }
 
-    module _ (l : f < n) {q m : ℕ} (k : ListIs set s (p + 4) f q) (u : WordIs s q m) {b : Best} (v : BestIs s (q + 4) m a b) where
+    module _ (l : f < n) {q m : ℕ} (k : ListIs set s (p + 4) f q) (u : WordIs s q m) {b : Option Best} (v : BestIs s (q + 4) m a b) where
       line-is : source.line_in f a (items_at (location_list set) (little (part s p 4)) s (p + 4)) c.place c.left ≡ source.shown (best_of b)
       unfolding pick
       line-is =
           rw (← w.is, lt-ltb f (length (items_at (location_list set) n s (p + 4))) (omega (arith, lists_length)), items-get (location_list set) n s (p + 4) f l, ← k.is)
           (ap (λ pcs. source.shown (source.best a pcs)) (list-addresses set k.placed u) ∙ rw v.is)
 
-      pub line-none : b.entry ≡ 0 → LineFrom set s p f a c SourceLine.None
-      line-none e = record { is = sym (line-is ∙ rw e) }
-
-      pub line-entry : (b.entry ≡ 0 → ⊥) → LineFrom set s p f a c (SourceLine.Entry (b.entry - 1))
-      line-entry e = record { is = sym (line-is ∙ go b.entry e) }
+      pub line-shown : {e : Option ℕ} → e ≡ option_map (λ d. d.entry) b → LineFrom set s p f a c (Ok e)
+      line-shown {e} x = record { is = sym (line-is ∙ rw x (go b)) }
         where
-          go : (i : ℕ) → (i ≡ 0 → ⊥) → source.shown (numbered i b.pc) ≡ source.Entry (i - 1)
-          go zero h = absurd (h refl)
-          go (suc i) h = let e : suc i - 1 ≡ i = omega arith in rw e
+          go : (b : Option Best) → source.shown (best_of b) ≡ answer_of (Ok (option_map (λ d. d.entry) b))
+          go None = refl
+          go (Some d) = refl
 
 pub list-told : {set : Settings} {s : List ℕ} {p n q i k : ℕ} → k < n → i ≡ k → Walking (location_list set) s p n q i → ListIs set s p k q
 list-told l e w = rw (← e) (record { is = w.here; placed = walking_here (omega arith) w })

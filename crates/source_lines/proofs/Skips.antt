@@ -1,13 +1,5 @@
 -- The laws of packed numbers that were read, by the bytes that end them.
-use Prim.Native.Nat.{ℕ, suc, zero, ◌+◌, ◌-◌, ◌*◌, ◌≤◌, ◌<◌}
-use mathlib.Core.Path.{◌≡◌, refl, ap, sym, ◌∙◌}
-use mathlib.Core.List.{List}
-use mathlib.Core.Bool.{Bool, true, false}
-use native.Mathlib.Omega.{arith}
-use native.Mathlib.Numerals.{add-one}
-use lib.ListN.{length, get_or}
-use lib.Dec.{ltb, leb→le}
-use borrow.Author.Tests.{ltb-true, ltb-false, lt-ltb, le-ltb}
+use Rattle.std.proofs.Common.{ℕ, suc, zero, ◌+◌, ◌-◌, ◌*◌, ◌≤◌, ◌<◌, ◌≡◌, refl, ap, sym, ◌∙◌, List, Bool, true, false, arith, add-one, length, get_or, ltb, leb→le, ltb-true, ltb-false, lt-ltb, le-ltb, Ok, Err}
 use Rattle.format.specs.Trace.{pick, out, Ends, amounts, sum, total}
 use Rattle.format.specs.Format.{num, number, first, packed}
 use Rattle.format.specs.Reading.{little, part, packed_step, trace_packed, trace_leaf, trace}
@@ -18,12 +10,10 @@ use Rattle.vob24.specs.Settings.{max_pack_bytes}
 use Rattle.vob24.specs.Leaves.{source_u32}
 use Rattle.vob24.specs.Fields.{location_of}
 use Rattle.vob24.specs.Grammar.{location}
-use Rattle.reader.specs.Contract.{cursor_at, ReadyAt}
+use Rattle.reader.specs.Contract.{cursor_at, ReadyAt, Read}
 use Rattle.reader.specs.Leaves.{Answers, answered, denied}
 use Rattle.reader.proofs.Gather.{read_take}
 use Rattle.reader.specs.declared.Cursor.{Cursor}
-use Rattle.reader.specs.declared.Number.{Number}
-use Rattle.reader.specs.declared.Number.TheVariants.{Got, Not}
 use Rattle.reader.specs.declared.Refusal.{Refusal}
 use Rattle.in_place.specs.Walk.{Stands, value_at, next_at, last_at, AllStand, stand, parts, passed}
 use Rattle.in_place.specs.Contract.{Placed, Items}
@@ -142,22 +132,22 @@ module _ {s : List ℕ} {p : ℕ} (h : Placed source_u32 s p) where
   pub packed-ready : ReadyAt s (cursor_at p 0 0)
   packed-ready = record { small = h.small; within = omega (arith, packed-room); behind = omega arith }
 
-  module _ {q : Number} (a : Answers packed s (cursor_at p 0 0) q) where
-    pub packed-got : {n : ℕ} {d : Cursor} → q ≡ Got n d → PackedIs s p (record { value = n; next = d.place })
+  module _ {q : Read ℕ} (a : Answers packed s (cursor_at p 0 0) q) where
+    pub packed-got : {n : ℕ} {d : Cursor} → q ≡ Ok (n, d) → PackedIs s p (record { value = n; next = d.place })
     unfolding trace
     packed-got {n} {d} e = go (rw e at a)
       where
-        go : Answers packed s (cursor_at p 0 0) (Got n d) → PackedIs s p (record { value = n; next = d.place })
+        go : Answers packed s (cursor_at p 0 0) (Ok (n, d)) → PackedIs s p (record { value = n; next = d.place })
         go (answered x) =
             let y = stand ((settle-taken 0 (trace source_u32 s p) (num n) d.place d.left).0 x.settles).0 in
             record { value = sym (ap number y.value); next = sym y.next }
 
     -- what was read is not refused
-    pub packed-not : {x : Refusal} {r : Packed} → q ≡ Not x → PackedIs s p r
+    pub packed-not : {x : Refusal} {r : Packed} → q ≡ Err x → PackedIs s p r
     unfolding trace trace_leaf amounts sum
     packed-not {x} {r} e = go (rw e at a)
       where
-        go : Answers packed s (cursor_at p 0 0) (Not x) → PackedIs s p r
+        go : Answers packed s (cursor_at p 0 0) (Err x) → PackedIs s p r
         go (denied y) =
             let f : total (trace source_u32 s p) ≡ 0 = free-bind _ _ (packed-free 4 0 s p) (λ n q. refl) in
             let i = (settle-taken 0 (trace source_u32 s p) (value_at source_u32 s p) (next_at source_u32 s p) 0).1 (h.stands.ends, omega arith, omega arith) in
@@ -195,6 +185,9 @@ module _ {s : List ℕ} {p n : ℕ} where
       passing-next y =
           let x = skips-first l.rest h in
           record { small = l.small; end = l.end; whole = l.whole; rest = rw (skips-one x.1 y) at x.2 }
+
+    pub passing-on : {j : ℕ} → k ≡ j → Passing s p n at j
+    passing-on e = rw e at l
 
     pub passing-done : k ≤ 0 → Skips s n p at
     passing-done h = rw (skips-none l.rest h) l.whole

@@ -8,7 +8,7 @@ ghost use Rattle.vob24.specs.Settings.{settings_of};
 ghost use Rattle.vob24.specs.Grammar.{location};
 ghost use Rattle.source.specs.Source as source;
 ghost use Rattle.in_place.specs.Contract.{Placed, Past, Items};
-ghost use Rattle.source_lines.specs.Contract.{location_list, best_of, Zeroed, BestIs, ListIs, FunctionsAt, LineFrom};
+ghost use Rattle.source_lines.specs.Contract.{location_list, best_of, BestIs, ListIs, FunctionsAt, LineFrom};
 
 use packed::{location_at, past_numbers};
 use reader::{Cursor, Refusal};
@@ -19,15 +19,7 @@ mod packed;
 // A number past the debug list. It goes to reader's numbers with the request.
 const NO_SUCH_FUNCTION: u64 = 28;
 
-// The number of an entry, from 0.
-#[derive(Clone, Copy)]
-pub enum SourceLine {
-    Entry(usize),
-    None,
-    Not(Refusal),
-}
-
-// The best entry so far, counted from 1, with its address; where there is none, both are 0.
+// The best entry so far, by its number from 0, with its address.
 #[derive(Clone, Copy)]
 struct Best {
     entry: usize,
@@ -35,34 +27,30 @@ struct Best {
 }
 
 // With the entry numbered i, from 0, which has this address.
-fn better(best: Best, i: usize, pc: u64, address: u64) -> Best
-    requires { Zeroed best × (i < 4294967296) }
-    ensures { (best_of result ≡ source.better address (best_of best) i pc) × Zeroed result }
+fn better(best: Option<Best>, i: usize, pc: u64, address: u64) -> Option<Best>
+    ensures { best_of result ≡ source.better address (best_of best) i pc }
 {
-    if (best.pc <= pc) & (pc <= address) {
-        return Best {
-            entry: i + 1,
-            pc: pc,
-        };
+    let least = match best {
+        Some(b) => b.pc,
+        None => 0,
+    };
+    if (least <= pc) & (pc <= address) {
+        return Some(Best { entry: i, pc });
     }
     best
 }
 
 // The best of n locations from `from` on.
-fn best_of(s: &[u8], from: usize, n: usize, address: u64) -> Best
-    requires { Items location n s.now from × (n < 4294967296) }
+fn best_of(s: &[u8], from: usize, n: usize, address: u64) -> Option<Best>
+    requires { Items location n s.now from }
     ensures { BestIs s.now from n address result }
 {
-    let mut best = Best { entry: 0, pc: 0 };
+    let mut best = None;
     let mut at = from;
-    let mut i = 0;
-    while i < n {
+    for i in 0..n {
         let here = location_at(s, at);
-        let pc = here.value;
-        best = better(best, i, pc, address);
-        let next = here.next;
-        at = next;
-        i += 1;
+        best = better(best, i, here.value, address);
+        at = here.next;
     }
     best
 }
@@ -83,15 +71,13 @@ fn list_at(s: &[u8], set: &Settings, from: usize, n: usize, k: usize) -> usize
     ensures { ListIs (settings_of set.now) s.now from k result }
 {
     let mut p = from;
-    let mut i = 0;
-    while i < k {
+    for _ in 0..k {
         p = past_list(s, set, p);
-        i += 1;
     }
     p
 }
 
-// The entry for an address of a function, among the lists of locations that a count at `at` says; 28 shows where the
+// The number of the entry for an address of a function, if it has one, among the lists of locations that a count at `at` says; 28 shows where the
 // reading ended.
 pub fn line_from(
     s: &[u8],
@@ -100,13 +86,13 @@ pub fn line_from(
     function: u64,
     address: u32,
     end: Cursor,
-) -> SourceLine
+) -> Result<Option<usize>, Refusal>
     requires { FunctionsAt (settings_of set.now) s.now at }
     ensures { LineFrom (settings_of set.now) s.now at function address end result }
 {
     let n = in_place::word_at(s, at);
     if n as u64 <= function {
-        return SourceLine::Not(Refusal {
+        return Err(Refusal {
             number: NO_SUCH_FUNCTION,
             context: 0,
             detail1: function,
@@ -118,9 +104,5 @@ pub fn line_from(
     let list = list_at(s, set, at + 4, n, function as usize);
     let count = in_place::word_at(s, list);
     let best = best_of(s, list + 4, count, address as u64);
-    let entry = best.entry;
-    if entry == 0 {
-        return SourceLine::None;
-    }
-    SourceLine::Entry(entry - 1)
+    Ok(best.map(|b| b.entry))
 }

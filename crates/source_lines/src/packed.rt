@@ -5,7 +5,7 @@ ghost use Rattle.vob24.specs.Grammar.{location};
 ghost use Rattle.in_place.specs.Contract.{Placed};
 ghost use Rattle.source_lines.specs.Packed.{ending, endings, Skips, NumbersAt, PackedIs, LocationIs};
 
-use reader::{Cursor, Number};
+use reader::Cursor;
 
 // As many bytes as are looked at together.
 const BLOCK: usize = 32;
@@ -39,15 +39,13 @@ fn ends_in(s: &[u8], p: usize) -> u8
     ensures { (result ≡ endings s.now p 32) × (result ≤ 32) }
 {
     let mut n: u8 = 0;
-    let mut k: usize = 0;
-    while k < BLOCK {
+    for k in 0..BLOCK {
         n += ends(s[p + k]);
-        k += 1;
     }
     n
 }
 
-// The place past the packed number at p.
+// The place past the packed number at p. No `for`: the number's last byte ends the loop, and no count does.
 fn past_number(s: &[u8], p: usize) -> usize
     requires { NumbersAt 1 s.now p }
     ensures { Skips s.now 1 p result }
@@ -70,9 +68,8 @@ pub(crate) fn past_numbers(s: &[u8], p: usize, n: usize) -> usize
         k -= ends_in(s, at) as usize;
         at += BLOCK;
     }
-    while 0 < k {
+    for _ in 0..k {
         at = past_number(s, at);
-        k -= 1;
     }
     at
 }
@@ -96,11 +93,11 @@ fn packed_at(s: &[u8], p: usize) -> Packed
     };
     let q = number_leaves::read_source_u32(s, c);
     match q {
-        Number::Got(value, d) => Packed {
-            value: value,
+        Ok((value, d)) => Packed {
+            value,
             next: d.place,
         },
-        Number::Not(_) => Packed { value: 0, next: p },
+        Err(_) => Packed { value: 0, next: p },
     }
 }
 

@@ -7,9 +7,6 @@ use Rattle.vob24.specs.Grammar as vob
 abbrev pub field_format : Format
 field_format = vob.struct_field
 
-abbrev pub field_list : Settings → Format
-field_list set = vob.list set of.FieldMeta vob.struct_field
-
 abbrev pub struct_format : Settings → Format
 struct_format set = vob.struct set
 

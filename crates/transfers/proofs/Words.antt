@@ -1,22 +1,14 @@
 -- The laws of transfer words.
-use Prim.Native.Nat.{ℕ, ◌+◌, ◌/◌, ◌%◌, ◌≤◌, ◌<◌}
-use mathlib.Core.Path.{◌≡◌, refl, ap, sym, ◌∙◌}
-use mathlib.Core.List.{List, [], ◌∷◌, ◌++◌, map, append_assoc}
-use mathlib.Core.Bool.{Bool, true, false}
-use native.Mathlib.Omega.{arith}
-use lib.Dec.{ltb}
-use lib.ListN.{length, length-append}
-use borrow.Author.Tests.{le-leb, lt-leb}
+use Rattle.std.proofs.Common.{Ok, Err, ℕ, ◌+◌, ◌/◌, ◌%◌, ◌≤◌, ◌<◌, ◌≡◌, refl, ap, sym, ◌∙◌, List, [], ◌∷◌, ◌++◌, map, append_assoc, Bool, true, false, arith, leb, ltb, length, length-append, le-leb}
+use borrow.Author.Tests.{lt-leb}
 use Rattle.format.specs.Trace.{Wrong, pick}
 use Rattle.format.specs.Format.{Value, number, first, second}
 use Rattle.format.specs.Reading.{little, part}
 use Rattle.vob24.specs.Leaves.{packed_ok}
 use Rattle.vob24.specs.Questions.{refuse_unless, function_wrong, transfer_words}
 use Rattle.vob24.specs.Grammar.{transfer, transferred}
-use Rattle.reader.specs.Contract.{refusal, Asks}
+use Rattle.reader.specs.Contract.{refusal, Asks, Step}
 use Rattle.reader.specs.declared.Cursor.{Cursor}
-use Rattle.reader.specs.declared.Step.{Step}
-use Rattle.reader.specs.declared.Step.TheVariants.{Taken, Refused}
 use Rattle.reader.proofs.Asks.{asks-then, asks-not, asks_none, asks-deny}
 use Rattle.in_place.specs.Walk.{Stands, value_at, next_at, items_at, items-length, parts}
 use Rattle.in_place.specs.Contract.{over, WordIs, Placed, Past}
@@ -25,7 +17,7 @@ use Rattle.transfers.specs.Words.{transfer_asks, transfer_over}
 
 -- ---- a packed word
 module _ (n : ℕ) where
-  pub packed-kind : 24 < n % 256 → false ≡ packed_ok n
+  pub packed-kind : 24 < n % 256 → leb (n % 256) 24 ≡ packed_ok n
   unfolding pick
   packed-kind h = rw (lt-leb (n % 256) 24 h)
 
@@ -60,11 +52,11 @@ transfer-past h = record { is = sym (transfer-stands h.stands).next }
 
 -- ---- the answers of `transfer`
 module _ (w : Wrong) {b : Bool} {c : Cursor} where
-  unless-no : {q : Step} → b ≡ false → q ≡ Refused (refusal w c.place c.left) → Asks (refuse_unless b w) c q
+  unless-no : {q : Step} → b ≡ false → q ≡ Err (refusal w c.place c.left) → Asks (refuse_unless b w) c q
   unfolding pick
   unless-no e i = rw (e, i) asks-deny
 
-  unless-yes : b ≡ true → Asks (refuse_unless b w) c (Taken c)
+  unless-yes : b ≡ true → Asks (refuse_unless b w) c (Ok c)
   unfolding pick
   unless-yes e = rw e asks_none
 
@@ -73,7 +65,7 @@ module _ {s : List ℕ} {p : ℕ} (h : Placed transfer s p) {m : ℕ} (j : WordI
   meta-is = (transfer-stands h.stands).meta ∙ sym j.is
 
   pub transfer-meta : (context i : ℕ) {c : Cursor} {q : Step} → a ≡ false
-      → q ≡ Refused (refusal (function_wrong context i m) c.place c.left)
+      → q ≡ Err (refusal (function_wrong context i m) c.place c.left)
       → Asks (transfer_asks context i (value_at transfer s p)) c q
   unfolding transfer_asks
   transfer-meta context i {c} e r = rw (r, meta-is) (asks-not _ (unless-no (function_wrong context i m) {c = c} (sym k ∙ e) refl))
@@ -83,13 +75,13 @@ module _ {s : List ℕ} {p : ℕ} (h : Placed transfer s p) {m : ℕ} (j : WordI
     rttid-is = (transfer-stands h.stands).rttid ∙ sym g.is
 
     pub transfer-rttid : (context i : ℕ) {c : Cursor} {q : Step} → b ≡ false
-        → q ≡ Refused (refusal (function_wrong (context + 1) i n) c.place c.left)
+        → q ≡ Err (refusal (function_wrong (context + 1) i n) c.place c.left)
         → Asks (transfer_asks context i (value_at transfer s p)) c q
     unfolding transfer_asks
     transfer-rttid context i o r = rw (meta-is, rttid-is) (asks-then _ (unless-yes _ (sym k ∙ e)) (unless-no _ (sym f ∙ o) r))
 
     pub transfer-ok : (context i : ℕ) {c : Cursor} → b ≡ true
-        → Asks (transfer_asks context i (value_at transfer s p)) c (Taken c)
+        → Asks (transfer_asks context i (value_at transfer s p)) c (Ok c)
     unfolding transfer_asks
     transfer-ok context i o = rw (meta-is, rttid-is) (asks-then _ (unless-yes _ (sym k ∙ e)) (unless-yes _ (sym f ∙ o)))
 

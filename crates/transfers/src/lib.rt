@@ -2,7 +2,7 @@
 // Ports the checks of transfer types of serialize.rs.
 #![tactic(auto)]
 
-ghost use Rattle.std.specs.Prelude.{◌≡◌, ◌<◌, [], map};
+ghost use Rattle.std.specs.Prelude.{◌≡◌, ◌<◌, [], map, Err};
 ghost use Rattle.vob24.specs.Leaves.{packed_ok};
 ghost use Rattle.vob24.specs.Questions.{function_wrong, transfer_words};
 ghost use Rattle.vob24.specs.Grammar.{transfer as transfer_format, transferred};
@@ -17,16 +17,13 @@ use reader::{Cursor, Refusal, Step, numbers};
 fn packed_ok(word: usize) -> bool
     ensures { result ≡ packed_ok word }
 {
-    if 24 < word % 256 {
-        return false;
-    }
-    word / 256 < 0xffffff
+    word % 256 <= 24 && word / 256 < 0xffffff
 }
 
 fn bad_word(c: Cursor, context: u64, i: usize, word: usize) -> Step
-    ensures { result ≡ Step.Refused (refusal (function_wrong context i word) c.place c.left) }
+    ensures { result ≡ Err (refusal (function_wrong context i word) c.place c.left) }
 {
-    Step::Refused(Refusal {
+    Err(Refusal {
         number: numbers::INVALID_FUNCTION_METADATA,
         context,
         detail1: i as u64,
@@ -42,14 +39,14 @@ fn transfer(s: &[u8], context: u64, i: usize, p: usize, c: Cursor) -> Step
     ensures { Asks (transfer_asks context i (value_at transfer_format s.now p)) c result }
 {
     let meta = in_place::word_at(s, p);
-    if packed_ok(meta) {
-        let rttid = in_place::word_at(s, p + 4);
-        if packed_ok(rttid) {
-            return Step::Taken(c);
-        }
+    if !packed_ok(meta) {
+        return bad_word(c, context, i, meta);
+    }
+    let rttid = in_place::word_at(s, p + 4);
+    if !packed_ok(rttid) {
         return bad_word(c, context + 1, i, rttid);
     }
-    bad_word(c, context, i, meta)
+    Ok(c)
 }
 
 fn transfers(s: &[u8], context: u64, from: usize, n: usize, c: Cursor) -> Step
@@ -57,18 +54,12 @@ fn transfers(s: &[u8], context: u64, from: usize, n: usize, c: Cursor) -> Step
     ensures { Asks (over (transfer_over context) [] (items_at transfer_format n s.now from)) c result }
 {
     let mut p = from;
-    let mut i = 0;
     let mut here = c;
-    while i < n {
-        let step = transfer(s, context, i, p, here);
-        let Step::Taken(d) = step else {
-            return step;
-        };
-        here = d;
+    for i in 0..n {
+        here = transfer(s, context, i, p, here)?;
         p += 10;
-        i += 1;
     }
-    Step::Taken(here)
+    Ok(here)
 }
 
 // The words of the entries whose list was read at r, asked at r1; context is that of the meta word.
@@ -77,12 +68,8 @@ pub fn transfer_words(s: &[u8], context: u64, r: Step, r1: Step) -> Step
     ensures { ListAsked transfer_format (λ vs. transfer_words context 0 (map transferred vs)) s.now r
         r1 result }
 {
-    let Step::Taken(d) = r1 else {
-        return r1;
-    };
-    let Step::Taken(c) = r else {
-        return r1;
-    };
+    let d = r1?;
+    let c = r?;
     let place = c.place;
     let n = in_place::word_at(s, place);
     transfers(s, context, place + 4, n, d)

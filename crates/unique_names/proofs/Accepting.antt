@@ -1,16 +1,10 @@
 -- What a second pass knows of questions on names: none is refused, so no item of a table repeats another.
-use Prim.Native.Nat.{ℕ, suc, zero, ◌+◌, ◌≤◌, ◌<◌}
-use mathlib.Core.Path.{◌≡◌, refl, sym, ◌∙◌}
-use mathlib.Core.List.{List, [], ◌∷◌}
-use mathlib.Core.Bool.{Bool, true, false, not}
-use native.Mathlib.Omega.{arith}
-use lib.Dec.{T, leb, leb→le, nleb→lt}
+use Rattle.std.proofs.Common.{Ok, Err, ℕ, suc, zero, ◌+◌, ◌≤◌, ◌<◌, ◌≡◌, refl, sym, ◌∙◌, List, [], ◌∷◌, Bool, true, false, not, arith, T, leb, leb→le}
+use lib.Dec.{nleb→lt}
 use Rattle.format.specs.Format.{Value, Ask, pay, deny, Format}
-use Rattle.reader.specs.Contract.{refusal, paid, Reader, Asks}
+use Rattle.reader.specs.Contract.{refusal, paid, Reader, Asks, Step}
 use Rattle.reader.specs.declared.Cursor.{Cursor}
 use Rattle.reader.specs.declared.Refusal.{Refusal}
-use Rattle.reader.specs.declared.Step.{Step}
-use Rattle.reader.specs.declared.Step.TheVariants.{Taken, Refused}
 use Rattle.reader.proofs.Asks.{asks-then, asks-not, asks_none, asks-deny, asks-poor, asks-paid}
 use Rattle.in_place.specs.declared.Table.{Table}
 use Rattle.in_place.specs.Walk.{value_at, items_at, last_at, items-snoc, items-nil, last_snoc}
@@ -28,35 +22,35 @@ use Rattle.unique_names.proofs.Asking.{refuse-yes, refuse-no}
 
 -- questions are answered one way or the other
 answered : (l : List Ask) (c : Cursor) → (q : Step) × Asks l c q
-answered [] c = (Taken c, asks_none)
+answered [] c = (Ok c, asks_none)
 answered (pay k n ∷ l) c = go (answered l) (paid k n c) refl
   where
     go : ((d : Cursor) → (q : Step) × Asks l d q) → (y : Step) → paid k n c ≡ y → (q : Step) × Asks (pay k n ∷ l) c q
-    go a (Taken d) e = let r = a d in (r.0, asks-paid (record { is = refl }) e r.1)
-    go a (Refused x) e = (paid k n c, asks-poor (record { is = refl }) e)
-answered (deny w ∷ l) c = (Refused (refusal w c.place c.left), asks-deny)
+    go a (Ok d) e = let r = a d in (r.0, asks-paid (record { is = refl }) e r.1)
+    go a (Err x) e = (paid k n c, asks-poor (record { is = refl }) e)
+answered (deny w ∷ l) c = (Err (refusal w c.place c.left), asks-deny)
 
 -- item k, of the m items after the first i
 refused-at : (t : Table) (s : List ℕ) (from k m i : ℕ) (c : Cursor) → i ≤ k → k < i + m
     → repeat_at (keys_at t s from) k ≡ true
-    → (x : Refusal) × Asks (over (table_asks t) (items_at (format_in t) i s from) (items_at (format_in t) m s (last_at (format_in t) i s from))) c (Refused x)
+    → (x : Refusal) × Asks (over (table_asks t) (items_at (format_in t) i s from) (items_at (format_in t) m s (last_at (format_in t) i s from))) c (Err x)
 unfolding over items_at table_asks
 refused-at t s from k zero i c h j e = absurd (omega arith)
 refused-at t s from k (suc m) i c h j e =
     let a = answered (charges t (value_at (format_in t) s (last_at (format_in t) i s from))) c in
     go (λ d. refused-at t s from k m (suc i) d) a.0 a.1 (repeat_at (keys_at t s from) i) refl (leb (suc i) k) (leb→le _ _) (nleb→lt _ _)
   where
-    go : ((d : Cursor) → suc i ≤ k → k < suc i + m → repeat_at (keys_at t s from) k ≡ true → (x : Refusal) × Asks (over (table_asks t) (items_at (format_in t) (suc i) s from) (items_at (format_in t) m s (last_at (format_in t) (suc i) s from))) d (Refused x))
+    go : ((d : Cursor) → suc i ≤ k → k < suc i + m → repeat_at (keys_at t s from) k ≡ true → (x : Refusal) × Asks (over (table_asks t) (items_at (format_in t) (suc i) s from) (items_at (format_in t) m s (last_at (format_in t) (suc i) s from))) d (Err x))
         → (q : Step) → Asks (charges t (value_at (format_in t) s (last_at (format_in t) i s from))) c q → (b : Bool)
         → repeat_at (keys_at t s from) i ≡ b → (z : Bool) → (T z → suc i ≤ k) → (T (not z) → k < suc i)
-        → (x : Refusal) × Asks (over (table_asks t) (items_at (format_in t) i s from) (items_at (format_in t) (suc m) s (last_at (format_in t) i s from))) c (Refused x)
-    go r (Refused x) a b y z u w = (x, asks-not _ (asks-not _ a))
-    go r (Taken d) a true y z u w = (refusal (wrong_in t (value_at (format_in t) s (last_at (format_in t) i s from))) d.place d.left, asks-not _ (asks-then _ a (refuse-yes _ (sym (repeats-at t s from i) ∙ y) refl)))
-    go r (Taken d) a false y true u w =
+        → (x : Refusal) × Asks (over (table_asks t) (items_at (format_in t) i s from) (items_at (format_in t) (suc m) s (last_at (format_in t) i s from))) c (Err x)
+    go r (Err x) a b y z u w = (x, asks-not _ (asks-not _ a))
+    go r (Ok d) a true y z u w = (refusal (wrong_in t (value_at (format_in t) s (last_at (format_in t) i s from))) d.place d.left, asks-not _ (asks-then _ a (refuse-yes _ (sym (repeats-at t s from i) ∙ y) refl)))
+    go r (Ok d) a false y true u w =
         let n = r d (u tt) (omega arith) e in
         let o = rw (items-snoc (format_in t) i s from) at (rw (last_snoc (format_in t) i s from) at n.1) in
         (n.0, asks-then _ (asks-then _ a (refuse-no _ (sym (repeats-at t s from i) ∙ y))) o)
-    go r (Taken d) a false y false u w = let x : k ≡ i = omega (arith, w tt) in let no : ◌≡◌ {A = ℕ} 0 1 = cc in absurd (omega arith)
+    go r (Ok d) a false y false u w = let x : k ≡ i = omega (arith, w tt) in let no : ◌≡◌ {A = ℕ} 0 1 = cc in absurd (omega arith)
 
 pub none-repeats : (t : Table) (s : List ℕ) (from n : ℕ) {b : Bool} {c : Cursor} → b ≡ true
     → AsksAccepted b (over (table_asks t) [] (items_at (format_in t) n s from)) c → FirstRepeat (keys_at t s from) n n
@@ -71,12 +65,12 @@ none-repeats t s from n {b} {c} e g = record { within = omega arith; new = λ k 
 
 -- of questions on a list that are a part of f
 pub accepted-list : {b : Bool} {f g : Format} {l : List Value → List Ask} {s : List ℕ} {r r₁ r₂ : Step} {t t' : List ℕ}
-    → ((x : Refusal) → ListAsked g l s r₁ r₂ (Refused x) → Reader f s r t (Refused x) t') → Accepted b f s r
+    → ((x : Refusal) → ListAsked g l s r₁ r₂ (Err x) → Reader f s r t (Err x) t') → Accepted b f s r
     → ListAccepted b g l s r₁ r₂
 accepted-list k a = record { never = λ c d i j. record { never = λ e x h. denied a e (k x (record { stays = λ y z. apart j z; asks = λ c' d' i' j'. let u : c' ≡ c = cc in let v : d' ≡ d = cc in rw (u, v) h })).reads } }
 
 -- of what such a list's questions come to
 pub accepted-asks : {b : Bool} {f : Format} {l : List Value → List Ask} {s : List ℕ} {r r₁ : Step} {c d e : Cursor} {m : List Ask}
-    → ListAccepted b f l s r r₁ → r ≡ Taken c → r₁ ≡ Taken d
-    → ((x : Refusal) → Asks m e (Refused x) → ListAsked f l s r r₁ (Refused x)) → AsksAccepted b m e
+    → ListAccepted b f l s r r₁ → r ≡ Ok c → r₁ ≡ Ok d
+    → ((x : Refusal) → Asks m e (Err x) → ListAsked f l s r r₁ (Err x)) → AsksAccepted b m e
 accepted-asks g i j k = record { never = λ h x a. (g.never _ _ i j).never h x ((k x a).asks _ _ i j) }

@@ -1,21 +1,14 @@
 -- The laws of the questions on the items of a table: one item's answers, and the loop over them.
-use Prim.Native.Nat.{ℕ, ◌+◌, ◌≤◌, ◌<◌}
-use mathlib.Core.Path.{◌≡◌, refl, ap, sym, ◌∙◌}
-use mathlib.Core.List.{List, [], ◌∷◌}
-use mathlib.Core.Bool.{Bool, true, false}
-use native.Mathlib.Omega.{arith}
-use lib.ListN.{length}
+use Rattle.std.proofs.Common.{Ok, Err, ℕ, ◌+◌, ◌≤◌, ◌<◌, ◌≡◌, refl, ap, sym, ◌∙◌, List, [], ◌∷◌, Bool, true, false, arith, length}
 use Rattle.format.specs.Trace.{Wrong, pick}
 use Rattle.format.specs.Format.{start, content, pay}
 use Rattle.format.specs.Reading.{same}
 use Rattle.vob24.specs.Refusals as refusals
 use Rattle.vob24.specs.Questions.{refuse_if, repeat}
 use Rattle.vob24.specs.Grammar.{struct_field, identity}
-use Rattle.reader.specs.Contract.{refusal, Paid, Asks}
+use Rattle.reader.specs.Contract.{refusal, Paid, Asks, Step}
 use Rattle.reader.specs.declared.Cursor.{Cursor}
 use Rattle.reader.specs.declared.Refusal.{Refusal}
-use Rattle.reader.specs.declared.Step.{Step}
-use Rattle.reader.specs.declared.Step.TheVariants.{Taken, Refused}
 use Rattle.reader.proofs.Asks.{asks-then, asks-not, asks_none, asks-deny, asks-poor, asks-paid}
 use Rattle.in_place.specs.declared.Item.{Item}
 use Rattle.in_place.specs.declared.Item.TheVariants.{StructField, RuntimeField}
@@ -36,21 +29,21 @@ use Rattle.unique_names.specs.Asking.{wrong_in, table_asks}
 use Rattle.unique_names.specs.Contract.{Charged, Repeated, RepeatTold}
 
 module _ (w : Wrong) {b : Bool} {c : Cursor} where
-  pub refuse-yes : {q : Step} → b ≡ true → q ≡ Refused (refusal w c.place c.left) → Asks (refuse_if b w) c q
+  pub refuse-yes : {q : Step} → b ≡ true → q ≡ Err (refusal w c.place c.left) → Asks (refuse_if b w) c q
   unfolding pick
   refuse-yes e i = rw (e, i) asks-deny
 
-  pub refuse-no : b ≡ false → Asks (refuse_if b w) c (Taken c)
+  pub refuse-no : b ≡ false → Asks (refuse_if b w) c (Ok c)
   unfolding pick
   refuse-no e = rw e asks_none
 
 -- the answers of `refuse_repeat`
 module _ (i : Item) {s : List ℕ} {p : ℕ} (h : Placed (format_of i) s p) where
   pub repeat-told : {c : Cursor} {e k : ℕ} {q : Step} → Repeated s p c e k q
-      → q ≡ Refused (refusal (repeat e k (name_of i (value_at (format_of i) s p))) c.place c.left)
+      → q ≡ Err (refusal (repeat e k (name_of i (value_at (format_of i) s p))) c.place c.left)
   repeat-told {c} {e} {k} r =
       let x : repeat e k (name_of i (value_at (format_of i) s p)) ≡ record { number = e; context = k; detail1 = p + 4; detail2 = length (text_at s p) } = rw (name-stands i h.stands).value in
-      r.is ∙ ap (λ (w : Wrong). Refused (refusal w c.place c.left)) (sym x)
+      r.is ∙ ap (λ (w : Wrong). Err (refusal w c.place c.left)) (sym x)
 
 module _ {t : Table} {s : List ℕ} {p : ℕ} (h : Placed (format_in t) s p) {c : Cursor} {q : Step} where
   pub told-field : t ≡ Fields → Repeated s p c refusals.duplicate_struct_field 0 q → RepeatTold t s p c q
@@ -69,7 +62,7 @@ module _ {t : Table} {s : List ℕ} {p : ℕ} (h : Placed (format_in t) s p) {c 
   told-identity {x} e g r = rw e (record { is = go (rw e at h) })
     where
       go : Placed (format_in Identities) s p
-          → q ≡ Refused (refusal (wrong_in Identities (value_at (format_in Identities) s p)) c.place c.left)
+          → q ≡ Err (refusal (wrong_in Identities (value_at (format_in Identities) s p)) c.place c.left)
       go h =
           let y : start (identity (value_at (format_in Identities) s p)).0 ≡ x + 4 = ap start (runtime-stands h.stands).value ∙ rw g.is in
           repeat-told RuntimeField h (rw (← y) at r)
@@ -79,14 +72,14 @@ paid-asks : {k n : ℕ} {c : Cursor} {y : Step} → Paid k n c y → Asks (pay k
 paid-asks {k} {n} {c} {y} h = go y refl
   where
     go : (z : Step) → y ≡ z → Asks (pay k n ∷ []) c y
-    go (Taken d) e = rw e (asks-paid h e asks_none)
-    go (Refused x) e = asks-poor h e
+    go (Ok d) e = rw e (asks-paid h e asks_none)
+    go (Err x) e = asks-poor h e
 
 module _ {s : List ℕ} {p : ℕ} (h : Placed struct_field s p) {b : Bool} (w : BlankIs s p b) where
   blank-is : same (content (name_of StructField (value_at struct_field s p))) (95 ∷ []) ≡ b
   blank-is = ap (λ x. same x (95 ∷ [])) (name-content StructField h.stands) ∙ sym w.is
 
-  pub charge-none : {c : Cursor} → b ≡ true → Charged Fields s p c (Taken c)
+  pub charge-none : {c : Cursor} → b ≡ true → Charged Fields s p c (Ok c)
   unfolding pick
   charge-none e = record { asks = rw (blank-is, e) asks_none }
 
@@ -99,13 +92,13 @@ module _ {t : Table} {s : List ℕ} {p : ℕ} {c : Cursor} where
   pub charge-field : {q : Step} → t ≡ Fields → Charged Fields s p c q → Charged t s p c q
   charge-field e a = rw e a
 
-  pub charge-method : {i : Item} → t ≡ Methods i → Charged t s p c (Taken c)
+  pub charge-method : {i : Item} → t ≡ Methods i → Charged t s p c (Ok c)
   charge-method e = rw e (record { asks = asks_none })
 
-  pub charge-identity : t ≡ Identities → Charged t s p c (Taken c)
+  pub charge-identity : t ≡ Identities → Charged t s p c (Ok c)
   charge-identity e = rw e (record { asks = asks_none })
 
-  pub charge-alike : {i : Item} → t ≡ Alike i → Charged t s p c (Taken c)
+  pub charge-alike : {i : Item} → t ≡ Alike i → Charged t s p c (Ok c)
   charge-alike e = rw e (record { asks = asks_none })
 
 -- ---- the loop of `distinct`, up to the first repeat
@@ -118,7 +111,7 @@ module _ {t : Table} {s : List ℕ} {from n first : ℕ} {c₀ : Cursor} where
   judging-start h = record { asked = asking-start h; below = omega arith }
 
   module _ {p i : ℕ} {c : Cursor} (l : Judging t s from n first c₀ p i c) where
-    pub judging-done : n ≤ i → Asks (over (table_asks t) [] (items_at (format_in t) n s from)) c₀ (Taken c)
+    pub judging-done : n ≤ i → Asks (over (table_asks t) [] (items_at (format_in t) n s from)) c₀ (Ok c)
     judging-done h = asking-done h l.asked
 
     module _ (h : i < n) where
@@ -127,12 +120,12 @@ module _ {t : Table} {s : List ℕ} {from n first : ℕ} {c₀ : Cursor} where
 
       -- a turn: the charge, and then whether the item is the first repeat
       module _ {y : Step} (a : Charged t s p c y) where
-        pub judging-poor : {x : Refusal} → y ≡ Refused x
+        pub judging-poor : {x : Refusal} → y ≡ Err x
             → Asks (over (table_asks t) [] (items_at (format_in t) n s from)) c₀ y
         unfolding table_asks
         judging-poor {x} e = rw e (asking-not h l.asked (asks-not _ (rw e at a.asks)) refl)
 
-        module _ (f : FirstRepeat (keys_at t s from) n first) {d : Cursor} (e : y ≡ Taken d) where
+        module _ (f : FirstRepeat (keys_at t s from) n first) {d : Cursor} (e : y ≡ Ok d) where
           repeats-is : {b : Bool} → repeat_at (keys_at t s from) i ≡ b
               → repeats t (items_at (format_in t) i s from) (value_at (format_in t) s p) ≡ b
           repeats-is r = sym (repeat-is (walking-stands h l.asked.walk)) ∙ r
@@ -152,5 +145,3 @@ module _ {t : Table} {s : List ℕ} {from n first : ℕ} {c₀ : Cursor} where
               record { asked = asking-more h l.asked (asks-then _ (rw e at a.asks) (refuse-no _ (repeats-is (f.new i j)))) refl w; below = omega arith }
 
 pub ruleset answering = (told-field, told-method, told-identity, told-alike, charge-none, charge-one, charge-field, charge-method, charge-identity, charge-alike)
-
-pub ruleset judging = (judging-start, judging-here, judging-done, judging-poor, judging-repeat, judging-more)

@@ -1,10 +1,5 @@
 -- The laws of the loop that counts the names other than "_", and their bytes.
-use Prim.Native.Nat.{ℕ, ◌+◌, ◌-◌, ◌*◌, ◌≤◌, ◌<◌}
-use mathlib.Core.Path.{◌≡◌, ap, sym, ◌∙◌}
-use mathlib.Core.List.{List, [], ◌∷◌, map}
-use mathlib.Core.Bool.{Bool, true, false}
-use native.Mathlib.Omega.{arith}
-use lib.ListN.{length}
+use Rattle.std.proofs.Common.{ℕ, ◌+◌, ◌-◌, ◌*◌, ◌≤◌, ◌<◌, ◌≡◌, ap, sym, ◌∙◌, List, [], ◌∷◌, map, Bool, true, false, arith, length}
 use Rattle.format.specs.Trace.{pick}
 use Rattle.format.specs.Reading.{same}
 use Rattle.vob24.specs.Questions.{named}
@@ -28,21 +23,15 @@ pub record Counting (s : List ℕ) (from n at k m b : ℕ) : Type 0 where
   pub bound : b + 4294967295 * k ≤ 4294967295 * n
   pub sums : price Fields (items_at struct_field n s from) ≡ b + price Fields (items_at struct_field k s at)
 
-pub counting-start : {s : List ℕ} {from n : ℕ} → Items struct_field n s from → Counting s from n from n 0 0
-counting-start h = record { items = h; most = omega arith; leads = omega arith; bound = omega arith; sums = omega arith }
-
 module _ {s : List ℕ} {from n : ℕ} where
   module _ {at k m b : ℕ} (h : 0 < k) (l : Counting s from n at k m b) where
-    pub counting-here : Placed struct_field s at
+    counting-here : Placed struct_field s at
     counting-here = items-here h l.items
 
-    pub counting-text : TextAt s at
+    counting-text : TextAt s at
     counting-text = item-name StructField counting-here
 
-    pub counting-room : at + 4 ≤ length s
-    counting-room = omega (arith, counting-text.room)
-
-    pub counting_more : {z w i j : ℕ} {q : Bool} → BlankIs s at q → i ≡ pick q 0 1 → WordIs s at w → j ≡ pick q 0 w
+    counting_more : {z w i j : ℕ} {q : Bool} → BlankIs s at q → i ≡ pick q 0 1 → WordIs s at w → j ≡ pick q 0 w
         → Past struct_field s at z → Counting s from n z (k - 1) (m + i) (b + j)
     unfolding named price pick
     counting_more {z} {w} {i} {j} {q} e x g y p =
@@ -72,6 +61,20 @@ module _ {s : List ℕ} {from n : ℕ} where
         sum true d e = rw (name-content StructField counting-here.stands, ← d) (omega arith)
         sum false d e = rw (name-content StructField counting-here.stands, ← d, text-length counting-text g) (omega arith)
 
+  module _ {at i m b : ℕ} (h : i < n) (l : Counting s from n at (n - i) m b) where
+    left : 0 < n - i
+    left = omega arith
+
+    pub counting-item : Placed struct_field s at
+    counting-item = counting-here left l
+
+    pub counting-name : TextAt s at
+    counting-name = counting-text left l
+
+    pub counting-next : {z w x j : ℕ} {q : Bool} → BlankIs s at q → x ≡ pick q 0 1 → WordIs s at w → j ≡ pick q 0 w
+        → Past struct_field s at z → Counting s from n z (n - (i + 1)) (m + x) (b + j)
+    counting-next e x g y p = let u : n - i - 1 ≡ n - (i + 1) = omega arith in rw u at (counting_more left l e x g y p)
+
   pub counting-done : {at k m b : ℕ} → k ≤ 0 → Counting s from n at k m b → Tallied s from n m b
   unfolding named price
   counting-done {at} {k} {m} {b} h l =
@@ -80,5 +83,3 @@ module _ {s : List ℕ} {from n : ℕ} where
         named = record { is = sym (l.leads ∙ ap (λ vs. m + length (named (map (name_of StructField) vs))) z ∙ omega arith); most = omega (arith, l.most) };
         cost = record { is = sym (l.sums ∙ ap (λ vs. b + price Fields vs) z ∙ omega arith) };
       }
-
-pub ruleset counting = (counting-start, counting-here, counting-text, counting-room, counting_more, counting-done)

@@ -1,79 +1,65 @@
 -- The laws of the questions on a list that was read: its charge, then its items.
-use Prim.Native.Nat.{ℕ, suc, zero, ◌*◌}
-use mathlib.Core.Path.{◌≡◌, refl, ap, sym, ◌∙◌}
-use mathlib.Core.List.{List, [], ◌∷◌, map}
-use mathlib.Core.Bool.{Bool, true, false}
+use Rattle.std.proofs.Common.{Ok, Err, ℕ, suc, zero, ◌*◌, ◌≡◌, refl, ap, sym, ◌∙◌, List, [], Bool, true, false}
+use Rattle.std.specs.Result.{IsErrAnd}
 use Rattle.format.specs.Trace.{pick}
-use Rattle.format.specs.Format.{content, pay}
+use Rattle.format.specs.Format.{content}
 use Rattle.format.specs.Reading.{same}
 use Rattle.vob24.specs.Refusals as refusals
 use Rattle.vob24.specs.Settings as of
 use Rattle.vob24.specs.Settings.{Settings, size_of}
 use Rattle.vob24.specs.Questions.{among}
-use Rattle.vob24.specs.Grammar.{struct_field, field_name, field_index, method_set, method, method_name, runtime_field, identity, field_set}
-use Rattle.reader.specs.Contract.{Paid, Asks}
+use Rattle.vob24.specs.Grammar.{struct_field, method, method_name, runtime_field, identity}
+use Rattle.reader.specs.Contract.{Paid, Asks, Step}
 use Rattle.reader.specs.declared.Cursor.{Cursor}
 use Rattle.reader.specs.declared.Refusal.{Refusal}
-use Rattle.reader.specs.declared.Step.{Step}
-use Rattle.reader.specs.declared.Step.TheVariants.{Taken, Refused}
+use Rattle.reader.proofs.Errors.{handed}
 use Rattle.reader.proofs.Asks.{asks-poor, asks-paid}
 use Rattle.in_place.specs.declared.Item.{Item}
-use Rattle.in_place.specs.declared.Item.TheVariants.{StructField, NamedMethod}
-use Rattle.in_place.specs.declared.Table.TheVariants.{Fields, Methods, Identities}
+use Rattle.in_place.specs.declared.Item.TheVariants.{NamedMethod}
+use Rattle.in_place.specs.declared.Table.{Table}
+use Rattle.in_place.specs.declared.Table.TheVariants.{Fields, Methods, Identities, Alike}
 use Rattle.in_place.specs.Walk.{value_at, items_at, last_at, items-snoc, items-length}
-use Rattle.in_place.specs.Items.{format_of, name_of, names_of, contents}
-use Rattle.in_place.specs.Tables.{key_of}
-use Rattle.in_place.specs.Contract.{over, Items, Seen, After}
+use Rattle.in_place.specs.Items.{format_of, name_of, contents}
+use Rattle.in_place.specs.Tables.{key_of, format_in}
+use Rattle.in_place.specs.Contract.{over, Seen, After}
 use Rattle.in_place.proofs.Asking.{apart}
 use Rattle.repeat_search.specs.Keys.{repeat_at}
 use Rattle.repeat_search.specs.Tables.{repeats, keys_at}
-use Rattle.unique_names.specs.Asking.{table_asks, seen_at, method_asks}
+use Rattle.unique_names.specs.Asking.{table_asks, list_asks, seen_at, method_asks}
 use Rattle.repeat_search.proofs.Tables.{repeats-at}
-use Rattle.unique_names.specs.Contract.{Repeated, Named, MethodBehind, MethodAsked}
+use Rattle.unique_names.specs.declared.Charge.{Charge}
+use Rattle.unique_names.specs.Contract.{Repeated, Tallied, ChargedFor, MethodBehind, MethodAsked}
 use Rattle.unique_names.proofs.Asking.{refuse-yes, refuse-no, repeat-told}
+use Rattle.unique_names.proofs.Paying.{free-cost}
 use Rattle.unique_names.proofs.Orders.{names-map, map-length, contents-snoc, plain-keys, names-over, keys-over, identities-over}
 
--- ---- 16
-module _ (set : Settings) {s : List ℕ} {from n m z : ℕ} {c : Cursor} {y : Step} (i : Named StructField s from n m) (j : z ≡ size_of set of.StringUsize) (p : Paid refusals.struct_field_index (m * z) c y) where
-  index_is : field_index set (map field_name (items_at struct_field n s from)) ≡ pay refusals.struct_field_index (m * z) ∷ over (table_asks Fields) [] (items_at struct_field n s from)
-  index_is = rw (i.is, j, keys-over (items_at struct_field n s from))
+-- ---- the answers of `table_charge`
+module _ {set : Settings} {t : Table} {s : List ℕ} {from n : ℕ} where
+  pub charge-fields : {m b z : ℕ} → t ≡ Fields → Tallied s from n m b → z ≡ size_of set of.StringUsize
+      → ChargedFor set t s from n (record { context = refusals.struct_field_index; size = m * z; keys = b })
+  charge-fields e a j = rw e (record { asks = rw (a.named.is, j, keys-over (items_at struct_field n s from)); cost = a.cost })
 
-  pub index-poor : {x : Refusal} → y ≡ Refused x
-      → Asks (field_index set (map field_name (items_at struct_field n s from))) c y
-  index-poor e = rw index_is (asks-poor p e)
+  pub charge-methods : {i : Item} {z : ℕ} → t ≡ Methods i → z ≡ size_of set of.Str
+      → ChargedFor set t s from n (record { context = refusals.interface_method_set; size = n * (2 * z); keys = 0 })
+  charge-methods {i} e j = rw e (record { asks = rw (j, names-map i (items_at (format_of i) n s from), map-length (name_of i) (items_at (format_of i) n s from), items-length (format_of i) n s from, names-over i (items_at (format_of i) n s from)); cost = free-cost (Methods i) (λ v. refl) })
 
-  pub index-then : {d : Cursor} {q : Step} → y ≡ Taken d
-      → Asks (over (table_asks Fields) [] (items_at struct_field n s from)) d q
-      → Asks (field_index set (map field_name (items_at struct_field n s from))) c q
-  index-then e a = rw index_is (asks-paid p e a)
+  pub charge-names : {i : Item} {z : ℕ} → t ≡ Alike i → z ≡ size_of set of.Str
+      → ChargedFor set t s from n (record { context = refusals.interface_method_set; size = n * (2 * z); keys = 0 })
+  charge-names {i} e j = rw e (record { asks = rw (j, items-length (format_of i) n s from); cost = free-cost (Alike i) (λ v. refl) })
 
--- ---- 17
-module _ (set : Settings) (i : Item) {s : List ℕ} {from n z : ℕ} {c : Cursor} {y : Step} (h : Items (format_of i) n s from) (j : z ≡ size_of set of.Str) (p : Paid refusals.interface_method_set (n * (2 * z)) c y) where
-  method-set-is : method_set set (names_of i (items_at (format_of i) n s from)) ≡ pay refusals.interface_method_set (n * (2 * z)) ∷ over (table_asks (Methods i)) [] (items_at (format_of i) n s from)
-  method-set-is = rw (j, names-map i (items_at (format_of i) n s from), map-length (name_of i) (items_at (format_of i) n s from), items-length (format_of i) n s from, names-over i (items_at (format_of i) n s from))
+  pub charge-identities : {z : ℕ} → t ≡ Identities → z ≡ size_of set of.StrStr
+      → ChargedFor set t s from n (record { context = refusals.runtime_struct_field_set; size = n * (2 * z); keys = 0 })
+  charge-identities e j = rw e (record { asks = rw (j, map-length identity (items_at runtime_field n s from), items-length runtime_field n s from, identities-over (items_at runtime_field n s from)); cost = free-cost Identities (λ v. refl) })
 
-  pub method-set-poor : {x : Refusal} → y ≡ Refused x
-      → Asks (method_set set (names_of i (items_at (format_of i) n s from))) c y
-  method-set-poor e = rw method-set-is (asks-poor p e)
+  -- the charge, and then the items
+  module _ {q : Charge} (a : ChargedFor set t s from n q) {c : Cursor} {y : Step} (p : Paid q.context q.size c y) where
+    pub charge-poor : {x : Refusal} → y ≡ Err x → Asks (list_asks t set (items_at (format_in t) n s from)) c y
+    charge-poor e = rw a.asks (asks-poor p e)
 
-  pub method-set-then : {d : Cursor} {q : Step} → y ≡ Taken d
-      → Asks (over (table_asks (Methods i)) [] (items_at (format_of i) n s from)) d q
-      → Asks (method_set set (names_of i (items_at (format_of i) n s from))) c q
-  method-set-then e a = rw method-set-is (asks-paid p e a)
-
--- ---- 19
-module _ (set : Settings) {s : List ℕ} {from n z : ℕ} {c : Cursor} {y : Step} (h : Items runtime_field n s from) (j : z ≡ size_of set of.StrStr) (p : Paid refusals.runtime_struct_field_set (n * (2 * z)) c y) where
-  field-set-is : field_set set (map identity (items_at runtime_field n s from)) ≡ pay refusals.runtime_struct_field_set (n * (2 * z)) ∷ over (table_asks Identities) [] (items_at runtime_field n s from)
-  field-set-is = rw (j, map-length identity (items_at runtime_field n s from), items-length runtime_field n s from, identities-over (items_at runtime_field n s from))
-
-  pub field-set-poor : {x : Refusal} → y ≡ Refused x
-      → Asks (field_set set (map identity (items_at runtime_field n s from))) c y
-  field-set-poor e = rw field-set-is (asks-poor p e)
-
-  pub field-set-then : {d : Cursor} {q : Step} → y ≡ Taken d
-      → Asks (over (table_asks Identities) [] (items_at runtime_field n s from)) d q
-      → Asks (field_set set (map identity (items_at runtime_field n s from))) c q
-  field-set-then e a = rw field-set-is (asks-paid p e a)
+    pub charge-then : {d : Cursor} {r : Step} → y ≡ Ok d
+        → Asks (over (table_asks t) [] (items_at (format_in t) n s from)) d r
+        → Asks (list_asks t set (items_at (format_in t) n s from)) c r
+    charge-then e b = rw a.asks (asks-paid p e b)
 
 -- ---- 18
 
@@ -93,13 +79,16 @@ unfolding repeats pick
 method-repeat n s from = seen-methods _ n s from ∙ sym (plain-keys (key_of (Methods NamedMethod)) (λ v. refl) (value_at method s (last_at method n s from)) (items_at method n s from)) ∙ sym (repeats-at (Methods NamedMethod) s from n)
 
 module _ {s : List ℕ} {from n : ℕ} {r r₁ : Step} where
-  pub method-refused : {x : Refusal} → r₁ ≡ Refused x → MethodAsked s from n r r₁ r₁
-  method-refused e = record { stays = λ y i. refl; asks = λ c d i j. apart j e }
+  pub method-kept : {x : Refusal} → r₁ ≡ Err x → MethodAsked s from n r r₁ r₁
+  method-kept e = record { stays = λ y i. refl; asks = λ c d i j. apart j e }
 
-  pub method-skipped : {x : Refusal} {d : Cursor} → r ≡ Refused x → r₁ ≡ Taken d → MethodAsked s from n r r₁ (Taken d)
-  method-skipped e k = record { stays = λ y i. sym k; asks = λ c d i j. apart i e }
+  pub method-up : {x : Refusal} {q : Step} → r₁ ≡ Err x → IsErrAnd q (λ y. y ≡ x) → MethodAsked s from n r r₁ q
+  method-up {q = q} e i = rw (handed q i ∙ sym e) (method-kept e)
 
-  module _ {c d : Cursor} (h : r ≡ Taken c) (k : r₁ ≡ Taken d) where
+  pub method-lost : {x : Refusal} {d : Cursor} {q : Step} → r ≡ Err x → r₁ ≡ Ok d → MethodAsked s from n r r₁ q
+  method-lost e k = record { stays = λ y i. apart k i; asks = λ c d i j. apart i e }
+
+  module _ {c d : Cursor} (h : r ≡ Ok c) (k : r₁ ≡ Ok d) where
     method-asked : {q : Step} → Asks (method_asks (seen_at n s from) (value_at method s c.place)) d q
         → MethodAsked s from n r r₁ q
     method-asked {q} a = record { stays = λ y i. apart k i; asks = λ c' d' i j. go c' d' (cc) (cc) }
@@ -120,5 +109,5 @@ module _ {s : List ℕ} {from n : ℕ} {r r₁ : Step} where
             → MethodAsked s from n r r₁ q
         method-again e t = method-asked (refuse-yes _ (method-among ∙ e) (repeat-told NamedMethod method-at.here t))
 
-        pub method-new : z ≡ false → MethodAsked s from n r r₁ (Taken d)
+        pub method-new : z ≡ false → MethodAsked s from n r r₁ (Ok d)
         method-new e = method-asked (refuse-no _ (method-among ∙ e))

@@ -1,12 +1,6 @@
 -- The laws by which a reader asks on the methods of a named type one by one.
-use Prim.Native.Nat.{ℕ, suc, zero, ◌+◌, ◌-◌, ◌≤◌, ◌<◌}
-use mathlib.Core.Path.{◌≡◌, refl, ap, sym, ◌∙◌}
-use mathlib.Core.List.{List, []}
-use mathlib.Core.Bool.{Bool, true, false, not}
-use native.Mathlib.Omega.{arith}
-use native.Mathlib.Numerals.{add-one}
-use lib.ListN.{length}
-use lib.Dec.{T, leb, leb→le, nleb→lt}
+use Rattle.std.proofs.Common.{Ok, Err, ℕ, suc, zero, ◌+◌, ◌-◌, ◌≤◌, ◌<◌, ◌≡◌, refl, ap, sym, ◌∙◌, List, [], Bool, true, false, not, arith, add-one, length, T, leb, leb→le}
+use lib.Dec.{nleb→lt}
 use Rattle.format.specs.Trace.{Wrong, pick, Ends}
 use Rattle.format.specs.Format.{Value, content, first, ask, Format, leaf, seq, chain}
 use Rattle.format.specs.Reading.{trace_leaf, trace}
@@ -14,11 +8,9 @@ use Rattle.format.specs.Layout.{clear}
 use Rattle.format.proofs.TraceTheorems.{ask-ends, seq-ends}
 use Rattle.vob24.specs.Questions.{refuse_if, among}
 use Rattle.vob24.specs.Grammar.{method, method_name, new_method, also_seen}
-use Rattle.reader.specs.Contract.{Ready, ReadyAt, Reads, takes, refuses, skips, Reader, ComesTo, Asks, Follows}
+use Rattle.reader.specs.Contract.{Ready, ReadyAt, Reads, takes, refuses, skips, Reader, ComesTo, Asks, Follows, Step}
 use Rattle.reader.specs.declared.Cursor.{Cursor}
 use Rattle.reader.specs.declared.Refusal.{Refusal}
-use Rattle.reader.specs.declared.Step.{Step}
-use Rattle.reader.specs.declared.Step.TheVariants.{Taken, Refused}
 use Rattle.reader.proofs.Laws.{takes-ends, then_reads, Chained, chained-start, chained_refused, chained-done}
 use Rattle.reader.proofs.Asks.{follow_then}
 use Rattle.in_place.specs.Walk.{Stands, value_at, next_at, last_at, stand, items-nil, stand-snoc, last_snoc}
@@ -45,12 +37,12 @@ seen_more i s from w e x = rw (add-one i, ← e, x)
 pub record Methods (s t₀ : List ℕ) (r₀ : Step) (n from : ℕ) (t : List ℕ) (r : Step) (i : ℕ) : Type 0 where
   pub chained : Chained new_method also_seen s t₀ r₀ [] n t r (seen_at i s from) (n - i)
   pub items : Items method i s from
-  pub here : (c : Cursor) → r ≡ Taken c → c.place ≡ last_at method i s from
+  pub here : (c : Cursor) → r ≡ Ok c → c.place ≡ last_at method i s from
   pub ready : Ready s r
   pub long : length t ≡ length t₀
 
 module _ {s t₀ : List ℕ} {n : ℕ} where
-  pub methods-start : {d : Cursor} → ReadyAt s d → Methods s t₀ (Taken d) n d.place t₀ (Taken d) 0
+  pub methods-start : {d : Cursor} → ReadyAt s d → Methods s t₀ (Ok d) n d.place t₀ (Ok d) 0
   methods-start {d} h =
       let z = items-nil method s d.place in
       let e : n - 0 ≡ n = omega arith in
@@ -106,23 +98,23 @@ module _ {s t₀ : List ℕ} {r₀ : Step} {n from : ℕ} {t : List ℕ} {r : St
       unfolding new_method
       methods-read = follow_then a (method-follows b)
 
-      pub methods-refused : {x : Refusal} → q ≡ Refused x → Reader (chain new_method also_seen [] n) s r₀ t₀ q t₁
+      pub methods-refused : {x : Refusal} → q ≡ Err x → Reader (chain new_method also_seen [] n) s r₀ t₀ q t₁
       methods-refused e = chained_refused {k = n - i} (omega arith) l.chained methods-read e
 
-      pub methods-more : {d : Cursor} → q ≡ Taken d → length t₁ ≡ length t → Methods s t₀ r₀ n from t₁ q (i + 1)
+      pub methods-more : {d : Cursor} → q ≡ Ok d → length t₁ ≡ length t → Methods s t₀ r₀ n from t₁ q (i + 1)
       methods-more {d} e j = go r q methods-read.reads methods-read.ready l.here l.chained.comes e
         where
           go : (r q : Step) → Reads (new_method (seen_at i s from)) s r t q t₁ → Ready s q
-              → ((c : Cursor) → r ≡ Taken c → c.place ≡ last_at method i s from)
+              → ((c : Cursor) → r ≡ Ok c → c.place ≡ last_at method i s from)
               → ComesTo (chain new_method also_seen [] n) (chain new_method also_seen (seen_at i s from) (n - i)) s r₀ t₀ r t
-              → q ≡ Taken d → Methods s t₀ r₀ n from t₁ q (i + 1)
-          go (Taken c) (Taken g) (takes {v = w} y) u v k e =
+              → q ≡ Ok d → Methods s t₀ r₀ n from t₁ q (i + 1)
+          go (Ok c) (Ok g) (takes {v = w} y) u v k e =
               let x = method-read (takes-ends y) in
               let p : c.place ≡ last_at method i s from = v c refl in
               let o : n - i - 1 ≡ n - (i + 1) = omega arith in
               let z : chain new_method also_seen (seen_at i s from) (n - i) ≡ seq (new_method (seen_at i s from)) (λ v. chain new_method also_seen (also_seen (seen_at i s from) v) (n - i - 1)) =
               chain_next new_method also_seen (seen_at i s from) (n - i) (omega arith) in
-              let k' : ComesTo (chain new_method also_seen [] n) (seq (new_method (seen_at i s from)) (λ v. chain new_method also_seen (also_seen (seen_at i s from) v) (n - i - 1))) s r₀ t₀ (Taken c) t = rw z at k in
+              let k' : ComesTo (chain new_method also_seen [] n) (seq (new_method (seen_at i s from)) (λ v. chain new_method also_seen (also_seen (seen_at i s from) v) (n - i - 1))) s r₀ t₀ (Ok c) t = rw z at k in
               record {
                 chained = record { comes = record { rest = λ b. k'.rest (then_reads y (rw (seen_more i s from w p x.value, o) b)); ready = u }; long = j ∙ l.long };
                 items = record { small = l.items.small; all = rw (add-one i) (stand-snoc method i s from l.items.all (rw p at x.stands)) };
@@ -130,9 +122,9 @@ module _ {s t₀ : List ℕ} {r₀ : Step} {n from : ℕ} {t : List ℕ} {r : St
                 ready = u;
                 long = j ∙ l.long;
               }
-          go (Taken c) (Refused x) (refuses y) u v k e = apart e refl
-          go (Refused x) (Refused z) skips u v k e = apart e refl
-          go (Refused x) (Taken g) x7 u v k e = elim x7 [ ]
+          go (Ok c) (Err x) (refuses y) u v k e = apart e refl
+          go (Err x) (Err z) skips u v k e = apart e refl
+          go (Err x) (Ok g) x7 u v k e = elim x7 [ ]
 
   pub methods-done : n ≤ i → Reader (chain new_method also_seen [] n) s r₀ t₀ r t
   methods-done h = chained-done (omega arith) l.chained

@@ -1,9 +1,5 @@
 -- The grammar's questions on a list are those on its items one by one, each by the items before it.
-use Prim.Native.Nat.{ℕ, suc}
-use mathlib.Core.Path.{◌≡◌, refl, ap, sym, ◌∙◌}
-use mathlib.Core.List.{List, [], ◌∷◌, ◌++◌, map}
-use mathlib.Core.Bool.{Bool, true, false}
-use lib.ListN.{length}
+use Rattle.std.proofs.Common.{ℕ, suc, ◌≡◌, refl, ap, sym, ◌∙◌, List, [], ◌∷◌, ◌++◌, map, Bool, true, false, length}
 use Rattle.format.specs.Trace.{pick}
 use Rattle.format.specs.Format.{Value, content, pay}
 use Rattle.format.specs.Reading.{same}

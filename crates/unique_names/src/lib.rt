@@ -15,8 +15,8 @@ ghost use Rattle.in_place.specs.Contract.{over, TextAt, Placed, Items, ListBehin
 ghost use Rattle.reader.specs.Accepted.{AsksAccepted};
 ghost use Rattle.repeat_search.specs.Keys.{FirstRepeat};
 ghost use Rattle.repeat_search.specs.Tables.{keys_at};
-ghost use Rattle.unique_names.specs.Asking.{table_asks};
-ghost use Rattle.unique_names.specs.Contract.{ListAccepted, Charged, Repeated, RepeatTold, Cost, Tallied, MethodBehind, MethodAsked};
+ghost use Rattle.unique_names.specs.Asking.{table_asks, list_asks};
+ghost use Rattle.unique_names.specs.Contract.{ListAccepted, Charged, ChargedFor, Repeated, RepeatTold, Cost, Tallied, MethodBehind, MethodAsked};
 
 use in_place::{Item, Table};
 use reader::{Cursor, Refusal, Step, numbers, sizes};
@@ -30,7 +30,7 @@ fn repeated(s: &[u8], p: usize, c: Cursor, number: u64, context: u64) -> Step
     ensures { Repeated s.now p c number context result }
 {
     let len = in_place::word_at(s, p);
-    Step::Refused(Refusal {
+    Err(Refusal {
         number,
         context,
         detail1: (p + 4) as u64,
@@ -47,7 +47,9 @@ fn refuse_repeat(s: &[u8], table: Table, p: usize, c: Cursor) -> Step
 {
     match table {
         Table::Fields => repeated(s, p, c, numbers::DUPLICATE_STRUCT_FIELD, 0),
-        Table::Methods(_) => repeated(s, p, c, numbers::DUPLICATE_INTERFACE_METHOD, 0),
+        Table::Methods(_) | Table::Alike(_) => {
+            repeated(s, p, c, numbers::DUPLICATE_INTERFACE_METHOD, 0)
+        }
         Table::Identities => {
             let package = in_place::package_at(s, p);
             repeated(
@@ -58,7 +60,6 @@ fn refuse_repeat(s: &[u8], table: Table, p: usize, c: Cursor) -> Step
                 (package + 4) as u64,
             )
         }
-        Table::Alike(_) => repeated(s, p, c, numbers::DUPLICATE_INTERFACE_METHOD, 0),
     }
 }
 
@@ -68,7 +69,7 @@ fn charge_field(s: &[u8], p: usize, c: Cursor) -> Step
     ensures { Charged Table.Fields s.now p c result }
 {
     if in_place::blank(s, p) {
-        return Step::Taken(c);
+        return Ok(c);
     }
     let len = in_place::word_at(s, p);
     reader::charge_allocation(c, numbers::STRUCT_FIELD_KEY, len as u64)
@@ -80,9 +81,7 @@ fn charge_key(s: &[u8], table: Table, p: usize, c: Cursor) -> Step
 {
     match table {
         Table::Fields => charge_field(s, p, c),
-        Table::Methods(_) => Step::Taken(c),
-        Table::Identities => Step::Taken(c),
-        Table::Alike(_) => Step::Taken(c),
+        Table::Methods(_) | Table::Identities | Table::Alike(_) => Ok(c),
     }
 }
 
@@ -93,21 +92,15 @@ fn judged(s: &[u8], table: Table, from: usize, n: usize, first: usize, c: Cursor
     ensures { Asks (over (table_asks table) [] (items_at (format_in table) n s.now from)) c result }
 {
     let mut p = from;
-    let mut i = 0;
     let mut here = c;
-    while i < n {
-        let paid = charge_key(s, table, p, here);
-        let Step::Taken(d) = paid else {
-            return paid;
-        };
+    for i in 0..n {
+        here = charge_key(s, table, p, here)?;
         if i == first {
-            return refuse_repeat(s, table, p, d);
+            return refuse_repeat(s, table, p, here);
         }
-        here = d;
         p = in_place::past_item(s, table, p);
-        i += 1;
     }
-    Step::Taken(here)
+    Ok(here)
 }
 
 // The questions on n items whose keys cost `cost` in all, item `first` being the first that repeats another: at once
@@ -132,10 +125,9 @@ fn settled(
     if left < cost {
         return judged(s, table, from, n, first, c);
     }
-    Step::Taken(Cursor {
-        place: c.place,
+    Ok(Cursor {
         left: left - cost,
-        at: c.at,
+        ..c
     })
 }
 
@@ -160,7 +152,7 @@ fn distinct(
     settled(s, table, from, n, first, cost, c)
 }
 
-// ---- 16: the fields of a struct
+// ---- 16: the names of a struct's fields
 
 fn unless(b: bool, n: u64) -> u64
     ensures { (result ≡ pick b 0 n) × (result ≤ n) }
@@ -180,49 +172,81 @@ fn named(s: &[u8], from: usize, n: usize) -> Tally
     ensures { Tallied s.now from n result.names result.bytes }
 {
     let mut at = from;
-    let mut k = n;
     let mut names: u64 = 0;
     let mut bytes: u64 = 0;
-    while 0 < k {
+    for _ in 0..n {
         let b = in_place::blank(s, at);
         names += unless(b, 1);
         bytes += unless(b, in_place::word_at(s, at) as u64);
         at = in_place::past(s, Item::StructField, at);
-        k -= 1;
     }
     Tally { names, bytes }
 }
 
-// The index of the fields whose list was read at r, asked at r1.
+// ---- 16, 17, 19: tables that are charged and then judged
+
+// The charge of a table, and what its items' keys cost.
+#[derive(Clone, Copy)]
+struct Charge {
+    context: u64,
+    size: u64,
+    keys: u64,
+}
+
+// Reading puts no question on names alike: the match has an arm for them all the same.
+fn table_charge(s: &[u8], set: &Settings, table: Table, from: usize, n: usize) -> Charge
+    requires { (Items (format_in table) n s.now from) × (n < 4294967296) }
+    ensures { ChargedFor (settings_of set.now) table s.now from n result }
+{
+    match table {
+        Table::Fields => {
+            let tally = named(s, from, n);
+            Charge {
+                context: numbers::STRUCT_FIELD_INDEX,
+                size: tally.names * vob24_data::size(set, sizes::STRING_USIZE),
+                keys: tally.bytes,
+            }
+        }
+        Table::Methods(_) | Table::Alike(_) => Charge {
+            context: numbers::INTERFACE_METHOD_SET,
+            size: (n as u64) * (2 * vob24_data::size(set, sizes::STR)),
+            keys: 0,
+        },
+        Table::Identities => Charge {
+            context: numbers::RUNTIME_STRUCT_FIELD_SET,
+            size: (n as u64) * (2 * vob24_data::size(set, sizes::STR_STR)),
+            keys: 0,
+        },
+    }
+}
+
+// The questions on a table whose list was read at r, asked at r1.
+#[inline(always)]
+fn asked(s: &[u8], set: &Settings, table: Table, r: Step, r1: Step, again: bool) -> Step
+    requires { (ListBehind (format_in table) s.now r r1)
+        × (ListAccepted again (format_in table) (λ vs. list_asks table (settings_of set.now) vs) s.now r r1) }
+    ensures { ListAsked (format_in table) (λ vs. list_asks table (settings_of set.now) vs) s.now r r1 result }
+{
+    let d = r1?;
+    let c = r?;
+    let n = in_place::word_at(s, c.place);
+    let from = c.place + 4;
+    let charge = table_charge(s, set, table, from, n);
+    let e = reader::charge_allocation(d, charge.context, charge.size)?;
+    distinct(s, table, from, n, charge.keys, again, e)
+}
+
+// The index of a struct's fields whose list was read at r, asked at r1.
 pub fn field_index(s: &[u8], set: &Settings, r: Step, r1: Step, again: bool) -> Step
     requires { (ListBehind struct_field s.now r r1)
         × (ListAccepted again struct_field (λ vs. field_index (settings_of set.now) (map field_name vs)) s.now r r1) }
     ensures { ListAsked struct_field (λ vs. field_index (settings_of set.now) (map field_name vs))
         s.now r r1 result }
 {
-    let Step::Taken(d) = r1 else {
-        return r1;
-    };
-    let Step::Taken(c) = r else {
-        return r1;
-    };
-    let place = c.place;
-    let n = in_place::word_at(s, place);
-    let from = place + 4;
-    let tally = named(s, from, n);
-    let names = tally.names;
-    let bytes = tally.bytes;
-    let size = names * vob24_data::size(set, sizes::STRING_USIZE);
-    let paid = reader::charge_allocation(d, numbers::STRUCT_FIELD_INDEX, size);
-    let Step::Taken(e) = paid else {
-        return paid;
-    };
-    distinct(s, Table::Fields, from, n, bytes, again, e)
+    asked(s, set, Table::Fields, r, r1, again)
 }
 
-// ---- 17: the methods of an interface
-
-// The set of the names whose list was read at r, asked at r1.
+// The set of an interface's methods.
 pub fn method_set(s: &[u8], set: &Settings, item: Item, r: Step, r1: Step, again: bool) -> Step
     requires { (ListBehind (format_of item) s.now r r1)
         × (ListAccepted again (format_of item) (λ vs. method_set (settings_of set.now) (names_of item vs)) s.now r
@@ -230,20 +254,17 @@ pub fn method_set(s: &[u8], set: &Settings, item: Item, r: Step, r1: Step, again
     ensures { ListAsked (format_of item) (λ vs. method_set (settings_of set.now) (names_of item vs))
         s.now r r1 result }
 {
-    let Step::Taken(d) = r1 else {
-        return r1;
-    };
-    let Step::Taken(c) = r else {
-        return r1;
-    };
-    let place = c.place;
-    let n = in_place::word_at(s, place);
-    let size = (n as u64) * (2 * vob24_data::size(set, sizes::STR));
-    let paid = reader::charge_allocation(d, numbers::INTERFACE_METHOD_SET, size);
-    let Step::Taken(e) = paid else {
-        return paid;
-    };
-    distinct(s, Table::Methods(item), place + 4, n, 0, again, e)
+    asked(s, set, Table::Methods(item), r, r1, again)
+}
+
+// The set of a runtime struct's fields; "_" is charged too.
+pub fn field_set(s: &[u8], set: &Settings, r: Step, r1: Step, again: bool) -> Step
+    requires { (ListBehind runtime_field s.now r r1)
+        × (ListAccepted again runtime_field (λ vs. field_set (settings_of set.now) (map identity vs)) s.now r r1) }
+    ensures { ListAsked runtime_field (λ vs. field_set (settings_of set.now) (map identity vs))
+        s.now r r1 result }
+{
+    asked(s, set, Table::Identities, r, r1, again)
 }
 
 // ---- 18: the methods of a named type
@@ -253,40 +274,11 @@ pub fn new_method(s: &[u8], from: usize, n: usize, r: Step, r1: Step) -> Step
     requires { MethodBehind s.now from n r r1 }
     ensures { MethodAsked s.now from n r r1 result }
 {
-    let Step::Taken(d) = r1 else {
-        return r1;
-    };
-    let Step::Taken(c) = r else {
-        return r1;
-    };
+    let d = r1?;
+    let c = r?;
     let place = c.place;
     if in_place::seen(s, Table::Methods(Item::NamedMethod), from, n, place) {
         return repeated(s, place, d, numbers::DUPLICATE_NAMED_METHOD, 0);
     }
-    r1
-}
-
-// ---- 19: the fields of a runtime struct
-
-// The set of the fields whose list was read at r, asked at r1; "_" is charged too.
-pub fn field_set(s: &[u8], set: &Settings, r: Step, r1: Step, again: bool) -> Step
-    requires { (ListBehind runtime_field s.now r r1)
-        × (ListAccepted again runtime_field (λ vs. field_set (settings_of set.now) (map identity vs)) s.now r r1) }
-    ensures { ListAsked runtime_field (λ vs. field_set (settings_of set.now) (map identity vs))
-        s.now r r1 result }
-{
-    let Step::Taken(d) = r1 else {
-        return r1;
-    };
-    let Step::Taken(c) = r else {
-        return r1;
-    };
-    let place = c.place;
-    let n = in_place::word_at(s, place);
-    let size = (n as u64) * (2 * vob24_data::size(set, sizes::STR_STR));
-    let paid = reader::charge_allocation(d, numbers::RUNTIME_STRUCT_FIELD_SET, size);
-    let Step::Taken(e) = paid else {
-        return paid;
-    };
-    distinct(s, Table::Identities, place + 4, n, 0, again, e)
+    Ok(d)
 }

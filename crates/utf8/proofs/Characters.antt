@@ -1,24 +1,17 @@
 -- Where each byte stands as it should, the scan goes from character to character up to the end.
-use Prim.Native.Nat.{ℕ, suc, zero, ◌+◌, ◌-◌, ◌/◌, ◌≤◌, ◌<◌}
-use mathlib.Core.Path.{◌≡◌, refl, sym, ap, ◌∙◌}
-use mathlib.Core.List.{List, ◌∷◌}
-use mathlib.Core.Logic.{◌⊎◌, ⊎_elim}
-use native.Mathlib.Omega.{arith}
-use native.Mathlib.Numerals.{add-one}
-use lib.ListN.{length, get_or, take, drop}
+use Rattle.std.proofs.Common.{ℕ, suc, zero, ◌+◌, ◌-◌, ◌/◌, ◌≤◌, ◌<◌, ◌≡◌, refl, sym, ap, ◌∙◌, List, ◌∷◌, Option, Some, None, ltb, cond, Bool, true, false, ltb-true, ◌⊎◌, ⊎_elim, arith, add-one, length, get_or, take, drop}
+use Rattle.std.specs.Bool.{then_some}
+use Rattle.std.proofs.lemmas.Bool.{cases_lt}
 use Rattle.format.specs.Trace.{pick}
-use Rattle.vob24.specs.Utf8.{Scan, lead, want, characters, scan_from, scan}
-use Rattle.vob24.specs.Ranges.{inside, lt-or-ge}
+use Rattle.vob24.specs.Utf8.{lead, want, characters, scan_from, scan}
+use Rattle.vob24.specs.Ranges.{inside}
 use Rattle.vob24.specs.Rows.{Row, r00, r80, rc2, re0, re1, red, ree, rf0, rf1, rf4, rf5}
 use Rattle.vob24.proofs.Rows.{row}
-use Rattle.utf8_parts.specs.Parts.{Ascii, Stands, Standing, is_trailing, trailing_in, Tests}
+use Rattle.utf8_parts.specs.Parts.{Ascii, Stands, Standing, is_trailing, trailing_in, Tests, characters_of}
 use Rattle.utf8_parts.specs.declared.Part.{Part}
-use Rattle.utf8_parts.proofs.Bytes.{low-join, trailing-yes, trailing-no, trailing_in-add, standing-none, standing-join, tests-at}
-use Rattle.utf8.specs.Answers.{scan_at, Both, Starts, Scans, reaches, TriesAt, told, untold}
+use Rattle.utf8_parts.proofs.Bytes.{low-join, trailing-yes, trailing-no, trailing_in-add, standing-join, tests-at}
+use Rattle.utf8.specs.Answers.{scan_at, Starts, Scans, reaches, Tries, TriesAt}
 use Rattle.utf8.specs.declared.Upto.{Upto}
-use Rattle.utf8.specs.declared.Upto.TheVariants.{At}
-use Rattle.utf8.specs.declared.Tried.{Tried}
-use Rattle.utf8.specs.declared.Tried.TheVariants.{Characters}
 use Rattle.utf8.proofs.Laws.{part-cons, any-range, ascii-scan}
 
 -- ---- one character
@@ -81,13 +74,13 @@ stands_at {s} l k p1 p2 p3 e1 e2 e3 x y = rw (sym e1, sym e2, sym e3) (l.each k 
 
 module _ {s : List ℕ} {i to : ℕ} (h : i < to) (l : Starts s to) where
   ends-two : 0xc0 ≤ get_or s i 0 → i + 2 ≤ to
-  ends-two x = ⊎_elim (λ z. omega arith) (λ z. absurd (let e : to - 1 ≡ i = omega arith in omega (arith, ap (λ j. get_or s j 0) e, l.one))) (lt-or-ge (i + 1) to)
+  ends-two x = ⊎_elim (λ z. omega arith) (λ z. absurd (let e : to - 1 ≡ i = omega arith in omega (arith, ap (λ j. get_or s j 0) e, l.one))) (cases_lt (i + 1) to)
 
   ends-three : 0xe0 ≤ get_or s i 0 → i + 3 ≤ to
-  ends-three x = ⊎_elim (λ z. omega arith) (λ z. absurd (let e : to - 2 ≡ i = omega (arith, ends-two (omega arith)) in omega (arith, ap (λ j. get_or s j 0) e, l.two))) (lt-or-ge (i + 2) to)
+  ends-three x = ⊎_elim (λ z. omega arith) (λ z. absurd (let e : to - 2 ≡ i = omega (arith, ends-two (omega arith)) in omega (arith, ap (λ j. get_or s j 0) e, l.two))) (cases_lt (i + 2) to)
 
   ends-four : 0xf0 ≤ get_or s i 0 → i + 4 ≤ to
-  ends-four x = ⊎_elim (λ z. omega arith) (λ z. absurd (let e : to - 3 ≡ i = omega (arith, ends-three (omega arith)) in omega (arith, ap (λ j. get_or s j 0) e, l.three))) (lt-or-ge (i + 3) to)
+  ends-four x = ⊎_elim (λ z. omega arith) (λ z. absurd (let e : to - 3 ≡ i = omega (arith, ends-three (omega arith)) in omega (arith, ap (λ j. get_or s j 0) e, l.three))) (cases_lt (i + 3) to)
 
 -- ---- character by character
 step : {s : List ℕ} {to i : ℕ} (n m : ℕ) → 3 ≤ i → i < to → to ≤ length s → Starts s i → Starts s to → Standing s i to
@@ -177,7 +170,7 @@ step {s} {to} {i} n m h g k p q l e next = at (row c0)
 
     at : Row c0 → scan_at s to n i ≡ characters m
     at (r00 u v r) = go1 (omega arith) r
-    at (r80 u v r) = absurd (go80 (lt-or-ge c0 0xc0))
+    at (r80 u v r) = absurd (go80 (cases_lt c0 0xc0))
       where
         go80 : (c0 < 0xc0) ⊎ (0xc0 ≤ c0) → ⊥
         go80 = ⊎_elim (λ z. is-first (omega arith)) (λ z. here.near.pair.short (omega arith))
@@ -204,7 +197,7 @@ runs : (f : ℕ) {s : List ℕ} {to i : ℕ} (n m : ℕ) → to ≤ i + f → 3 
     → Starts s to → Standing s i to → n + (to - i) ≡ m + trailing_in s i (to - i) → scan_at s to n i ≡ characters m
 runs zero {s} {to} {i} n m a h b k p q l e = ended s to i n m (omega arith) e
 runs (suc f) {s} {to} {i} n m a h b k p q l e =
-    ⊎_elim (λ g. step n m h g k p q l e (λ j x y o z. runs f (n + 1) m (omega arith) (omega arith) y k o q (record { each = λ u v w. l.each u (omega arith) w }) z)) (λ g. ended s to i n m g e) (lt-or-ge i to)
+    ⊎_elim (λ g. step n m h g k p q l e (λ j x y o z. runs f (n + 1) m (omega arith) (omega arith) y k o q (record { each = λ u v w. l.each u (omega arith) w }) z)) (λ g. ended s to i n m g e) (cases_lt i to)
 
 -- bytes that stand as they should, by how many of them are trailing bytes
 pub place-stands : {s : List ℕ} {to i : ℕ} (n m : ℕ) → 3 ≤ i → i ≤ to → to ≤ length s → Starts s i → Starts s to
@@ -239,17 +232,36 @@ unfolding pick
 text-none s start e = rw e
 
 -- the first 16 bytes and the last, which meet
-pub text-ends : {s : List ℕ} {start size : ℕ} → start + size ≤ length s → size ≤ 32
-    → Both s start (start + size - 16) 16 → scan (take size (drop start s)) ≡ characters size
-text-ends h i l = text-low h (record { low = λ k x y. (low-join l.first l.second (omega arith)).low k x (omega arith) })
+pub text-ends : {s : List ℕ} {start size : ℕ} → start + size ≤ length s → size ≤ 32 → Ascii s start (start + 16)
+    → Ascii s (start + size - 16) (start + size) → scan (take size (drop start s)) ≡ characters size
+text-ends h i a b = text-low h (low-join a b (omega arith))
 
-pub text-part : {s : List ℕ} {start size : ℕ} {p : Part} → 3 ≤ start → start + size ≤ length s → Starts s start
-    → Starts s (start + size) → Tests s (start + size - size) p → p.width ≡ size → p.wrong ≤ 127
-    → scan (take size (drop start s)) ≡ characters (size - p.trailing)
-text-part {s} {start} {size} {p} h k a b l e w =
+-- an answer that is given only where a test holds
+pub tries-if : (t : List ℕ) {n : ℕ} (b : Bool) → (b ≡ true → scan t ≡ characters n) → Tries t (then_some b n)
+tries-if t true h = h refl
+tries-if t false h = tt
+
+-- what is counted of a part
+pub record Counts (p : Part) (n : ℕ) : Type 0 where
+  pub low : p.wrong < 128
+  pub is : n ≡ p.width - p.trailing
+
+pub counts-of : {p : Part} {n : ℕ} → Some n ≡ characters_of p → Counts p n
+counts-of {p} {n} e = go (ltb p.wrong 128) refl e
+  where
+    go : (t : Bool) → ltb p.wrong 128 ≡ t → Some n ≡ cond t (Some (p.width - p.trailing)) None → Counts p n
+    go true f g = record { low = ltb-true p.wrong 128 f; is = cc }
+    go false f g = absurd cc
+
+pub text-part : {s : List ℕ} {start size : ℕ} {p : Part} (r : Option ℕ) → r ≡ characters_of p → 3 ≤ start
+    → start + size ≤ length s → Starts s start → Starts s (start + size) → Tests s (start + size - size) p
+    → p.width ≡ size → Tries (take size (drop start s)) r
+text-part None z h k a b l e = tt
+text-part {s} {start} {size} {p} (Some n) z h k a b l e =
+    let q : Counts p n = counts-of z in
     let t : Tests s start p = tests-at (omega arith) l in
     let c : trailing_in s start p.width ≡ trailing_in s start size = ap (trailing_in s start) e in
-    text-stands (size - p.trailing) h k a b (record { each = λ j x y. (t.stands (omega arith)).each j x (omega arith) }) (omega (arith, t.count, t.few))
+    text-stands n h k a b (record { each = λ j x y. (t.stands q.low).each j x (omega arith) }) (omega (arith, t.count, t.few, q.is))
 
 -- ---- part by part, from start with n characters: the invariant of a loop that has come to at, with m
 pub record Parting (s : List ℕ) (start end n at m : ℕ) : Type 0 where
@@ -258,11 +270,6 @@ pub record Parting (s : List ℕ) (start end n at m : ℕ) : Type 0 where
   pub stands : Standing s start at
   pub count : m + trailing_in s start (at - start) ≡ n + (at - start)
 
-pub parting-start : {s : List ℕ} {start end n : ℕ} → start ≤ end → Parting s start end n start n
-parting-start {s} {start} h =
-    let d : start - start ≡ 0 = omega arith in
-    record { past = omega arith; within = h; stands = standing-none (omega arith); count = omega (arith, ap (trailing_in s start) d) }
-
 module _ {s : List ℕ} {start end n at m : ℕ} {p : Part} (l : Parting s start end n at m) (t : Tests s at p) where
   joined : trailing_in s start (at + p.width - start) ≡ trailing_in s start (at - start) + p.trailing
   joined =
@@ -270,27 +277,28 @@ module _ {s : List ℕ} {start end n at m : ℕ} {p : Part} (l : Parting s start
       let u : start + (at - start) ≡ at = omega (arith, l.past) in
       omega (arith, ap (trailing_in s start) d, trailing_in-add s start (at - start) p.width, ap (λ j. trailing_in s j p.width) u, t.count)
 
-  pub parting-on : at + p.width ≤ end → p.wrong ≤ 127
-      → Parting s start end n (at + p.width) (m + (p.width - p.trailing))
-  parting-on h w =
+  pub parting-on : {c : ℕ} → at + p.width ≤ end → Some c ≡ characters_of p
+      → Parting s start end n (at + p.width) (m + c)
+  parting-on {c} h z =
+      let q : Counts p c = counts-of z in
       record {
         past = omega (arith, l.past);
         within = h;
-        stands = standing-join l.stands (t.stands (omega arith));
-        count = omega (arith, l.count, l.past, t.few, joined);
+        stands = standing-join l.stands (t.stands q.low);
+        count = omega (arith, l.count, l.past, t.few, joined, q.is);
       }
 
 -- what is left, with the bytes before it
-pub parting-last : {s : List ℕ} {start end n at m r : ℕ} {p : Part} → 3 ≤ start → end ≤ length s → Starts s start
-    → Starts s end → Parting s start end n at m → r ≡ end - at → Tests s (end - r) p → p.width ≡ r → p.wrong ≤ 127
-    → scan_at s end n start ≡ characters (m + (r - p.trailing))
-parting-last {s} {start} {end} {n} {at} {m} {r} {p} h k a b l e t i w =
+pub parting-last : {s : List ℕ} {start end n at m c : ℕ} {p : Part} → 3 ≤ start → end ≤ length s → Starts s start
+    → Starts s end → Parting s start end n at m → Tests s (end - (end - at)) p → p.width ≡ end - at
+    → Some c ≡ characters_of p → scan_at s end n start ≡ characters (m + c)
+parting-last {s} {start} {end} {n} {at} {m} {c} {p} h k a b l t i z =
     let u : Tests s at p = tests-at (omega (arith, l.within)) t in
     let o : at + p.width ≤ end = omega (arith, l.within) in
-    let v : Parting s start end n (at + p.width) (m + (p.width - p.trailing)) = parting-on l u o w in
+    let v : Parting s start end n (at + p.width) (m + c) = parting-on l u o z in
     let f : at + p.width ≡ end = omega (arith, l.within) in
-    let c : trailing_in s start (at + p.width - start) ≡ trailing_in s start (end - start) = ap (λ j. trailing_in s start (j - start)) f in
-    place-stands n (m + (r - p.trailing)) h (omega (arith, l.past, l.within)) k a b (record { each = λ j x y. v.stands.each j x (omega arith) }) (omega (arith, v.count))
+    let e : trailing_in s start (at + p.width - start) ≡ trailing_in s start (end - start) = ap (λ j. trailing_in s start (j - start)) f in
+    place-stands n (m + c) h (omega (arith, l.past, l.within)) k a b (record { each = λ j x y. v.stands.each j x (omega arith) }) (omega (arith, v.count))
 
 -- ---- from a later place
 pub record Latering (s : List ℕ) (start end i n : ℕ) : Type 0 where
@@ -299,29 +307,11 @@ pub record Latering (s : List ℕ) (start end i n : ℕ) : Type 0 where
   pub few : n ≤ i
   pub leads : scan_at s end 0 start ≡ scan_at s end n i
 
-pub later-start : {s : List ℕ} {start end : ℕ} → start ≤ end → Latering s start end start 0
-later-start h = record { past = omega arith; within = h; few = omega arith; leads = refl }
-
 module _ {s : List ℕ} {start end i n : ℕ} where
-  pub later-on : {j m : ℕ} {q : Upto} → Scans s end n i (i + 1) q → q ≡ At j m → Latering s start end i n
-      → Latering s start end j m
-  later-on {j} {m} h e l = go (rw e at h)
-    where
-      go : Scans s end n i (i + 1) (At j m) → Latering s start end j m
-      go (reaches a b c x) = record { past = omega (arith, l.past); within = b; few = c; leads = l.leads ∙ x }
+  pub later-on : {q : Upto} → Scans s end n i (i + 1) (Some q) → Latering s start end i n
+      → Latering s start end q.place q.characters
+  later-on (reaches a b c x) l = record { past = omega (arith, l.past); within = b; few = c; leads = l.leads ∙ x }
 
-  pub later-told : {q : Tried} → Latering s start end i n → TriesAt s end n i q → TriesAt s end 0 start q
-  later-told l (told x) = told (l.leads ∙ x)
-  later-told l untold = untold
-
--- ---- a text that was tried
-pub tried-known : {s : List ℕ} {start m : ℕ} {q : Tried} (size : ℕ) → TriesAt s (start + size) 0 start q
-    → q ≡ Characters m → characters m ≡ scan (take size (drop start s))
-tried-known {s} {start} {m} size h e = go (rw e at h)
-  where
-    go : TriesAt s (start + size) 0 start (Characters m) → characters m ≡ scan (take size (drop start s))
-    go (told x) = let z : start + size - start ≡ size = omega arith in sym x ∙ ap (λ j. scan (take j (drop start s))) z
-
-pub text-slice : (s : List ℕ) (start size : ℕ) {o : Scan} → o ≡ scan (take (start + size - start) (drop start s))
-    → o ≡ scan (take size (drop start s))
-text-slice s start size e = let z : start + size - start ≡ size = omega arith in e ∙ ap (λ j. scan (take j (drop start s))) z
+  pub later-told : (r : Option ℕ) → Latering s start end i n → TriesAt s end n i r → TriesAt s end 0 start r
+  later-told None l h = h
+  later-told (Some m) l h = l.leads ∙ h

@@ -1,27 +1,13 @@
--- The laws of the scan: a character byte by byte, bytes of ASCII at once, the characters of a text, and where one can
--- start.
-use Prim.Native.Nat.{ℕ, suc, zero, ◌+◌, ◌-◌, ◌≤◌, ◌<◌}
-use mathlib.Core.Path.{◌≡◌, refl, sym, ap, ◌∙◌}
-use mathlib.Core.Bool.{true, false}
-use mathlib.Core.List.{List, [], ◌∷◌}
-use native.Mathlib.Omega.{arith}
-use native.Mathlib.Numerals.{add-one}
-use borrow.Author.Tests.{ltb-true, ne_eqb}
-use lib.Bits.{bit_or}
-use lib.Dec.{ltb, eqb}
-use lib.ListN.{length, get_or, take, drop}
-use lib.Seq.{drop-cons, take-length}
+-- The laws of the scan: a character byte by byte, bytes of ASCII at once, the characters of a text.
+use Rattle.std.proofs.Common.{ℕ, suc, zero, ◌+◌, ◌-◌, ◌≤◌, ◌<◌, ◌≡◌, refl, sym, ap, ◌∙◌, true, false, List, [], ◌∷◌, Some, None, arith, Bool, is_le, nat_cmp, leb, ◌&&◌, add-one, eqb, ltb, ltb-true, ne_eqb, bit_or, length, get_or, take, drop, fold, length-drop, length-take-le, get_or-take, get_or-drop, drop-cons}
+use Rattle.std.proofs.lemmas.Bool.Decides.{nat_tests}
 use Rattle.format.specs.Trace.{pick}
-use Rattle.vob24.specs.Utf8.{lead, ill_formed, characters, scan_from, scan}
-use Rattle.vob24.specs.Ranges.{inside, below, above}
+use Rattle.vob24.specs.Utf8.{in?, bad, want, lead, characters, scan_from, scan}
 use Rattle.vob24.proofs.Rows.{lead00}
 use Rattle.utf8_parts.specs.Parts.{Ascii}
-use Rattle.utf8_parts.proofs.Bytes.{or-low-l, or-low-r, low-before, low_byte, low-join}
-use Rattle.utf8.specs.Answers.{next_of, scan_at, Both, Starts, Scans, fails, reaches}
-use Rattle.utf8.specs.declared.Next.{Next}
-use Rattle.utf8.specs.declared.Next.TheVariants.{Bad, Want}
+use Rattle.utf8_parts.proofs.Bytes.{or-low-l, or-low-r, low-before, low-join}
+use Rattle.utf8.specs.Answers.{scan_at, Scans, fails, reaches}
 use Rattle.utf8.specs.declared.Upto.{Upto}
-use Rattle.utf8.specs.declared.Upto.TheVariants.{At, IllFormed as Fails}
 
 -- a part by its first byte
 pub part-cons : (s : List ℕ) (i to : ℕ) → i < to → to ≤ length s
@@ -30,9 +16,15 @@ part-cons s i to h k =
     let e : to - i ≡ suc (to - (i + 1)) = omega arith in
     rw (e, add-one i, drop-cons s i 0 (omega arith))
 
--- the whole of a text
-whole : (s : List ℕ) → scan_at s (length s) 0 0 ≡ scan s
-whole s = let z : length s - 0 ≡ length s = omega arith in rw z (ap (scan_from 0 0 0x80 0xbf) (take-length s))
+-- what the library's `contains` answers
+is-le : (a b : ℕ) → is_le (nat_cmp a b) ≡ leb a b
+is-le a b = grind (arith, nat_tests)
+
+abbrev in_range : ℕ → ℕ → ℕ → Bool
+in_range lo hi b = is_le (nat_cmp lo b) && is_le (nat_cmp b hi)
+
+in-range : (lo hi b : ℕ) → in_range lo hi b ≡ in? lo hi b
+in-range lo hi b = rw (is-le lo b, is-le b hi)
 
 -- ---- a character: the invariant of its loop, with so many bytes to come
 
@@ -41,9 +33,7 @@ abbrev up_to : ℕ → ℕ → ℕ
 up_to n more = pick (eqb more 0) (suc n) n
 
 pub record Charing (s : List ℕ) (to n from more lo hi i : ℕ) : Type 0 where
-  pub past : from + 1 ≤ i
   pub within : i ≤ to
-  pub fits : to ≤ length s
   pub leads : scan_at s to n from ≡ scan_from (up_to n more) more lo hi (take (to - i) (drop i s))
 
 -- the range is that of a byte to come
@@ -51,84 +41,82 @@ pub any-range : (n lo hi : ℕ) (bs : List ℕ) → scan_from n 0 lo hi bs ≡ s
 any-range n lo hi [] = refl
 any-range n lo hi (b ∷ bs) = refl
 
-module _ {s : List ℕ} {to n from : ℕ} {q : Next} (h : from < to) (k : to ≤ length s) (e : next_of q ≡ lead (get_or s from 0)) where
-  pub char-start : {m l z : ℕ} → q ≡ Want m l z → Charing s to n from m l z (from + 1)
-  char-start i =
+module _ {s : List ℕ} {to n from : ℕ} (h : from < to) (k : to ≤ length s) where
+  pub char-start : {m lo hi more : ℕ} → want m lo hi ≡ lead (get_or s from 0) → more ≡ m
+      → Charing s to n from more lo hi (from + 1)
+  char-start e i =
       record {
-        past = omega arith;
         within = omega arith;
-        fits = k;
-        leads = ap (scan_from n 0 0x80 0xbf) (part-cons s from to h k) ∙ rw (sym e ∙ ap next_of i);
+        leads = ap (scan_from n 0 0x80 0xbf) (part-cons s from to h k) ∙ rw (← e, i);
       }
 
-  pub char-bad : q ≡ Bad → Scans s to n from (from + 1) Fails
-  char-bad i = fails (ap (scan_from n 0 0x80 0xbf) (part-cons s from to h k) ∙ rw (sym e ∙ ap next_of i))
+  pub char-bad : bad ≡ lead (get_or s from 0) → Scans s to n from (from + 1) None
+  char-bad e = fails (ap (scan_from n 0 0x80 0xbf) (part-cons s from to h k) ∙ rw (← e))
 
 module _ {s : List ℕ} {to n from more lo hi i : ℕ} where
-  pub char-short : 0 < more → to ≤ i → Charing s to n from more lo hi i → Scans s to n from (from + 1) Fails
+  pub char-short : 0 < more → to ≤ i → Charing s to n from more lo hi i → Scans s to n from (from + 1) None
   unfolding pick
   char-short h k l = let e : to - i ≡ 0 = omega arith in fails (l.leads ∙ rw (e, ne_eqb more 0 (λ z. omega arith)))
 
-  pub char-low : 0 < more → i < to → get_or s i 0 < lo → Charing s to n from more lo hi i
-      → Scans s to n from (from + 1) Fails
-  char-low h k b l = fails (l.leads ∙ ap (scan_from _ more lo hi) (part-cons s i to k l.fits) ∙ rw (ne_eqb more 0 (λ z. omega arith), below lo hi (get_or s i 0) b))
+  module _ (f : to ≤ length s) (h : 0 < more) (k : i < to) (l : Charing s to n from more lo hi i) where
+    pub char-out : false ≡ in_range lo hi (get_or s i 0) → Scans s to n from (from + 1) None
+    char-out b =
+        let e : in? lo hi (get_or s i 0) ≡ false = sym (b ∙ in-range lo hi (get_or s i 0)) in
+        fails (l.leads ∙ ap (scan_from _ more lo hi) (part-cons s i to k f) ∙ rw (ne_eqb more 0 (λ z. omega arith), e))
 
-  pub char-high : 0 < more → i < to → hi < get_or s i 0 → Charing s to n from more lo hi i
-      → Scans s to n from (from + 1) Fails
-  char-high h k b l = fails (l.leads ∙ ap (scan_from _ more lo hi) (part-cons s i to k l.fits) ∙ rw (ne_eqb more 0 (λ z. omega arith), above lo hi (get_or s i 0) b))
+    pub char-more : {j : ℕ} → j ≡ more - 1 → true ≡ in_range lo hi (get_or s i 0)
+        → Charing s to n from j 0x80 0xbf (i + 1)
+    unfolding pick
+    char-more d b =
+        let e : in? lo hi (get_or s i 0) ≡ true = sym (b ∙ in-range lo hi (get_or s i 0)) in
+        record {
+          within = omega arith;
+          leads = l.leads ∙ ap (scan_from _ more lo hi) (part-cons s i to k f) ∙ rw (ne_eqb more 0 (λ z. omega arith), e, d);
+        }
 
-  pub char-more : 0 < more → i < to → lo ≤ get_or s i 0 → get_or s i 0 ≤ hi → Charing s to n from more lo hi i
-      → Charing s to n from (more - 1) 0x80 0xbf (i + 1)
+  pub char-done : {p : ℕ} → i ≡ p → more ≡ 0 → from + 1 ≤ i → n ≤ from → Charing s to n from more lo hi i
+      → Scans s to n from (from + 1) (Some (record { place = p; characters = n + 1 }))
   unfolding pick
-  char-more h k a b l =
-      record {
-        past = omega arith;
-        within = omega arith;
-        fits = l.fits;
-        leads = l.leads ∙ ap (scan_from _ more lo hi) (part-cons s i to k l.fits) ∙ rw (ne_eqb more 0 (λ z. omega arith), inside lo hi (get_or s i 0) a b);
-      }
+  char-done d e g h l = reaches (omega arith) (omega (arith, l.within)) (omega arith) (l.leads ∙ rw (← d, e, add-one n) (any-range (suc n) lo hi (take (to - i) (drop i s))))
 
-  pub char-done : more ≤ 0 → n ≤ from → Charing s to n from more lo hi i → Scans s to n from (from + 1) (At i (n + 1))
-  unfolding pick
-  char-done h k l =
-      let e : more ≡ 0 = omega arith in
-      reaches {m = n + 1} l.past l.within (omega (arith, l.past)) (l.leads ∙ rw (e, add-one n) (any-range (suc n) lo hi (take (to - i) (drop i s))))
+-- ---- bytes of ASCII
 
-pub ruleset charing = (char-start, char-bad, char-short, char-low, char-high, char-done)
+-- joined below 128, they are
+low-fold : (m : ℕ) (s : List ℕ) → fold bit_or m s < 128 → (m < 128) × Ascii s 0 (length s)
+low-fold m [] h = (h, low-before (omega arith))
+low-fold m (b ∷ s) h =
+    let l = low-fold (bit_or m b) s h in
+    (or-low-l m b l.0, record { low = λ k x y. at k y l.1 (or-low-r m b l.0) })
+  where
+    at : (k : ℕ) → k < suc (length s) → Ascii s 0 (length s) → b < 128 → get_or (b ∷ s) k 0 < 128
+    at zero y l e = e
+    at (suc k) y l e = l.low k (omega arith) (omega arith)
 
--- ---- bytes of ASCII at two places: m below 128 says that each byte passed is
-pub record Oring (s : List ℕ) (a b width m k : ℕ) : Type 0 where
-  pub within : k ≤ width
-  pub all : m < 128 → Both s a b k
+pub low-joined : (s : List ℕ) → ltb (fold bit_or 0 s) 128 ≡ true → Ascii s 0 (length s)
+low-joined s e = (low-fold 0 s (ltb-true _ 128 e)).1
 
-module _ {s : List ℕ} {a b width : ℕ} where
-  pub oring-start : Oring s a b width 0 0
-  oring-start = record { within = omega arith; all = λ m. record { first = low-before (omega arith); second = low-before (omega arith) } }
+pub low-take : {s : List ℕ} (k : ℕ) → k ≤ length s → Ascii (take k s) 0 (length (take k s)) → Ascii s 0 k
+low-take {s} k h l = record { low = λ j x y. omega (arith, l.low j x (omega (arith, length-take-le k s h)), get_or-take k s j 0 y) }
 
-  module _ {m k : ℕ} where
-    pub oring-more : k < width → Oring s a b width m k
-        → Oring s a b width (bit_or (bit_or m (get_or s (a + k) 0)) (get_or s (b + k) 0)) (k + 1)
-    oring-more h l = record { within = omega arith; all = both }
-      where
-        x : ℕ
-        x = get_or s (a + k) 0
+pub low-drop : {s : List ℕ} (k m : ℕ) → Ascii (drop k s) 0 m → Ascii s k (k + m)
+low-drop {s} k m l =
+    record {
+      low = λ j x y.
+          let e : k + (j - k) ≡ j = omega arith in
+          omega (arith, l.low (j - k) (omega arith) (omega arith), get_or-drop k s (j - k) 0, ap (λ i. get_or s i 0) e);
+    }
 
-        y : ℕ
-        y = get_or s (b + k) 0
+pub low-slice : {s : List ℕ} {i j : ℕ} → i ≤ j → j ≤ length s
+    → Ascii (take (j - i) (drop i s)) 0 (length (take (j - i) (drop i s))) → Ascii s i j
+low-slice {s} {i} {j} g h l =
+    let e : i + (j - i) ≡ j = omega arith in
+    rw (← e) (low-drop i (j - i) (low-take (j - i) (omega (arith, length-drop i s)) l))
 
-        both : bit_or (bit_or m x) y < 128 → Both s a b (k + 1)
-        both e =
-            let f : bit_or m x < 128 = or-low-l (bit_or m x) y e in
-            let i : Both s a b k = l.all (or-low-l m x f) in
-            record {
-              first = low-join i.first (low_byte {i = a + k} (or-low-r m x f) (omega arith)) (omega arith);
-              second = low-join i.second (low_byte {i = b + k} (or-low-r (bit_or m x) y e) (omega arith)) (omega arith);
-            }
-
-    pub oring-done : width ≤ k → Oring s a b width m k → ltb m 128 ≡ true → Both s a b width
-    oring-done h l e = let i : k ≡ width = omega (arith, l.within) in (rw i at l).all (ltb-true m 128 e)
-
-pub ruleset oring = (oring-start, oring-more, oring-done)
+pub low-halves : {s : List ℕ} (k : ℕ) → k ≤ length s → Ascii (take k s) 0 (length (take k s))
+    → Ascii (drop k s) 0 (length (drop k s)) → Ascii s 0 (length s)
+low-halves {s} k h a b =
+    let e : k + length (drop k s) ≡ length s = omega (arith, length-drop k s) in
+    low-join (low-take k h a) (rw e at (low-drop k (length (drop k s)) b)) (omega arith)
 
 -- each byte of ASCII is a character
 pub ascii-scan : (s : List ℕ) (to k n from : ℕ) → from + k ≤ to → to ≤ length s → Ascii s from (from + k)
@@ -147,39 +135,10 @@ pub record Going (s : List ℕ) (i m : ℕ) : Type 0 where
   pub count : m ≤ i
   pub leads : scan s ≡ scan_at s (length s) m i
 
-pub going-past : {s : List ℕ} {to n i stop j m : ℕ} {q : Upto} → Scans s to n i stop q → q ≡ At j m → stop ≤ j
-going-past {s} {to} {n} {i} {stop} {j} {m} h e = go (rw e at h)
-  where
-    go : Scans s to n i stop (At j m) → stop ≤ j
-    go (reaches a b c x) = a
+module _ {s : List ℕ} {i m : ℕ} where
+  pub going-reached : {q : Upto} → Scans s (length s) m i (i + 1) (Some q) → Going s i m → Going s q.place q.characters
+  going-reached (reaches a b c x) l = record { within = b; count = c; leads = l.leads ∙ x }
 
-module _ {s : List ℕ} where
-  pub going_start : Going s 0 0
-  going_start = record { within = omega arith; count = omega arith; leads = sym (whole s) }
-
-  module _ {i m : ℕ} where
-    pub going-reached : {j k : ℕ} {q : Upto} → Scans s (length s) m i (i + 1) q → q ≡ At j k → Going s i m → Going s j k
-    going-reached {j} {k} h e l = go (rw e at h)
-      where
-        go : Scans s (length s) m i (i + 1) (At j k) → Going s j k
-        go (reaches a b c x) = record { within = b; count = c; leads = l.leads ∙ x }
-
-    pub going-lost : {q : Upto} → Scans s (length s) m i (i + 1) q → q ≡ Fails → Going s i m → ill_formed ≡ scan s
-    going-lost h e l = sym (l.leads ∙ go (rw e at h))
-      where
-        go : Scans s (length s) m i (i + 1) Fails → scan_at s (length s) m i ≡ ill_formed
-        go (fails x) = x
-
-    pub going_done : length s ≤ i → Going s i m → characters m ≡ scan s
-    unfolding pick
-    going_done h l = let e : length s - i ≡ 0 = omega arith in sym (l.leads ∙ rw e)
-
-pub ruleset going = (going_start, going-reached, going-lost, going_done)
-
--- ---- where a character can start
-pub starts-if : {s : List ℕ} {i : ℕ} → get_or s (i - 1) 0 ≤ 0xbf → get_or s (i - 2) 0 ≤ 0xdf
-    → ltb (get_or s (i - 3) 0) 0xf0 ≡ true → Starts s i
-starts-if {s} {i} a b e = record { one = omega arith; two = omega arith; three = ltb-true (get_or s (i - 3) 0) 0xf0 e }
-
-pub no_true : {A : Type 0} → false ≡ true → A
-no_true e = absurd (let z : ◌≡◌ {A = ℕ} 0 1 = cc in omega arith)
+  pub going_done : length s ≤ i → Going s i m → characters m ≡ scan s
+  unfolding pick
+  going_done h l = let e : length s - i ≡ 0 = omega arith in sym (l.leads ∙ rw e)

@@ -8,149 +8,83 @@
 ghost use Rattle.std.specs.Prelude.{◌≡◌, true, ◌+◌, ◌≤◌, ◌<◌, length, take, drop};
 ghost use Rattle.vob24.specs.Utf8 as Utf8;
 ghost use Rattle.utf8_parts.specs.Parts.{Ascii};
-ghost use Rattle.utf8.specs.Answers.{next_of, scan_of, Both, Starts, Scans, Tries, TriesAt};
+ghost use Rattle.utf8.specs.Answers.{next_of, scan_of, Starts, Scans, Tries, TriesAt};
 
 // What may come after a byte: how many more of its sequence, and the next of them from lo to hi.
 #[derive(Clone, Copy)]
-enum Next {
-    Bad,
-    Want { more: u8, lo: u8, hi: u8 },
-}
-
-#[derive(Clone, Copy)]
-pub enum Scanned {
-    IllFormed,
-    Characters(usize),
+struct Next {
+    more: u8,
+    lo: u8,
+    hi: u8,
 }
 
 // Whole characters up to a place, and their count.
 #[derive(Clone, Copy)]
-enum Upto {
-    IllFormed,
-    At { place: usize, characters: usize },
-}
-
-// What the faster test says: well-formed, with the number of characters, or nothing.
-#[derive(Clone, Copy)]
-pub enum Tried {
-    Unknown,
-    Characters(usize),
+struct Upto {
+    place: usize,
+    characters: usize,
 }
 
 // ---- the plain scan
 
 // The rows of the table, by the first byte.
-fn lead(b: u8) -> Next
+fn lead(b: u8) -> Option<Next>
     ensures { next_of result ≡ Utf8.lead b }
 {
-    match b {
-        0..=0x7f => Next::Want {
-            more: 0,
-            lo: 0x80,
-            hi: 0xbf,
-        },
-        0xc2..=0xdf => Next::Want {
-            more: 1,
-            lo: 0x80,
-            hi: 0xbf,
-        },
-        0xe0 => Next::Want {
-            more: 2,
-            lo: 0xa0,
-            hi: 0xbf,
-        },
-        0xe1..=0xec => Next::Want {
-            more: 2,
-            lo: 0x80,
-            hi: 0xbf,
-        },
-        0xed => Next::Want {
-            more: 2,
-            lo: 0x80,
-            hi: 0x9f,
-        },
-        0xee..=0xef => Next::Want {
-            more: 2,
-            lo: 0x80,
-            hi: 0xbf,
-        },
-        0xf0 => Next::Want {
-            more: 3,
-            lo: 0x90,
-            hi: 0xbf,
-        },
-        0xf1..=0xf3 => Next::Want {
-            more: 3,
-            lo: 0x80,
-            hi: 0xbf,
-        },
-        0xf4 => Next::Want {
-            more: 3,
-            lo: 0x80,
-            hi: 0x8f,
-        },
-        _ => Next::Bad,
-    }
+    let (more, lo, hi) = match b {
+        0..=0x7f => (0, 0x80, 0xbf),
+        0xc2..=0xdf => (1, 0x80, 0xbf),
+        0xe0 => (2, 0xa0, 0xbf),
+        0xe1..=0xec => (2, 0x80, 0xbf),
+        0xed => (2, 0x80, 0x9f),
+        0xee..=0xef => (2, 0x80, 0xbf),
+        0xf0 => (3, 0x90, 0xbf),
+        0xf1..=0xf3 => (3, 0x80, 0xbf),
+        0xf4 => (3, 0x80, 0x8f),
+        _ => return None,
+    };
+    Some(Next { more, lo, hi })
 }
 
-// A character by its row of the table, after n of them.
-fn char(s: &[u8], from: usize, to: usize, n: usize) -> Upto
-    requires { (from < to) × (to ≤ length s.now) × (n ≤ from) }
-    ensures { Scans s.now to n from (from + 1) result }
+// A character more, by its row of the table.
+fn char(s: &[u8], at: Upto, to: usize) -> Option<Upto>
+    requires { (at.place < to) × (to ≤ length s.now) × (at.characters ≤ at.place) }
+    ensures { Scans s.now to at.characters at.place (at.place + 1) result }
 {
-    let Next::Want {
-        more: m,
-        lo: l,
-        hi: h,
-    } = lead(s[from])
-    else {
-        return Upto::IllFormed;
-    };
-    let mut more = m;
-    let mut lo = l;
-    let mut hi = h;
-    let mut i = from + 1;
-    while 0 < more {
-        if to <= i {
-            return Upto::IllFormed;
+    let Next {
+        more,
+        mut lo,
+        mut hi,
+    } = lead(s[at.place])?;
+    let first = at.place + 1;
+    let next = first + usize::from(more);
+    for i in first..next {
+        if to <= i || !(lo..=hi).contains(&s[i]) {
+            return None;
         }
-        let b = s[i];
-        if b < lo {
-            return Upto::IllFormed;
-        }
-        if hi < b {
-            return Upto::IllFormed;
-        }
-        more -= 1;
         lo = 0x80;
         hi = 0xbf;
-        i += 1;
     }
-    Upto::At {
-        place: i,
-        characters: n + 1,
-    }
+    Some(Upto {
+        place: next,
+        characters: at.characters + 1,
+    })
 }
 
 // The plain scan, character by character.
-fn scan(t: &[u8]) -> Scanned
+fn scan(t: &[u8]) -> Option<usize>
     ensures { scan_of result ≡ Utf8.scan t.now }
 {
     let to = t.len();
-    let mut i: usize = 0;
-    let mut n: usize = 0;
-    while i < to {
-        let Upto::At {
-            place: j,
-            characters: m,
-        } = char(t, i, to, n)
-        else {
-            return Scanned::IllFormed;
-        };
-        i = j;
-        n = m;
+    let mut at = Upto {
+        place: 0,
+        characters: 0,
+    };
+    // Not a `for`: a character says where the next one starts.
+    while at.place < to {
+        at = char(t, at, to)?;
     }
-    Scanned::Characters(n)
+    Some(at.characters)
 }
 
 // ---- texts
@@ -163,156 +97,106 @@ fn starts(s: &[u8], i: usize) -> bool
     requires { (3 ≤ i) × (i ≤ length s.now) }
     ensures { result ≡ true → Starts s.now i }
 {
-    if 0xbf < s[i - 1] {
-        return false;
-    }
-    if 0xdf < s[i - 2] {
-        return false;
-    }
-    s[i - 3] < 0xf0
+    s[i - 1] < 0xc0 && s[i - 2] < 0xe0 && s[i - 3] < 0xf0
 }
 
-// The characters from start up to `end`, after n of them: part by part, and the rest as the last of 16 bytes.
-fn parts(s: &[u8], start: usize, end: usize, n: usize) -> Tried
-    requires { ((3 ≤ start) × (19 ≤ end) × (start ≤ end) × (end ≤ length s.now) × (n ≤ start))
-        × (Starts s.now start × Starts s.now end) }
-    ensures { TriesAt s.now end n start result }
+// The characters up to `end`: part by part, and the rest as the last of 16 bytes.
+fn parts(s: &[u8], start: Upto, end: usize) -> Option<usize>
+    requires { ((3 ≤ start.place) × (19 ≤ end) × (start.place ≤ end) × (end ≤ length s.now)
+        × (start.characters ≤ start.place)) × (Starts s.now start.place × Starts s.now end) }
+    ensures { TriesAt s.now end start.characters start.place result }
 {
     let mut at = start;
-    let mut m = n;
-    while 16 <= end - at {
-        let q = utf8_parts::next_part(s, at, end);
-        if 127 < q.wrong {
-            return Tried::Unknown;
-        }
-        m += q.width - q.trailing as usize;
-        at += q.width;
+    // Not a `for`: a part says how wide it is.
+    while 16 <= end - at.place {
+        let part = utf8_parts::next_part(s, at.place, end);
+        at = Upto {
+            place: at.place + part.width,
+            characters: at.characters + part.characters()?,
+        };
     }
-    let r = end - at;
-    let p = utf8_parts::sixteen(s, end, r);
-    if 127 < p.wrong {
-        return Tried::Unknown;
-    }
-    Tried::Characters(m + (r - p.trailing as usize))
+    let rest = utf8_parts::sixteen(s, end, end - at.place);
+    Some(at.characters + rest.characters()?)
 }
 
 // The bytes before a text are its length, which may look like lead bytes: then the plain scan reads the first
 // characters, up to a place where the bytes before ask for no more.
-fn try_at(s: &[u8], start: usize, end: usize) -> Tried
+fn try_at(s: &[u8], start: usize, end: usize) -> Option<usize>
     requires { (start ≤ end) × (end ≤ length s.now) }
     ensures { TriesAt s.now end 0 start result }
 {
-    if start < 3 {
-        return Tried::Unknown;
+    if start < 3 || end < 19 || !starts(s, end) {
+        return None;
     }
-    if end < 19 {
-        return Tried::Unknown;
-    }
-    if !starts(s, end) {
-        return Tried::Unknown;
-    }
-    let mut i = start;
-    let mut n: usize = 0;
-    while i < end {
-        if starts(s, i) {
-            return parts(s, i, end, n);
+    let mut at = Upto {
+        place: start,
+        characters: 0,
+    };
+    // Not a `for`: a character says where the next one starts.
+    while at.place < end {
+        if starts(s, at.place) {
+            return parts(s, at, end);
         }
-        let Upto::At {
-            place: j,
-            characters: m,
-        } = char(s, i, end, n)
-        else {
-            return Tried::Unknown;
-        };
-        i = j;
-        n = m;
+        at = char(s, at, end)?;
     }
-    Tried::Unknown
+    None
 }
 
-// Are the `width` bytes at a and those at b all below 128?
-fn ascii(s: &[u8], a: usize, b: usize, width: usize) -> bool
-    requires { (a + width ≤ length s.now) × (b + width ≤ length s.now) }
-    ensures { result ≡ true → Both s.now a b width }
+// Are the bytes all below 128? They are joined, with no branch, so that this is compiled to vector code.
+fn ascii(s: &[u8]) -> bool
+    ensures { result ≡ true → Ascii s.now 0 (length s.now) }
 {
-    let mut m: u8 = 0;
-    let mut k: usize = 0;
-    while k < width {
-        m = m | s[a + k] | s[b + k];
-        k += 1;
-    }
-    m < 128
+    s.iter().fold(0u8, |m, b| m | *b) < 128
 }
 
 // A text of at most 32 bytes, with no loop over its length: up to 16 bytes as the last of 16; more only where they are
 // ASCII, by the first 16 and the last 16, which together are all.
-pub fn try_short(s: &[u8], start: usize, size: usize) -> Tried
+pub fn try_short(s: &[u8], start: usize, size: usize) -> Option<usize>
     requires { start + size ≤ length s.now }
     ensures { Tries (take size (drop start s.now)) result }
 {
     let end = start + size;
     if 16 < size {
         if 32 < size {
-            return Tried::Unknown;
+            return None;
         }
-        if ascii(s, start, end - 16, 16) {
-            return Tried::Characters(size);
-        }
-        return Tried::Unknown;
+        let low = ascii(&s[start..start + 16]) & ascii(&s[end - 16..end]);
+        return low.then_some(size);
     }
     if end < 19 {
-        if size == 0 {
-            return Tried::Characters(0);
-        }
-        return Tried::Unknown;
+        return (size == 0).then_some(0);
     }
     if utf8_parts::low_sixteen(s, end, size) {
-        return Tried::Characters(size);
+        return Some(size);
     }
-    if !starts(s, start) {
-        return Tried::Unknown;
+    if !starts(s, start) || !starts(s, end) {
+        return None;
     }
-    if !starts(s, end) {
-        return Tried::Unknown;
-    }
-    let p = utf8_parts::sixteen(s, end, size);
-    if 127 < p.wrong {
-        return Tried::Unknown;
-    }
-    Tried::Characters(size - p.trailing as usize)
+    utf8_parts::sixteen(s, end, size).characters()
 }
 
-// Are the `size` bytes at start all below 128? A long text is asked for its first bytes first: one with accents mostly
-// shows them there, and the rest of it is not looked at here.
-fn plain(s: &[u8], start: usize, size: usize) -> bool
-    requires { start + size ≤ length s.now }
-    ensures { result ≡ true → Ascii s.now start (start + size) }
+// Are the bytes all below 128? A long text is asked for its first bytes first: one with accents mostly shows them
+// there, and the rest of it is not looked at here.
+fn plain(s: &[u8]) -> bool
+    ensures { result ≡ true → Ascii s.now 0 (length s.now) }
 {
-    if size <= HEAD {
-        return ascii(s, start, start, size);
+    if s.len() <= HEAD {
+        return ascii(s);
     }
-    if !ascii(s, start, start, HEAD) {
-        return false;
-    }
-    let from = start + HEAD;
-    ascii(s, from, from, size - HEAD)
+    let (head, rest) = s.split_at(HEAD);
+    ascii(head) && ascii(rest)
 }
 
 // The text of `size` bytes at start. ASCII is tested first: the cheapest for a text without accents, and one with some
 // loses little.
-pub fn scan_at(s: &[u8], start: usize, size: usize) -> Scanned
+pub fn scan_at(s: &[u8], start: usize, size: usize) -> Option<usize>
     requires { start + size ≤ length s.now }
     ensures { scan_of result ≡ Utf8.scan (take size (drop start s.now)) }
 {
-    if 32 < size {
-        if plain(s, start, size) {
-            return Scanned::Characters(size);
-        }
-    }
     let end = start + size;
-    let tried = try_at(s, start, end);
-    if let Tried::Characters(n) = tried {
-        return Scanned::Characters(n);
+    let text = &s[start..end];
+    if 32 < size && plain(text) {
+        return Some(size);
     }
-    scan(&s[start..end])
+    try_at(s, start, end).or_else(|| scan(text))
 }

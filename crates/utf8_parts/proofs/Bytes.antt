@@ -1,17 +1,11 @@
 -- The laws of bytes that are tested many at once.
-use Prim.Native.Nat.{ℕ, suc, zero, ◌+◌, ◌-◌, ◌/◌, ◌≤◌, ◌<◌}
-use mathlib.Core.Path.{◌≡◌, refl, sym, ap, ◌∙◌}
-use mathlib.Core.Bool.{Bool, true, false}
-use mathlib.Core.List.{List}
-use mathlib.Core.Logic.{◌⊎◌, ⊎_elim}
-use native.Mathlib.Omega.{arith}
-use borrow.Author.Tests.{ltb-true, eqb-true, eqb-false, eq-eqb, ne_eqb}
-use lib.Bits.{bit_or, bit_and, or_add_and, and_le_l, and_le_r, or_lt, and_shr, and_zero_r}
-use lib.Dec.{ltb, eqb}
-use lib.ListN.{get_or}
+use Rattle.std.proofs.Common.{ℕ, suc, zero, ◌+◌, ◌-◌, ◌/◌, ◌≤◌, ◌<◌, ◌≡◌, refl, sym, ap, ◌∙◌, true, false, Bool, List, ⊎_elim, arith, eqb, eqb-true, eq-eqb, ne_eqb, bit_or, bit_and, get_or, length, take, drop, length-drop, length-take-le, get_or-take, get_or-drop}
+use Rattle.std.proofs.lemmas.Bool.{cases_lt}
+use borrow.Author.Tests.{eqb-false}
+use lib.Bits.{or_add_and, and_le_l, and_le_r, or_lt, and_shr}
+use mir.Val.{bool_byte}
 use Rattle.format.specs.Trace.{pick}
-use Rattle.vob24.specs.Ranges.{lt-or-ge}
-use Rattle.utf8_parts.specs.Parts.{Ascii, Flipped, Pair, Follows, Near, Stands, StandsAt, Standing, is_trailing, trailing_in, Most, Tests, PartOf}
+use Rattle.utf8_parts.specs.Parts.{Ascii, Flipped, Pair, Follows, Near, Stands, StandsAt, Tells, Standing, is_trailing, trailing_in, Most, Tests, PartOf}
 use Rattle.utf8_parts.specs.declared.Part.{Part}
 
 -- ---- bits
@@ -38,7 +32,7 @@ pub low_byte : {s : List ℕ} {i j : ℕ} → get_or s i 0 < 128 → j ≤ i + 1
 low_byte {s} {i} h l = record { low = λ k x y. let e : k ≡ i = omega arith in rw e h }
 
 pub low-join : {s : List ℕ} {a b c d : ℕ} → Ascii s a b → Ascii s c d → c ≤ b → Ascii s a d
-low-join {b = b} l m h = record { low = λ k x y. ⊎_elim (λ z. l.low k x z) (λ z. m.low k (omega arith) y) (lt-or-ge k b) }
+low-join {b = b} l m h = record { low = λ k x y. ⊎_elim (λ z. l.low k x z) (λ z. m.low k (omega arith) y) (cases_lt k b) }
 
 -- ---- one byte
 module _ {b m q : ℕ} (f : Flipped b m q) (h : q < 128) where
@@ -76,9 +70,9 @@ pair_of {c1} {b} {x} {p} {q} {r} e f g i h =
       ed = λ y. omega (arith, i y);
     }
 
-pub near-two : {c1 b x1 q p : ℕ} → x1 ≡ c1 - 0x40 → Flipped b x1 q → (b / 2 ≡ 0x60 → p ≡ 255) → bit_or q p < 128
-    → (c3 c2 : ℕ) → c3 < 0xe0 → c2 < 0xe0 → c1 < 0xe0 → Near c3 c2 c1 b
-near-two {q = q} {p = p} e1 f g h c3 c2 i j k =
+pub near-two : {c3 c2 c1 b x1 q p : ℕ} → x1 ≡ c1 - 0x40 → Flipped b x1 q → (b / 2 ≡ 0x60 → p ≡ 255) → bit_or q p < 128
+    → c3 < 0xe0 → c2 < 0xe0 → c1 < 0xe0 → Near c3 c2 c1 b
+near-two {q = q} {p = p} e1 f g h i j k =
     let lp : p < 128 = or-low-r q p h in
     record {
       follows = follows_of f (or-low-l q p h) (λ x y z. omega arith) (λ x. omega arith) (λ x. absurd (omega arith)) (λ x. absurd (omega arith));
@@ -86,10 +80,10 @@ near-two {q = q} {p = p} e1 f g h c3 c2 i j k =
       f0 = λ y. absurd (omega arith);
     }
 
-pub near-three : {c2 c1 b x1 x2 q p : ℕ} → x1 ≡ c1 - 0x40 → x2 ≡ c2 - 0x60 → Flipped b (bit_or x1 x2) q
+pub near-three : {c3 c2 c1 b x1 x2 q p : ℕ} → x1 ≡ c1 - 0x40 → x2 ≡ c2 - 0x60 → Flipped b (bit_or x1 x2) q
     → (p < 128 → Pair c1 b)
-    → bit_or q p < 128 → (c3 : ℕ) → c3 < 0xf0 → c1 < 0xf0 → Near c3 c2 c1 b
-near-three {x1 = x1} {x2 = x2} {q = q} {p = p} e1 e2 f g h c3 i j =
+    → bit_or q p < 128 → c3 < 0xf0 → c1 < 0xf0 → Near c3 c2 c1 b
+near-three {x1 = x1} {x2 = x2} {q = q} {p = p} e1 e2 f g h i j =
     record {
       follows = follows_of f (or-low-l q p h) (λ x y z. or-both x1 x2 (omega arith) (omega arith)) (λ x. or-high-l x1 x2 (omega arith))
           (λ x. or-high-r x1 x2 (omega arith)) (λ x. absurd (omega arith));
@@ -133,6 +127,10 @@ pub trailing-no : (b : ℕ) → (b / 64 ≡ 2 → ⊥) → is_trailing b ≡ 0
 unfolding pick
 trailing-no b e = rw (ne_eqb (b / 64) 2 e)
 
+pub trailing-byte : (b : ℕ) → bool_byte (eqb (b / 64) 2) ≡ is_trailing b
+unfolding pick
+trailing-byte b = elim (eqb (b / 64) 2) as (λ t. bool_byte t ≡ pick t 1 0) [ true ↦ refl | false ↦ refl ]
+
 pub trailing-few : (b : ℕ) → is_trailing b ≤ 1
 trailing-few b = go (eqb (b / 64) 2) refl
   where
@@ -159,147 +157,110 @@ pub standing-none : {s : List ℕ} {a b : ℕ} → b ≤ a → Standing s a b
 standing-none h = record { each = λ k x y. absurd (omega arith) }
 
 pub standing-join : {s : List ℕ} {a b c : ℕ} → Standing s a b → Standing s b c → Standing s a c
-standing-join {s} {a} {b} {c} l m = record { each = λ k x y. ⊎_elim (λ z. l.each k x z) (λ z. m.each k z y) (lt-or-ge k b) }
+standing-join {s} {a} {b} {c} l m = record { each = λ k x y. ⊎_elim (λ z. l.each k x z) (λ z. m.each k z y) (cases_lt k b) }
 
 standing-one : {s : List ℕ} {k j : ℕ} → j ≡ k + 1 → StandsAt s k → Standing s k j
 standing-one {s} {k} e h = record { each = λ j x y. let f : j ≡ k = omega arith in rw f h }
 
 pub record Testing (s : List ℕ) (from m n k : ℕ) : Type 0 where
-  pub within : k ≤ 240
   pub all : m < 128 → Standing s from (from + k)
   pub count : n ≡ trailing_in s from k
   pub few : n ≤ k
 
 module _ {s : List ℕ} {from : ℕ} where
-  pub testing-start : Testing s from 0 0 0
-  testing-start = record { within = omega arith; all = λ h. standing-none (omega arith); count = refl; few = omega arith }
-
-  pub testing-more : {m n k w j : ℕ} → k < 240 → Testing s from m n k → (w < 128 → StandsAt s (from + k))
+  pub testing-more : {m n k w j : ℕ} → Testing s from m n k → (w < 128 → StandsAt s (from + k))
       → j ≡ is_trailing (get_or s (from + k) 0) → Testing s from (bit_or m w) (n + j) (k + 1)
-  testing-more {m} {n} {k} {w} {j} h t f e =
+  testing-more {m} {n} {k} {w} t f e =
       record {
-        within = omega arith;
         all = λ l. standing-join (t.all (or-low-l m w l)) (standing-one (omega arith) (f (or-low-r m w l)));
         count = omega (arith, t.count, trailing_in-more s from k);
         few = omega (arith, t.few, trailing-few (get_or s (from + k) 0));
       }
 
-  pub testing-done : {m n k : ℕ} → 240 ≤ k → Testing s from m n k
+  pub testing-done : {m n k : ℕ} → k ≡ 240 → Testing s from m n k
       → Tests s from (record { width = 240; wrong = m; trailing = n })
-  testing-done {m} {n} {k} h t =
-      let e : k ≡ 240 = omega (arith, t.within) in
-      record {
-        stands = λ l. record { each = λ j x y. (t.all l).each j x (omega arith) };
-        count = t.count ∙ ap (trailing_in s from) e;
-        few = omega (arith, t.few);
-      }
-
-pub ruleset testing = (testing-start, testing-done)
+  testing-done e l = let t = rw e at l in record { stands = t.all; count = t.count; few = t.few }
 
 -- ---- no byte above one
-pub record Rising (s : List ℕ) (from m k : ℕ) : Type 0 where
-  pub within : k ≤ 240
-  pub each : (j : ℕ) → from ≤ j → j < from + k → get_or s j 0 ≤ m
 
-module _ {s : List ℕ} {from : ℕ} where
-  pub rising-start : Rising s from 0 0
-  rising-start = record { within = omega arith; each = λ j x y. absurd (omega arith) }
+-- a byte and the three before it, none of which is above m
+pub record Below (s : List ℕ) (k m : ℕ) : Type 0 where
+  pub third : get_or s (k - 3) 0 ≤ m
+  pub second : get_or s (k - 2) 0 ≤ m
+  pub first : get_or s (k - 1) 0 ≤ m
+  pub here : get_or s k 0 ≤ m
 
-  pub rising-more : {m k q : ℕ} → k < 240 → m ≤ q → get_or s (from + k) 0 ≤ q → Rising s from m k
-      → Rising s from q (k + 1)
-  rising-more {m} {k} {q} h a b r =
-      record {
-        within = omega arith;
-        each = λ j x y. ⊎_elim (λ z. omega (arith, r.each j x z)) (λ z. let e : j ≡ from + k = omega arith in rw e b) (lt-or-ge j (from + k));
-      }
+-- none of the bytes from the third before a part is above m
+abbrev pub MostOf : List ℕ → ℕ → ℕ → ℕ → Type 0
+MostOf s from to m = Most (take (to - (from - 3)) (drop (from - 3) s)) 0 (length (take (to - (from - 3)) (drop (from - 3) s))) m
 
-  pub rising-done : {m k : ℕ} → 240 ≤ k → Rising s from m k → Most s from (from + 240) m
-  rising-done {m} {k} h r = record { each = λ j x y. r.each j x (omega arith) }
-
-pub ruleset rising = (rising-start, rising-more, rising-done)
-
--- the three before them too
-pub most-before : {s : List ℕ} {from to m q : ℕ} → 3 ≤ from → Most s from to q → q ≤ m → get_or s (from - 1) 0 ≤ m
-    → get_or s (from - 2) 0 ≤ m → get_or s (from - 3) 0 ≤ m → Most s (from - 3) to m
-most-before {s} {from} {to} {m} {q} h l i a b c = record { each = λ k x y. ⊎_elim (λ z. go k x z) (λ z. omega (arith, l.each k z y)) (lt-or-ge k from) }
+below-at : {s : List ℕ} {from to m k : ℕ} → 3 ≤ from → to ≤ length s → MostOf s from to m → from ≤ k → k < to
+    → Below s k m
+below-at {s} {from} {to} {m} {k} h i l x y =
+    record {
+      third = at (k - 3) (omega arith) (omega arith);
+      second = at (k - 2) (omega arith) (omega arith);
+      first = at (k - 1) (omega arith) (omega arith);
+      here = at k (omega arith) (omega arith);
+    }
   where
-    go : (k : ℕ) → from - 3 ≤ k → k < from → get_or s k 0 ≤ m
-    go k x z =
-        ⊎_elim (λ u. let e : k ≡ from - 3 = omega arith in rw e c) (λ u.
-        ⊎_elim (λ v. let e : k ≡ from - 2 = omega arith in rw e b) (λ v. let e : k ≡ from - 1 = omega arith in rw e a)
-        (lt-or-ge k (from - 1)))
-        (lt-or-ge k (from - 2))
+    p : ℕ
+    p = from - 3
 
-pub most-up : {s : List ℕ} {from to m q : ℕ} → Most s from to m → m ≤ q → Most s from to q
-most-up l h = record { each = λ k x y. omega (arith, l.each k x y) }
+    part : List ℕ
+    part = take (to - p) (drop p s)
 
--- a byte of a part, and those before it
-module _ {s : List ℕ} {from k : ℕ} (h : 3 ≤ from) (i : k < 240) where
-  near-at : {m : ℕ} → Most s (from - 3) (from + 240) m → m < 0xf4
-      → Near (get_or s (from + k - 3) 0) (get_or s (from + k - 2) 0) (get_or s (from + k - 1) 0) (get_or s (from + k) 0)
-      → StandsAt s (from + k)
-  near-at l j n =
-      record {
-        stands = record {
-          near = n;
-          f4 = λ e. absurd (omega (arith, l.each (from + k - 1) (omega arith) (omega arith)));
-          most = omega (arith, l.each (from + k) (omega arith) (omega arith));
-        };
-      }
+    size : length part ≡ to - p
+    size = length-take-le (to - p) (drop p s) (omega (arith, length-drop p s))
 
-  pub at-two : {w : ℕ} → Most s (from - 3) (from + 240) 0xdf
-      → (w < 128 → (c3 c2 : ℕ) → c3 < 0xe0 → c2 < 0xe0 → get_or s (from + k - 1) 0 < 0xe0 → Near c3 c2 (get_or s (from + k - 1) 0) (get_or s (from + k) 0))
-      → w < 128 → StandsAt s (from + k)
-  at-two l f x =
-      near-at l (omega arith)
-      (f x (get_or s (from + k - 3) 0) (get_or s (from + k - 2) 0) (omega (arith, l.each (from + k - 3) (omega arith) (omega arith))) (omega (arith, l.each (from + k - 2) (omega arith) (omega arith))) (omega (arith, l.each (from + k - 1) (omega arith) (omega arith))))
+    at : (j : ℕ) → p ≤ j → j < to → get_or s j 0 ≤ m
+    at j g z =
+        let e : p + (j - p) ≡ j = omega arith in
+        let f : get_or part (j - p) 0 ≡ get_or s j 0 =
+        get_or-take (to - p) (drop p s) (j - p) 0 (omega arith) ∙ get_or-drop p s (j - p) 0 ∙ ap (λ q. get_or s q 0) e
+        in
+        omega (arith, f, l.each (j - p) (omega arith) (omega (arith, size)))
 
-  pub at-three : {w : ℕ} → Most s (from - 3) (from + 240) 0xef
-      → (w < 128 → (c3 : ℕ) → c3 < 0xf0 → get_or s (from + k - 1) 0 < 0xf0 → Near c3 (get_or s (from + k - 2) 0) (get_or s (from + k - 1) 0) (get_or s (from + k) 0))
-      → w < 128 → StandsAt s (from + k)
-  at-three l f x =
-      near-at l (omega arith) (f x (get_or s (from + k - 3) 0) (omega (arith, l.each (from + k - 3) (omega arith) (omega arith))) (omega (arith, l.each (from + k - 1) (omega arith) (omega arith))))
+near-at : {s : List ℕ} {k m : ℕ} → Below s k m → m < 0xf4
+    → Near (get_or s (k - 3) 0) (get_or s (k - 2) 0) (get_or s (k - 1) 0) (get_or s k 0) → StandsAt s k
+near-at b h n = record { stands = record { near = n; f4 = λ e. absurd (omega arith); most = omega arith } }
 
-  pub at-four : {w : ℕ} → Most s (from - 3) (from + 240) 0xf3
-      → (w < 128 → Near (get_or s (from + k - 3) 0) (get_or s (from + k - 2) 0) (get_or s (from + k - 1) 0) (get_or s (from + k) 0))
-      → w < 128 → StandsAt s (from + k)
-  at-four l f x = near-at l (omega arith) (f x)
+-- a test that tells all but F4 and above is enough for bytes that are below it
+pub tells-of : {P : ℕ → ℕ → ℕ → ℕ → ℕ → Type 0} {s : List ℕ} {from to m : ℕ} → 3 ≤ from → to ≤ length s
+    → MostOf s from to m → m < 0xf4
+    → ((k r : ℕ) → Below s k m
+    → P (get_or s (k - 3) 0) (get_or s (k - 2) 0) (get_or s (k - 1) 0) (get_or s k 0) r → r < 128
+    → Near (get_or s (k - 3) 0) (get_or s (k - 2) 0) (get_or s (k - 1) 0) (get_or s k 0))
+    → Tells P s from to
+tells-of {s = s} {m = m} g i l h f = record { each = λ k r x y p j. let b : Below s k m = below-at g i l x y in near-at b h (f k r b p j) }
 
 -- bytes of ASCII stand as they should
 trailing_in-ascii : (s : List ℕ) (i w : ℕ) → ((k : ℕ) → i ≤ k → k < i + w → get_or s k 0 < 128) → trailing_in s i w ≡ 0
 trailing_in-ascii s i zero f = refl
 trailing_in-ascii s i (suc w) f = omega (arith, trailing_in-ascii s (suc i) w (λ k x y. f k (omega arith) (omega arith)), trailing-no (get_or s i 0) (λ e. omega (arith, f i (omega arith) (omega arith))))
 
-pub ascii-part : {s : List ℕ} {from m : ℕ} → 3 ≤ from → Most s (from - 3) (from + 240) m → m < 0x80
+pub ascii-part : {s : List ℕ} {from m : ℕ} → 3 ≤ from → from + 240 ≤ length s → MostOf s from (from + 240) m → m < 0x80
     → Tests s from (record { width = 240; wrong = 0; trailing = 0 })
-ascii-part {s} {from} {m} h l i =
+ascii-part {s} {from} {m} g h l i =
     record {
       stands = λ x. record { each = λ k y z. at k y z };
-      count = sym (trailing_in-ascii s from 240 (λ k y z. omega (arith, l.each k (omega arith) z)));
+      count = sym (trailing_in-ascii s from 240 (λ k y z. let b : Below s k m = below-at g h l y z in omega arith));
       few = omega arith;
     }
   where
     at : (k : ℕ) → from ≤ k → k < from + 240 → StandsAt s k
     at k y z =
-        let b0 : get_or s k 0 ≤ m = l.each k (omega arith) z in
-        let b1 : get_or s (k - 1) 0 ≤ m = l.each (k - 1) (omega arith) (omega arith) in
-        let b2 : get_or s (k - 2) 0 ≤ m = l.each (k - 2) (omega arith) (omega arith) in
-        let b3 : get_or s (k - 3) 0 ≤ m = l.each (k - 3) (omega arith) (omega arith) in
-        record {
-          stands = record {
-            near = record {
-              follows = record { first = λ a b c e. omega arith; second = λ a. absurd (omega arith); third = λ a. absurd (omega arith); fourth = λ a. absurd (omega arith) };
-              pair = record { short = λ e. omega arith; e0 = λ e. absurd (omega arith); ed = λ e. absurd (omega arith) };
-              f0 = λ e. absurd (omega arith);
-            };
-            f4 = λ e. absurd (omega arith);
-            most = omega arith;
-          };
-        }
+        let b : Below s k m = below-at g h l y z in
+        near-at b (omega arith)
+        (record {
+          follows = record { first = λ x1 x2 x3 e. omega arith; second = λ a. absurd (omega arith); third = λ a. absurd (omega arith); fourth = λ a. absurd (omega arith) };
+          pair = record { short = λ e. omega arith; e0 = λ e. absurd (omega arith); ed = λ e. absurd (omega arith) };
+          f0 = λ e. absurd (omega arith);
+        })
 
 -- ---- the last r of sixteen
 pub kept_high : (x w : ℕ) → x < 256 → w < 256 → 128 ≤ x → bit_and w x < 128 → w < 128
-kept_high x w hx hw h k = ⊎_elim (λ z. z) (λ z. absurd (high z)) (lt-or-ge w 128)
+kept_high x w hx hw h k = ⊎_elim (λ z. z) (λ z. absurd (high z)) (cases_lt w 128)
   where
     high : 128 ≤ w → ⊥
     high z =
@@ -308,83 +269,51 @@ kept_high x w hx hw h k = ⊎_elim (λ z. z) (λ z. absurd (high z)) (lt-or-ge w
         let e : bit_and w x / 128 ≡ 1 = and_shr w x 7 ∙ rw (a, b) in
         omega arith
 
-pub counted-high : (x n : ℕ) → n ≤ 1 → x < 256 → 128 ≤ x → bit_and n (x / 128) ≡ n
-counted-high x n h i k = let b : x / 128 ≡ 1 = omega arith in rw b (go (lt-or-ge n 1))
-  where
-    go : (n < 1) ⊎ (1 ≤ n) → bit_and n 1 ≡ n
-    go = ⊎_elim (λ z. let e : n ≡ 0 = omega arith in rw e) (λ z. let e : n ≡ 1 = omega arith in rw e)
+-- the byte at k of the sixteen, by what is kept of it where it is one of the last r
+pub lows-more : {s : List ℕ} {to r m k w : ℕ} → 16 ≤ to → r ≤ 16 → k < 16 → (m < 128 → Ascii s (to - r) (to - 16 + k))
+    → (128 ≤ 112 + (r + k) → w < 128 → get_or s (to - 16 + k) 0 < 128) → bit_or m w < 128
+    → Ascii s (to - r) (to - 16 + (k + 1))
+lows-more {to = to} {r = r} {m = m} {k = k} {w = w} h i j l f y =
+    ⊎_elim (λ z. low-before (omega arith)) (λ z. low-join (l (or-low-l m w y)) (low_byte {i = to - 16 + k} (f (omega arith) (or-low-r m w y)) (omega arith)) (omega arith)) (cases_lt (k + r) 16)
 
-pub counted-few : (x n : ℕ) → n ≤ 1 → bit_and n (x / 128) ≤ 1
-counted-few x n h = omega (arith, and_le_l n (x / 128))
-
-pub counted-low : (x n : ℕ) → x < 128 → bit_and n (x / 128) ≡ 0
-counted-low x n h = let b : x / 128 ≡ 0 = omega arith in rw b (and_zero_r n)
-
-pub record Lows (s : List ℕ) (to r m x k : ℕ) : Type 0 where
-  pub within : k ≤ 16
-  pub mask : x ≡ 112 + r + k
-  pub all : m < 128 → Ascii s (to - r) (to - 16 + k)
-
-module _ {s : List ℕ} {to r : ℕ} (h : 16 ≤ to) (i : r ≤ 16) where
-  pub lows-start : {x : ℕ} → x ≡ 112 + r → Lows s to r 0 x 0
-  lows-start e = record { within = omega arith; mask = omega arith; all = λ l. low-before (omega arith) }
-
-  pub lows-more : {m x k w : ℕ} → k < 16 → Lows s to r m x k → (128 ≤ x → w < 128 → get_or s (to - 16 + k) 0 < 128)
-      → Lows s to r (bit_or m w) (x + 1) (k + 1)
-  lows-more {m} {x} {k} {w} j l f =
-      record {
-        within = omega arith;
-        mask = omega (arith, l.mask);
-        all = λ y. ⊎_elim (λ z. low-before (omega (arith, l.mask))) (λ z. low-join (l.all (or-low-l m w y)) (low_byte {i = to - 16 + k} (f (omega (arith, l.mask)) (or-low-r m w y)) (omega arith)) (omega arith)) (lt-or-ge (k + r) 16);
-      }
-
-  pub lows-done : {m x k : ℕ} → 16 ≤ k → Lows s to r m x k → ltb m 128 ≡ true → Ascii s (to - r) to
-  lows-done {m} {x} {k} j l e = record { low = λ p y z. (l.all (ltb-true m 128 e)).low p y (omega (arith, l.within)) }
-
-pub record Masked (s : List ℕ) (to r m n x k : ℕ) : Type 0 where
-  pub within : k ≤ 16
-  pub mask : x ≡ 112 + r + k
+pub record Masked (s : List ℕ) (to r m n k : ℕ) : Type 0 where
   pub all : m < 128 → Standing s (to - r) (to - 16 + k)
   pub count : n ≡ trailing_in s (to - r) (r + k - 16)
   pub few : n ≤ k
 
 module _ {s : List ℕ} {to r : ℕ} (h : 19 ≤ to) (i : r ≤ 16) where
-  pub masked-start : {x : ℕ} → x ≡ 112 + r → Masked s to r 0 0 x 0
-  masked-start e = let f : r + 0 - 16 ≡ 0 = omega arith in record { within = omega arith; mask = omega arith; all = λ l. standing-none (omega arith); count = rw f; few = omega arith }
-
-  pub masked-more : {m n x k w j : ℕ} → k < 16 → Masked s to r m n x k → (128 ≤ x → w < 128 → StandsAt s (to - 16 + k))
-      → (128 ≤ x → j ≡ is_trailing (get_or s (to - 16 + k) 0)) → (x < 128 → j ≡ 0)
-      → Masked s to r (bit_or m w) (n + j) (x + 1) (k + 1)
-  masked-more {m} {n} {x} {k} {w} {j} y l f g e = ⊎_elim before after (lt-or-ge (k + r) 16)
+  pub masked-more : {m n k w j : ℕ} → k < 16 → Masked s to r m n k
+      → (128 ≤ 112 + (r + k) → w < 128 → StandsAt s (to - 16 + k))
+      → (128 ≤ 112 + (r + k) → j ≡ is_trailing (get_or s (to - 16 + k) 0)) → (112 + (r + k) < 128 → j ≡ 0)
+      → Masked s to r (bit_or m w) (n + j) (k + 1)
+  masked-more {m} {n} {k} {w} {j} y l f g e = ⊎_elim before after (cases_lt (k + r) 16)
     where
-      before : k + r < 16 → Masked s to r (bit_or m w) (n + j) (x + 1) (k + 1)
+      before : k + r < 16 → Masked s to r (bit_or m w) (n + j) (k + 1)
       before z =
           let a : r + (k + 1) - 16 ≡ 0 = omega arith in
           let b : r + k - 16 ≡ 0 = omega arith in
           let c : n ≡ 0 = l.count ∙ ap (trailing_in s (to - r)) b in
-          let d : j ≡ 0 = e (omega (arith, l.mask)) in
-          record { within = omega arith; mask = omega (arith, l.mask); all = λ u. standing-none (omega arith); count = rw a (omega arith); few = omega arith }
+          let d : j ≡ 0 = e (omega arith) in
+          record { all = λ u. standing-none (omega arith); count = rw a (omega arith); few = omega arith }
 
-      after : 16 ≤ k + r → Masked s to r (bit_or m w) (n + j) (x + 1) (k + 1)
+      after : 16 ≤ k + r → Masked s to r (bit_or m w) (n + j) (k + 1)
       after z =
-          let hi : 128 ≤ x = omega (arith, l.mask) in
+          let hi : 128 ≤ 112 + (r + k) = omega arith in
           let a : r + (k + 1) - 16 ≡ r + k - 16 + 1 = omega arith in
           let b : to - r + (r + k - 16) ≡ to - 16 + k = omega arith in
           let c : trailing_in s (to - r) (r + k - 16 + 1) ≡ trailing_in s (to - r) (r + k - 16) + is_trailing (get_or s (to - 16 + k) 0) = trailing_in-more s (to - r) (r + k - 16) ∙ ap (λ u. trailing_in s (to - r) (r + k - 16) + is_trailing (get_or s u 0)) b in
           record {
-            within = omega arith;
-            mask = omega (arith, l.mask);
             all = λ u. standing-join (l.all (or-low-l m w u)) (standing-one (omega arith) (f hi (or-low-r m w u)));
             count = rw a (omega (arith, c, g hi, l.count));
             few = omega (arith, g hi, trailing-few (get_or s (to - 16 + k) 0), l.few);
           }
 
-  pub masked-done : {m n x k : ℕ} → 16 ≤ k → Masked s to r m n x k
+  pub masked-done : {m n k : ℕ} → k ≡ 16 → Masked s to r m n k
       → Tests s (to - r) (record { width = r; wrong = m; trailing = n })
-  masked-done {m} {n} {x} {k} j l =
-      let b : r + k - 16 ≡ r = omega (arith, l.within) in
+  masked-done {m} {n} {k} e l =
+      let b : r + k - 16 ≡ r = omega arith in
       let c : n ≡ trailing_in s (to - r) r = l.count ∙ ap (trailing_in s (to - r)) b in
-      record { stands = λ u. record { each = λ p y z. (l.all u).each p y (omega (arith, l.within)) }; count = c; few = omega (arith, trailing_in-few s (to - r) r) }
+      record { stands = λ u. record { each = λ p y z. (l.all u).each p y (omega arith) }; count = c; few = omega (arith, trailing_in-few s (to - r) r) }
 
 -- what is found of bytes holds of them wherever the place comes from
 pub tests-at : {s : List ℕ} {a b : ℕ} {p : Part} → a ≡ b → Tests s a p → Tests s b p

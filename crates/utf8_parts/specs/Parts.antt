@@ -1,7 +1,7 @@
 -- Many bytes at once: each is held against the three before it. A text is well-formed where each of its bytes stands as
 -- it should and the bytes before its start and its end ask for no more (`Starts` of crate `utf8`); its characters are
 -- the bytes that are not trailing ones.
-use Rattle.std.specs.Prelude.{ℕ, suc, zero, ◌+◌, ◌-◌, ◌/◌, ◌≤◌, ◌<◌, ◌≡◌, List, eqb, get_or}
+use Rattle.std.specs.Prelude.{ℕ, suc, zero, ◌+◌, ◌-◌, ◌/◌, ◌≤◌, ◌<◌, ◌≡◌, List, Option, Some, None, cond, eqb, ltb, get_or}
 use Rattle.format.specs.Trace.{pick}
 use Rattle.utf8_parts.specs.declared.Part.{Part}
 
@@ -39,6 +39,12 @@ pub record Stands (c3 c2 c1 b : ℕ) : Type 0 where
 pub record StandsAt (s : List ℕ) (k : ℕ) : Type 0 where
   pub stands : Stands (get_or s (k - 3) 0) (get_or s (k - 2) 0) (get_or s (k - 1) 0) (get_or s k 0)
 
+-- a test that says P of each byte and the three before it, and r, is enough for these bytes: where r is below 128 the
+-- byte stands as it should
+pub record Tells (P : ℕ → ℕ → ℕ → ℕ → ℕ → Type 0) (s : List ℕ) (from to : ℕ) : Type 0 where
+  pub each : (k r : ℕ) → from ≤ k → k < to
+      → P (get_or s (k - 3) 0) (get_or s (k - 2) 0) (get_or s (k - 1) 0) (get_or s k 0) r → r < 128 → StandsAt s k
+
 pub record Standing (s : List ℕ) (from to : ℕ) : Type 0 where
   pub each : (k : ℕ) → from ≤ k → k < to → StandsAt s k
 
@@ -58,6 +64,10 @@ pub record Ascii (s : List ℕ) (from to : ℕ) : Type 0 where
 -- no byte is above q
 pub record Most (s : List ℕ) (from to q : ℕ) : Type 0 where
   pub each : (k : ℕ) → from ≤ k → k < to → get_or s k 0 ≤ q
+
+-- the bytes that are not trailing ones, where each stands as it should
+abbrev pub characters_of : Part → Option ℕ
+characters_of p = cond (ltb p.wrong 128) (Some (p.width - p.trailing)) None
 
 -- what was found of the bytes at from
 pub record Tests (s : List ℕ) (from : ℕ) (p : Part) : Type 0 where

@@ -3,19 +3,12 @@
 // bytes that it does not accept nothing is said.
 #![tactic(auto)]
 
-ghost use Rattle.std.specs.Prelude.{◌≡◌, true, ℕ, ◌+◌, ◌-◌, ◌≤◌, ◌<◌, length};
-ghost use Rattle.utf8_parts.specs.Parts.{Ascii, Flipped, Pair, Near, Stands, is_trailing, Most, Tests, PartOf};
+ghost use Rattle.std.specs.Prelude.{◌≡◌, true, ◌+◌, ◌-◌, ◌≤◌, ◌<◌, length};
+ghost use Rattle.utf8_parts.specs.Parts.{Ascii, Flipped, Pair, Near, Stands, Tells, is_trailing, Most, Tests, PartOf, characters_of};
 
 // ---- one byte against the three before it
 // Each test is a sum of bytes whose bit 7 says "wrong", so that a loop only joins them: with no branch and no table it
-// is compiled to vector code.
-
-// Bit 7 is set where a is at least 128 + k.
-fn over(a: u8, k: u8) -> u8
-    ensures { result ≡ a - k }
-{
-    if k < a { a - k } else { 0 }
-}
+// is compiled to vector code. `a.saturating_sub(k)` has it set where a is at least 128 + k.
 
 fn only(a: u8, k: u8, x: u8) -> u8
     ensures { a ≡ k → result ≡ x }
@@ -23,74 +16,64 @@ fn only(a: u8, k: u8, x: u8) -> u8
     if a == k { x } else { 0 }
 }
 
-fn larger(a: u8, b: u8) -> u8
-    ensures { (a ≤ result) × (b ≤ result) }
-{
-    if a < b { b } else { a }
-}
-
 // 1 for a trailing byte, 80..BF.
 fn trailing(b: u8) -> u8
     ensures { (result ≡ is_trailing b) × (result ≤ 1) }
 {
-    if b / 64 == 2 {
-        return 1;
-    }
-    0
+    u8::from(b / 64 == 2)
 }
 
 // Bit 7 of m says that the bytes before b ask for a trailing byte; that of the result, that b is not what they ask for.
 fn flipped(b: u8, m: u8) -> u8
     ensures { Flipped b m result }
 {
-    if b / 64 == 2 {
-        return 255 - m;
-    }
-    m
+    if b / 64 == 2 { 255 - m } else { m }
 }
 
 // Below 128 where b may follow c1, as far as these two tell.
 fn pair(c1: u8, b: u8) -> u8
     ensures { result < 128 → Pair c1 b }
 {
-    let x = over(b, 0x20);
+    let x = b.saturating_sub(0x20);
     only(b / 2, 0x60, 255) | only(c1, 0xe0, 255 - x) | only(c1, 0xed, x)
 }
 
 // Below 128 where b may follow the bytes before it, if none of them is above DF.
-fn wrong_two(c1: u8, b: u8) -> u8
-    ensures { result < 128 → (c3 c2 : ℕ) → c3 < 0xe0 → c2 < 0xe0 → c1 < 0xe0 → Near c3 c2 c1 b }
+fn wrong_two(c3: u8, c2: u8, c1: u8, b: u8) -> u8
+    ensures { result < 128 → c3 < 0xe0 → c2 < 0xe0 → c1 < 0xe0 → Near c3 c2 c1 b }
 {
-    flipped(b, over(c1, 0x40)) | only(b / 2, 0x60, 255)
+    flipped(b, c1.saturating_sub(0x40)) | only(b / 2, 0x60, 255)
 }
 
 // The same, if none is above EF.
-fn wrong_three(c2: u8, c1: u8, b: u8) -> u8
-    ensures { result < 128 → (c3 : ℕ) → c3 < 0xf0 → c1 < 0xf0 → Near c3 c2 c1 b }
+fn wrong_three(c3: u8, c2: u8, c1: u8, b: u8) -> u8
+    ensures { result < 128 → c3 < 0xf0 → c1 < 0xf0 → Near c3 c2 c1 b }
 {
-    flipped(b, over(c1, 0x40) | over(c2, 0x60)) | pair(c1, b)
+    flipped(b, c1.saturating_sub(0x40) | c2.saturating_sub(0x60)) | pair(c1, b)
 }
 
 // The same, if none is above F3.
 fn wrong_four(c3: u8, c2: u8, c1: u8, b: u8) -> u8
     ensures { result < 128 → Near c3 c2 c1 b }
 {
-    flipped(b, over(c1, 0x40) | over(c2, 0x60) | over(c3, 0x70))
-        | pair(c1, b)
-        | only(c1, 0xf0, 255 - over(b, 0x10))
+    let asked = c1.saturating_sub(0x40) | c2.saturating_sub(0x60) | c3.saturating_sub(0x70);
+    flipped(b, asked) | pair(c1, b) | only(c1, 0xf0, 255 - b.saturating_sub(0x10))
 }
 
 // The same for any bytes.
 fn wrong(c3: u8, c2: u8, c1: u8, b: u8) -> u8
     ensures { result < 128 → Stands c3 c2 c1 b }
 {
-    wrong_four(c3, c2, c1, b) | only(c1, 0xf4, over(b, 0x10)) | over(b, 0x75)
+    wrong_four(c3, c2, c1, b) | only(c1, 0xf4, b.saturating_sub(0x10)) | b.saturating_sub(0x75)
 }
 
 // ---- many bytes at once
 
 // A multiple of 16, and so few that a u8 can count the trailing bytes.
 const PART: usize = 240;
+
+// The last first byte of a sequence, and the only one that asks for 80..8F.
+const LAST: u8 = 0xf4;
 
 // What was found of `width` bytes: `wrong` is below 128 where each may follow those before it; `trailing` counts the
 // trailing bytes.
@@ -101,71 +84,44 @@ pub struct Part {
     pub trailing: u8,
 }
 
-fn largest(s: &[u8], from: usize) -> u8
-    requires { from + 240 ≤ length s.now }
-    ensures { Most s.now from (from + 240) result }
+impl Part {
+    // How many characters these bytes are, where each may follow those before it.
+    pub fn characters(self) -> Option<usize>
+        requires { self.trailing ≤ self.width }
+        ensures { result ≡ characters_of self }
+    {
+        if self.wrong < 128 {
+            Some(self.width - usize::from(self.trailing))
+        } else {
+            None
+        }
+    }
+}
+
+// The largest byte.
+fn largest(s: &[u8]) -> u8
+    ensures { Most s.now 0 (length s.now) result }
 {
     let mut m: u8 = 0;
-    let mut k: usize = 0;
-    while k < PART {
-        m = larger(m, s[from + k]);
-        k += 1;
+    for b in s {
+        m = m.max(*b);
     }
     m
 }
 
-fn part_two(s: &[u8], from: usize) -> Part
-    requires { (3 ≤ from) × (from + 240 ≤ length s.now) × Most s.now (from - 3) (from + 240) 0xdf }
+// A part, by a test that is enough for its bytes.
+fn tested<F: Fn(u8, u8, u8, u8) -> u8>(s: &[u8], from: usize, test: F) -> Part
+    requires callable { F.IsAlwaysCallable test }
+    requires room { (3 ≤ from) × (from + 240 ≤ length s.now) }
+    requires enough { Tells (F.post test) s.now from (from + 240) }
     ensures { Tests s.now from result × (result.width ≡ 240) }
 {
     let mut m: u8 = 0;
     let mut n: u8 = 0;
-    let mut k: usize = 0;
-    while k < PART {
+    for k in 0..PART {
         let i = from + k;
-        m = m | wrong_two(s[i - 1], s[i]);
+        m |= test(s[i - 3], s[i - 2], s[i - 1], s[i]);
         n += trailing(s[i]);
-        k += 1;
-    }
-    Part {
-        width: PART,
-        wrong: m,
-        trailing: n,
-    }
-}
-
-fn part_three(s: &[u8], from: usize) -> Part
-    requires { (3 ≤ from) × (from + 240 ≤ length s.now) × Most s.now (from - 3) (from + 240) 0xef }
-    ensures { Tests s.now from result × (result.width ≡ 240) }
-{
-    let mut m: u8 = 0;
-    let mut n: u8 = 0;
-    let mut k: usize = 0;
-    while k < PART {
-        let i = from + k;
-        m = m | wrong_three(s[i - 2], s[i - 1], s[i]);
-        n += trailing(s[i]);
-        k += 1;
-    }
-    Part {
-        width: PART,
-        wrong: m,
-        trailing: n,
-    }
-}
-
-fn part_four(s: &[u8], from: usize) -> Part
-    requires { (3 ≤ from) × (from + 240 ≤ length s.now) × Most s.now (from - 3) (from + 240) 0xf3 }
-    ensures { Tests s.now from result × (result.width ≡ 240) }
-{
-    let mut m: u8 = 0;
-    let mut n: u8 = 0;
-    let mut k: usize = 0;
-    while k < PART {
-        let i = from + k;
-        m = m | wrong_four(s[i - 3], s[i - 2], s[i - 1], s[i]);
-        n += trailing(s[i]);
-        k += 1;
     }
     Part {
         width: PART,
@@ -196,13 +152,10 @@ pub fn low_sixteen(s: &[u8], to: usize, r: usize) -> bool
     ensures { result ≡ true → Ascii s.now (to - r) to }
 {
     let mut bits: u8 = 0;
-    let mut x: u8 = 112 + r as u8;
-    let mut k: usize = 0;
     let from = to - 16;
-    while k < 16 {
-        bits = bits | kept(x, s[from + k]);
-        x += 1;
-        k += 1;
+    for k in 0..16 {
+        let x = 112 + (r + k) as u8;
+        bits |= kept(x, s[from + k]);
     }
     bits < 128
 }
@@ -214,15 +167,12 @@ pub fn sixteen(s: &[u8], to: usize, r: usize) -> Part
 {
     let mut m: u8 = 0;
     let mut n: u8 = 0;
-    let mut x: u8 = 112 + r as u8;
-    let mut k: usize = 0;
     let from = to - 16;
-    while k < 16 {
+    for k in 0..16 {
+        let x = 112 + (r + k) as u8;
         let i = from + k;
-        m = m | kept(x, wrong(s[i - 3], s[i - 2], s[i - 1], s[i]));
+        m |= kept(x, wrong(s[i - 3], s[i - 2], s[i - 1], s[i]));
         n += counted(x, trailing(s[i]));
-        x += 1;
-        k += 1;
     }
     Part {
         width: r,
@@ -237,10 +187,7 @@ pub fn next_part(s: &[u8], from: usize, end: usize) -> Part
     ensures { PartOf s.now from end result }
 {
     if PART <= end - from {
-        let m = larger(
-            larger(largest(s, from), s[from - 1]),
-            larger(s[from - 2], s[from - 3]),
-        );
+        let m = largest(&s[from - 3..from + PART]);
         if m < 0x80 {
             return Part {
                 width: PART,
@@ -249,13 +196,13 @@ pub fn next_part(s: &[u8], from: usize, end: usize) -> Part
             };
         }
         if m < 0xe0 {
-            return part_two(s, from);
+            return tested(s, from, wrong_two);
         }
         if m < 0xf0 {
-            return part_three(s, from);
+            return tested(s, from, wrong_three);
         }
-        if m < 0xf4 {
-            return part_four(s, from);
+        if m < LAST {
+            return tested(s, from, wrong_four);
         }
     }
     sixteen(s, from + 16, 16)

@@ -11,7 +11,7 @@ ghost use Rattle.vob24.specs.Cost.{all_sections};
 mod limits;
 
 // The sections of a pack, in file order; the inline sources with the number of functions that bounds them.
-#[derive(Clone, Copy)]
+#[derive(Clone, Copy, PartialEq, Eq, Debug)]
 pub enum Section {
     Name,
     Structs,
@@ -32,7 +32,7 @@ pub enum Section {
     InlineSources(u64),
 }
 
-// The number of a section, in file order: so many stand before it.
+// The number of a section, in file order: so many stand before it. `as` takes no enum whose variant has a field.
 pub fn section_number(section: Section) -> usize
     ensures { (result ≡ number_of (section_of section)) × (result ≤ 16) }
 {
@@ -57,7 +57,8 @@ pub fn section_number(section: Section) -> usize
     }
 }
 
-// The section of a number. The last, which goes by the number of functions, is left out.
+// The section of a number. The last, which goes by the number of functions, is left out. No `TryFrom`: its `Err` would be
+// a case that no caller can meet, as `i < 16` there.
 pub fn section_at(i: usize) -> Section
     requires { i < 16 }
     ensures { (section_of result ≡ get_or all_sections i inline_sources) × (functions_of result ≡ 0) }
@@ -84,7 +85,7 @@ pub fn section_at(i: usize) -> Section
 
 // What a reading is set to: the 33 sizes, and behind them the limits, at the indexes that `limits` names (`settings_of`
 // in vob24's Settings.antt). Readers take it as `&Settings`. An entry is below 65,536 by its type, so that no count times
-// a size wraps.
+// a size wraps. One array and no struct, since `settings_of` reads one list.
 pub type Settings = [u16; 39];
 
 // What the Rust is set to: `size_of` on the pinned 64-bit compiler, in order of first use along the reading (StructMeta
@@ -94,24 +95,14 @@ pub const MEASURED: [u16; 39] = [
     12, 56, 24, 20, 28, 32, 8, 144, 64, 128, 0, 256, 0, 2,
 ];
 
-fn wide(n: u16) -> u64
-    ensures { (result ≡ n) × (result < 65536) }
-{
-    n as u64
-}
-
 // The size numbered i from 1 on; 0 where there is none.
 pub fn size(set: &Settings, i: usize) -> u64
     ensures { (result ≡ size_of (settings_of set.now) i) × (result < 65536) }
 {
-    if i < 1 {
-        return 0;
+    match i {
+        1..=33 => u64::from(set[i - 1]),
+        _ => 0,
     }
-    if 33 < i {
-        return 0;
-    }
-    let k = i - 1;
-    wide(set[k])
 }
 
 // The same in the measured table.
@@ -123,27 +114,31 @@ pub fn measured_size(i: usize) -> u64
 
 // ---- the limits
 
+#[tactic(auto, unfolding(vob24::specs::Settings::settings_of))]
 pub fn artifacts(set: &Settings) -> u64
     ensures { result ≡ (settings_of set.now).artifacts }
 {
-    wide(set[limits::ARTIFACTS])
+    u64::from(set[limits::ARTIFACTS])
 }
 
+#[tactic(auto, unfolding(vob24::specs::Settings::settings_of))]
 pub fn artifact_name_bytes(set: &Settings) -> u64
     ensures { result ≡ (settings_of set.now).artifact_name_bytes }
 {
-    wide(set[limits::ARTIFACT_NAME_BYTES])
+    u64::from(set[limits::ARTIFACT_NAME_BYTES])
 }
 
+#[tactic(auto, unfolding(vob24::specs::Settings::settings_of))]
 pub fn artifact_payload_bytes(set: &Settings) -> u64
     ensures { result ≡ (settings_of set.now).artifact_payload_bytes }
 {
-    wide(set[limits::ARTIFACT_PAYLOAD_BYTES])
-        + 65536 * wide(set[limits::ARTIFACT_PAYLOAD_BYTES_HIGH])
+    u64::from(set[limits::ARTIFACT_PAYLOAD_BYTES])
+        + 65536 * u64::from(set[limits::ARTIFACT_PAYLOAD_BYTES_HIGH])
 }
 
+#[tactic(auto, unfolding(vob24::specs::Settings::settings_of))]
 pub fn inline_records(set: &Settings) -> u64
     ensures { result ≡ (settings_of set.now).inline_records }
 {
-    wide(set[limits::INLINE_RECORDS]) + 65536 * wide(set[limits::INLINE_RECORDS_HIGH])
+    u64::from(set[limits::INLINE_RECORDS]) + 65536 * u64::from(set[limits::INLINE_RECORDS_HIGH])
 }

@@ -1,5 +1,5 @@
 -- The charges of every file fit 64 bits, under every licensed settings, also those of a file that is refused.
-use Prim.Native.Nat.{ℕ, suc, zero, ◌+◌, ◌-◌, ◌*◌, ◌^◌, ◌≤◌, ◌<◌}
+use Prim.Native.Nat.{ℕ, suc, zero, ◌+◌, ◌*◌, ◌^◌, ◌≤◌, ◌<◌}
 use Rattle.std.specs.Prelude.{◌≡◌, refl, Bool, true, false, get_or, T, leb}
 use Rattle.std.proofs.Common.{ap, arith, mul-le-mul_left, length-append, leb→le}
 use mathlib.Core.List.{List, [], ◌∷◌, ◌++◌, map}

@@ -1,6 +1,6 @@
 -- No count of the pack asks for bytes that its items do not take: a section, or a pack, is read to its end exactly
 -- where it is the layout of a valid value.
-use Rattle.std.specs.Prelude.{ℕ, ◌-◌, ◌≡◌, List, Bool, true, T, eqb}
+use Rattle.std.specs.Prelude.{ℕ, ◌≡◌, List, Bool, true, T, eqb}
 use Rattle.std.proofs.Common.{arith, eqb→eq}
 use Rattle.format.specs.Trace.{wrong, pick}
 use Rattle.format.specs.Format.{number, Rule, byte, word, Format, ◌▸◌, counted}

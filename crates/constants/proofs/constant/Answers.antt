@@ -1,22 +1,21 @@
-use Rattle.reader.proofs.Reading.{reading}
-use Rattle.constants.proofs.Laws.{constants}
-use Rattle.std.proofs.Common.{rules}
+use Rattle.std.proofs.Common.{arith}
+use Rattle.constants.proofs.Laws.{constant-unread, constant-nil, constant-bool, constant-int, constant-float, constant-text}
 use Rattle.constants.proofs.constant.Goals as goal
 
-pub returns-in_default : goal.returns-in_default
-returns-in_default c = search (rules, reading, constants)
+pub returns-in_err-tag : goal.returns-in_err-tag
+returns-in_err-tag c = constant-unread c.number_constant_tag.ensures c.in_err-tag.was c.from_residual.ensures.1
 
 pub returns-in-0 : goal.returns-in-0
-returns-in-0 c = search (rules, reading, constants)
+returns-in-0 c = constant-nil c.number_constant_tag.ensures c.in_ok-tag.was c.in-0.is
 
 pub returns-in-1 : goal.returns-in-1
-returns-in-1 c = search (rules, reading, constants)
+returns-in-1 c = constant-bool c.number_constant_tag.ensures c.in_ok-tag.was c.in-1.is c.constant_bool.ensures
 
 pub returns-in-2 : goal.returns-in-2
-returns-in-2 c = search (rules, reading, constants)
+returns-in-2 c = constant-int c.number_constant_tag.ensures c.in_ok-tag.was c.in-2.is c.constant_int.ensures
 
 pub returns-in-3 : goal.returns-in-3
-returns-in-3 c = search (rules, reading, constants)
+returns-in-3 c = constant-float c.number_constant_tag.ensures c.in_ok-tag.was c.in-3.is c.constant_float.ensures
 
-pub returns-in_default-tag : goal.returns-in_default-tag
-returns-in_default-tag c = search (rules, reading, constants)
+pub returns-in_default : goal.returns-in_default
+returns-in_default c = constant-text c.number_constant_tag.ensures c.in_ok-tag.was (omega arith) (omega arith) (omega arith) (omega arith) c.constant_text.ensures

@@ -1,9 +1,8 @@
-use Rattle.constants.proofs.Laws.{constants}
-use Rattle.std.proofs.Common.{rules}
+use Rattle.constants.proofs.Laws.{number-unread, bool-record}
 use Rattle.constants.proofs.constant_bool.Goals as goal
 
-pub returns-in_default : goal.returns-in_default
-returns-in_default c = search (rules, constants)
+pub returns-in_err-n : goal.returns-in_err-n
+returns-in_err-n c = number-unread c.in_err-n.was c.from_residual.ensures.1 c.number_bool.ensures
 
 pub returns : goal.returns
-returns c = search (rules, constants)
+returns c = bool-record c.in_ok-n.was c.number_bool.ensures

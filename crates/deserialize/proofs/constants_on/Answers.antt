@@ -4,5 +4,5 @@ use Rattle.deserialize.specs.Parts.{from_section}
 use Rattle.deserialize.proofs.Laws.{number-lost}
 use Rattle.deserialize.proofs.constants_on.Goals as goal
 
-pub returns-in_default : goal.returns-in_default
-returns-in_default c = number-lost (λ n. from_section (settings_of c.args.set.now) n externs) c.number_code-q.ensures c.in_default.is c.step_of.ensures
+pub returns-in_err-n : goal.returns-in_err-n
+returns-in_err-n c = number-lost (λ n. from_section (settings_of c.args.set.now) n externs) c.number_code.ensures c.in_err-n.was c.from_residual.ensures.1

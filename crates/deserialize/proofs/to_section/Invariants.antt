@@ -1,10 +1,7 @@
-use Rattle.std.proofs.Common.{◌-◌, ◌≤◌, ◌≡◌, length}
+use Rattle.std.proofs.Common.{◌≡◌, length}
 use Rattle.vob24.specs.Settings.{settings_of}
 use Rattle.deserialize.proofs.Laws.{Along}
 use Rattle.deserialize.proofs.to_section.Given as goal
 
 abbrev pub invariant-loop-i : goal.invariant-loop-i
-invariant-loop-i l = Along (settings_of l.set) l.i l.s l.initial.here l.here × (l.i ≤ l.last) × (length l.tape ≡ length l.initial.tape)
-
-abbrev pub decreases-loop-i : goal.decreases-loop-i
-decreases-loop-i l = l.last - l.i
+invariant-loop-i l = Along (settings_of l.set) l.i l.s l.initial.here l.here × (length l.tape ≡ length l.initial.tape)

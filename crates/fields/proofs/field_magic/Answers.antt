@@ -1,10 +1,12 @@
-use Rattle.reader.proofs.Reading.{reading}
-use Rattle.reader.proofs.Keeping.{keeping}
-use Rattle.std.proofs.Common.{rules}
+use Rattle.reader.proofs.Laws.{up-refused, at-step, ready_at}
+use Rattle.reader.proofs.Keeping.{mark-read}
 use Rattle.fields.proofs.field_magic.Goals as goal
 
-pub returns-in_default : goal.returns-in_default
-returns-in_default c = search (rules, reading, keeping)
+pub returns-in_err-r : goal.returns-in_err-r
+returns-in_err-r c = up-refused c.in_err-r.was c.from_residual.ensures.1
+
+pub read_magic-requires : goal.read_magic-requires
+read_magic-requires c = ready_at c.in_ok-r.was c.requires
 
 pub returns : goal.returns
-returns c = search (rules, reading, keeping)
+returns c = at-step c.in_ok-r.was (mark-read (ready_at c.in_ok-r.was c.requires) c.read_magic.ensures)

@@ -1,10 +1,9 @@
-use Rattle.reader.proofs.Reading.{reading}
-use Rattle.reader.proofs.Keeping.{keeping}
-use Rattle.std.proofs.Common.{rules}
+use Rattle.reader.proofs.Keeping.{one-count}
+use Rattle.fields.proofs.Keeps.{number-wordy, number-kept}
 use Rattle.fields.proofs.number_debug_count.Goals as goal
 
-pub returns-in_default : goal.returns-in_default
-returns-in_default c = search (rules, reading, keeping)
+pub kept-requires : goal.kept-requires
+kept-requires c = number-wordy c.requires c.read_debug_count.ensures
 
 pub returns : goal.returns
-returns c = search (rules, reading, keeping)
+returns c = number-kept c.requires one-count c.read_debug_count.ensures c.kept.ensures

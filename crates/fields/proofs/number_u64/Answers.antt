@@ -1,10 +1,12 @@
-use Rattle.reader.proofs.Reading.{reading}
-use Rattle.reader.proofs.Keeping.{keeping}
-use Rattle.std.proofs.Common.{rules}
+use Rattle.format.specs.Format.{long}
+use Rattle.reader.proofs.Keeping.{wordy8, fixed-lost, long_kept}
 use Rattle.fields.proofs.number_u64.Goals as goal
 
-pub returns-in_default : goal.returns-in_default
-returns-in_default c = search (rules, reading, keeping)
+pub returns-in_err-n : goal.returns-in_err-n
+returns-in_err-n c = fixed-lost long c.in_err-n.was c.from_residual.ensures.1 c.read_u64.ensures
+
+pub keep_pair-requires : goal.keep_pair-requires
+keep_pair-requires c = wordy8 c.requires c.in_ok-n.was c.read_u64.ensures
 
 pub returns : goal.returns
-returns c = search (rules, reading, keeping)
+returns c = long_kept c.requires c.in_ok-n.was c.read_u64.ensures c.keep_pair.ensures

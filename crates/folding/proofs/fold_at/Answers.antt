@@ -1,23 +1,26 @@
-use Rattle.folding.proofs.Folded.{leads}
-use Rattle.std.proofs.Common.{rules}
+use Rattle.std.proofs.Common.{refl, sym, ◌∙◌}
 use Rattle.folding.specs.Bytes.{folds}
+use Rattle.folding.proofs.Folded.{no_lead, lead-last, no_last, entry-is, letter-is}
 use Rattle.folding.proofs.fold_at.Goals as goal
+use Rattle.folding.proofs.fold_at.Goals.{then-not-opens-via-then-not-opens, then-not-opens-via-else-not-opens+then-end-at}
 
-pub returns-then-lead-lt195 : goal.returns-then-lead-lt195
-returns-then-lead-lt195 c = search (rules, leads)
+pub returns-then-not-opens : goal.returns-then-not-opens
+returns-then-not-opens c =
+    elim c.then-not-opens.branch [
+      | then-not-opens-via-then-not-opens w ↦ no_lead _ _ _ c.requires.0 c.requires.1 (sym c.opens.ensures ∙ w.if-not-opens.true)
+      | then-not-opens-via-else-not-opens+then-end-at w ↦ lead-last _ _ _ c.requires.0 c.requires.1 w.if-end-at.true
+    ]
 
-pub returns-then-lead-gt197 : goal.returns-then-lead-gt197
-returns-then-lead-gt197 c = search (rules, leads)
+pub returns-then-not-ends : goal.returns-then-not-ends
+returns-then-not-ends c =
+    no_last _ _ _ c.requires.0 c.requires.1 c.if-end-at.false (sym c.ends.ensures ∙ c.if-not-ends.true)
 
-pub returns-then-end-next : goal.returns-then-end-next
-returns-then-end-next c = search (rules, leads)
-
-pub returns-then-last-lt128 : goal.returns-then-last-lt128
-returns-then-last-lt128 c = search (rules, leads)
-
-pub returns-then-last-gt191 : goal.returns-then-last-gt191
-returns-then-last-gt191 c = search (rules, leads)
+pub returns-then-entry-eq0 : goal.returns-then-entry-eq0
+unfolding folds
+returns-then-entry-eq0 c =
+    entry-is _ _ _ c.requires.0 c.requires.1 c.if-end-at.false (sym c.opens.ensures ∙ c.if-not-opens.false) (sym c.ends.ensures ∙ c.if-not-ends.false) ∙ c.if-entry-eq0.true
 
 pub returns : goal.returns
 unfolding folds
-returns c = search (rules, leads)
+returns c =
+    letter-is (entry-is _ _ _ c.requires.0 c.requires.1 c.if-end-at.false (sym c.opens.ensures ∙ c.if-not-opens.false) (sym c.ends.ensures ∙ c.if-not-ends.false)) refl c.if-entry-eq0.false

@@ -1,9 +1,5 @@
-use Rattle.std.proofs.Common.{◌-◌}
-use Rattle.folding.proofs.Folded.{Prefixing}
+use Rattle.folding.specs.Contract.{PrefixIs}
 use Rattle.folding.proofs.same_prefix.Given as goal
 
-abbrev pub invariant-loop-p : goal.invariant-loop-p
-invariant-loop-p l = Prefixing l.s l.a l.e l.b l.f l.p l.q
-
-abbrev pub decreases-loop-p : goal.decreases-loop-p
-decreases-loop-p l = l.e - l.p
+abbrev pub invariant-loop-i : goal.invariant-loop-i
+invariant-loop-i l = PrefixIs l.s l.a l.e l.b l.f l.i

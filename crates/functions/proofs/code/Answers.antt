@@ -6,27 +6,25 @@ use Rattle.format.specs.Format.{counted, leaf, ask, seq}
 use Rattle.metadata.specs.Records.{metadata_list}
 use Rattle.vob24.specs.Questions.{same_code}
 use Rattle.reader.proofs.Asks.{agree, differ}
-use Rattle.reader.proofs.Reading.{reading}
-use Rattle.reader.proofs.Laws.{at-step, number_then, number_not, got-ready}
+use Rattle.reader.proofs.Laws.{up-refused, at-step, number_then, number_not, got-ready}
 use Rattle.reader.proofs.Parts.{part_not}
-use Rattle.std.proofs.Common.{rules}
 use Rattle.functions.proofs.code.Goals as goal
 
-pub returns-in_default : goal.returns-in_default
-returns-in_default c = search (rules, reading)
+pub returns-in_err-r : goal.returns-in_err-r
+returns-in_err-r c = up-refused c.in_err-r.was c.from_residual.ensures.1
 
-pub returns-in_default-p : goal.returns-in_default-p
+pub returns-in_err-instructions : goal.returns-in_err-instructions
 unfolding code
-returns-in_default-p c = part_not c.in-Taken.is c.in_default-p.is c.step_of.ensures c.number_instructions-p.ensures
+returns-in_err-instructions c = part_not c.in_ok-r.was c.in_err-instructions.was c.from_residual-in_err-instructions.ensures.1 c.number_instructions.ensures
 
-pub returns-in_default-q : goal.returns-in_default-q
+pub returns-in_err-metadata : goal.returns-in_err-metadata
 unfolding code
-returns-in_default-q c = at-step c.in-Taken.is (number_then (λ m. seq (metadata_list (settings_of c.args.set.now)) (λ v. leaf (ask (same_code (counted v) m)))) c.in-Got.is c.number_instructions-p.ensures (number_not _ c.in_default-q.is c.step_of-in_default-q.ensures c.number_instruction_metadata-q.ensures))
+returns-in_err-metadata c = at-step c.in_ok-r.was (number_then (λ m. seq (metadata_list (settings_of c.args.set.now)) (λ v. leaf (ask (same_code (counted v) m)))) c.in_ok-instructions.was c.number_instructions.ensures (number_not _ c.in_err-metadata.was c.from_residual-in_err-metadata.ensures.1 c.number_instruction_metadata.ensures))
 
 pub returns-then-metadata-instructions : goal.returns-then-metadata-instructions
 unfolding code
-returns-then-metadata-instructions c = at-step c.in-Taken.is (number_then (λ m. seq (metadata_list (settings_of c.args.set.now)) (λ v. leaf (ask (same_code (counted v) m)))) c.in-Got.is c.number_instructions-p.ensures (number_then (λ n. leaf (ask (same_code n c.in-Got.instructions))) c.in-Got-q.is c.number_instruction_metadata-q.ensures (differ c.in-Got-q.metadata c.in-Got.instructions (wrong invalid_instruction_metadata 0) (got-ready c.in-Got-q.is c.number_instruction_metadata-q.ensures) c.if-metadata-instructions.true c.refuse.ensures)))
+returns-then-metadata-instructions c = at-step c.in_ok-r.was (number_then (λ m. seq (metadata_list (settings_of c.args.set.now)) (λ v. leaf (ask (same_code (counted v) m)))) c.in_ok-instructions.was c.number_instructions.ensures (number_then (λ n. leaf (ask (same_code n c.in_ok-instructions.instructions))) c.in_ok-metadata.was c.number_instruction_metadata.ensures (differ c.in_ok-metadata.metadata c.in_ok-instructions.instructions (wrong invalid_instruction_metadata 0) (got-ready c.in_ok-metadata.was c.number_instruction_metadata.ensures) c.if-metadata-instructions.true c.refuse.ensures)))
 
 pub returns : goal.returns
 unfolding code
-returns c = at-step c.in-Taken.is (number_then (λ m. seq (metadata_list (settings_of c.args.set.now)) (λ v. leaf (ask (same_code (counted v) m)))) c.in-Got.is c.number_instructions-p.ensures (number_then (λ n. leaf (ask (same_code n c.in-Got.instructions))) c.in-Got-q.is c.number_instruction_metadata-q.ensures (agree c.in-Got-q.metadata c.in-Got.instructions (wrong invalid_instruction_metadata 0) (got-ready c.in-Got-q.is c.number_instruction_metadata-q.ensures) c.if-metadata-instructions.false)))
+returns c = at-step c.in_ok-r.was (number_then (λ m. seq (metadata_list (settings_of c.args.set.now)) (λ v. leaf (ask (same_code (counted v) m)))) c.in_ok-instructions.was c.number_instructions.ensures (number_then (λ n. leaf (ask (same_code n c.in_ok-instructions.instructions))) c.in_ok-metadata.was c.number_instruction_metadata.ensures (agree c.in_ok-metadata.metadata c.in_ok-instructions.instructions (wrong invalid_instruction_metadata 0) (got-ready c.in_ok-metadata.was c.number_instruction_metadata.ensures) c.if-metadata-instructions.false)))

@@ -1,14 +1,13 @@
-use Rattle.reader.proofs.Reading.{reading}
-use Rattle.reader.proofs.Parts.{list_then}
 use Rattle.vob24.specs.Leaves.{u16}
-use Rattle.std.proofs.Common.{rules}
+use Rattle.reader.proofs.Laws.{up-refused}
+use Rattle.reader.proofs.Parts.{part_not, list_then}
 use Rattle.functions.proofs.heap_ret_slots.Goals as goal
 
-pub returns-in_default : goal.returns-in_default
-returns-in_default c = search (rules, reading)
+pub returns-in_err-r : goal.returns-in_err-r
+returns-in_err-r c = up-refused c.in_err-r.was c.from_residual.ensures.1
 
-pub returns-in_default-q : goal.returns-in_default-q
-returns-in_default-q c = search (rules, reading)
+pub returns-in_err-n : goal.returns-in_err-n
+returns-in_err-n c = part_not c.in_ok-r.was c.in_err-n.was c.from_residual-in_err-n.ensures.1 c.number_count.ensures
 
 pub returns : goal.returns
-returns c = list_then u16 c.in-Taken.is c.in-Got.is c.number_count-q.ensures c.u16s.ensures
+returns c = list_then u16 c.in_ok-r.was c.in_ok-n.was c.number_count.ensures c.u16s.ensures

@@ -1,9 +1,10 @@
-use Rattle.in_place.proofs.Texts.{texts}
-use Rattle.std.proofs.Common.{rules}
+use Rattle.std.proofs.Common.{ne_eqb}
+use Rattle.in_place.proofs.Texts.{blank-long, blank-one}
 use Rattle.in_place.proofs.blank.Goals as goal
 
-pub returns-then-n-ne1 : goal.returns-then-n-ne1
-returns-then-n-ne1 c = search (rules, texts)
+pub returns-then-word_at-eq1 : goal.returns-then-word_at-eq1
+returns-then-word_at-eq1 c = blank-one c.requires c.word_at.ensures c.if-word_at-eq1.true
 
-pub returns : goal.returns
-returns c = search (rules, texts)
+pub returns-else-word_at-eq1 : goal.returns-else-word_at-eq1
+returns-else-word_at-eq1 c =
+    rw (ne_eqb _ 1 c.if-word_at-eq1.false) (blank-long c.requires c.word_at.ensures c.if-word_at-eq1.false)

@@ -5,14 +5,14 @@ use Rattle.in_place.proofs.past_optional_text.Goals as goal
 pub bounds-s-p : goal.bounds-s-p
 bounds-s-p c = omega (arith, option-room c.requires)
 
-pub overflow_add-next : goal.overflow_add-next
-overflow_add-next c = omega (arith, option-room c.requires, c.requires.small)
-
-pub returns-then-tag-eq0 : goal.returns-then-tag-eq0
-returns-then-tag-eq0 c = option-absent c.requires c.if-tag-eq0.true
+pub overflow_add-result : goal.overflow_add-result
+overflow_add-result c = omega (arith, option-room c.requires, c.requires.small)
 
 pub past_text-requires : goal.past_text-requires
-past_text-requires c = option-text c.requires c.if-tag-eq0.false
+past_text-requires c = option-text c.requires c.if-s-p-eq0.false
 
-pub returns : goal.returns
-returns c = option-present c.requires c.if-tag-eq0.false c.past_text.ensures
+pub returns-then-s-p-eq0 : goal.returns-then-s-p-eq0
+returns-then-s-p-eq0 c = option-absent c.requires c.if-s-p-eq0.true
+
+pub returns-else-s-p-eq0 : goal.returns-else-s-p-eq0
+returns-else-s-p-eq0 c = option-present c.requires c.if-s-p-eq0.false c.past_text.ensures

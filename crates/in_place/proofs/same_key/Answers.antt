@@ -1,21 +1,14 @@
-use Rattle.in_place.proofs.Keys.{both-texts, keys}
-use Rattle.std.proofs.Common.{rules}
+use Rattle.in_place.proofs.Keys.{both-texts, other-names, same-only, same-identity}
 use Rattle.in_place.proofs.same_key.Goals as goal
 
 pub same_name-requires : goal.same_name-requires
 same_name-requires c = both-texts c.args.table c.requires
 
-pub returns-in-Fields : goal.returns-in-Fields
-returns-in-Fields c = search (rules, keys)
-
-pub returns-in-Methods : goal.returns-in-Methods
-returns-in-Methods c = search (rules, keys)
+pub returns-then-not-same_name : goal.returns-then-not-same_name
+returns-then-not-same_name c = other-names c.same_name.ensures c.if-not-same_name.true
 
 pub returns-in-Identities : goal.returns-in-Identities
-returns-in-Identities c = search (rules, keys)
+returns-in-Identities c = same-identity c.same_name.ensures c.if-not-same_name.false c.in-Identities.is c.same_package.ensures
 
-pub returns-in-Alike : goal.returns-in-Alike
-returns-in-Alike c = search (rules, keys)
-
-pub returns : goal.returns
-returns c = search (rules, keys)
+pub returns-in_default : goal.returns-in_default
+returns-in_default c = same-only c.same_name.ensures c.if-not-same_name.false c.in_default.not-Identities

@@ -1,6 +1,6 @@
-use Rattle.in_place.proofs.Texts.{texts}
-use Rattle.std.proofs.Common.{rules}
+use Rattle.std.proofs.Common.{◌∙◌}
+use Rattle.in_place.proofs.Texts.{same_pointwise}
 use Rattle.in_place.proofs.same_text.Goals as goal
 
-pub returns-then-m-n : goal.returns-then-m-n
-returns-then-m-n c = search (rules, texts)
+pub returns : goal.returns
+returns c = record { is = c.eq.ensures ∙ rw (c.text.ensures, c.text-2.ensures) (same_pointwise _ _) }

@@ -1,11 +1,16 @@
-use Rattle.reader.proofs.Reading.{reading}
-use Rattle.reader.proofs.Numbering.{numbered_items, numbering}
+use Rattle.reader.proofs.Laws.{got-ready}
+use Rattle.reader.proofs.Numbering.{numbered_not, numbered_items, numbered_refused}
 use Rattle.instruction.specs.Formats.{instruction_format}
-use Rattle.std.proofs.Common.{rules}
 use Rattle.instruction.proofs.number_instructions.Goals as goal
 
-pub returns-in_default : goal.returns-in_default
-returns-in_default c = search (rules, reading, numbering)
+pub returns-in_err-n : goal.returns-in_err-n
+returns-in_err-n c = numbered_not c.in_err-n.was c.from_residual.ensures.1 c.number_count.ensures
+
+pub run_entries-requires-clause-ready : goal.run_entries-requires-clause-ready
+run_entries-requires-clause-ready c = got-ready c.in_ok-n.was c.number_count.ensures
+
+pub returns-in_err-e : goal.returns-in_err-e
+returns-in_err-e c = numbered_refused c.in_ok-n.was c.number_count.ensures instruction_format c.in_err-e.was c.from_residual-in_err-e.ensures.1 c.run_entries.ensures
 
 pub returns : goal.returns
-returns c = numbered_items c.in-Got.is c.number_count-q.ensures instruction_format c.instructions.ensures c.number_of.ensures
+returns c = numbered_items c.in_ok-n.was c.number_count.ensures instruction_format c.in_ok-e.was c.run_entries.ensures

@@ -1,12 +1,12 @@
-use Rattle.reader.proofs.Leaves.{leaves}
 use Rattle.std.proofs.Common.{rules}
+use Rattle.reader.proofs.Leaves.{leaves, counted-poor, counted-got}
 use Rattle.length_leaves.proofs.counted.Goals as goal
 
 pub returns-then-s-place : goal.returns-then-s-place
 returns-then-s-place c = search (rules, leaves)
 
-pub returns-in_default : goal.returns-in_default
-returns-in_default c = search (rules, leaves)
+pub returns-in_err-e : goal.returns-in_err-e
+returns-in_err-e c = counted-poor c.requires.ready c.if-s-place.false c.charge_allocation.ensures c.in_err-e.was c.from_residual.ensures.1
 
 pub returns : goal.returns
-returns c = search (rules, leaves)
+returns c = counted-got c.requires.ready c.if-s-place.false c.charge_allocation.ensures c.in_ok-e.was

@@ -1,12 +1,12 @@
-use Rattle.reader.proofs.Leaves.{leaves}
-use Rattle.std.proofs.Common.{rules}
+use Rattle.std.proofs.Common.{refl, arith}
+use Rattle.reader.proofs.Leaves.{count-short, count_at, count-size}
 use Rattle.length_leaves.proofs.read_count.Goals as goal
 
-pub returns-in_default : goal.returns-in_default
-returns-in_default c = search (rules, leaves)
+pub returns-in_err-n : goal.returns-in_err-n
+returns-in_err-n c = count-short c.in_err-n.was c.from_residual.ensures.1 c.read_u32.ensures
 
 pub counted-requires : goal.counted-requires
-counted-requires c = search (rules, leaves)
+counted-requires c = count_at c.requires c.in_ok-n.was c.read_u32.ensures (omega arith) c.size.ensures.1
 
 pub returns : goal.returns
-returns c = search (rules, leaves)
+returns c = count-size c.in_ok-n.was c.read_u32.ensures refl c.size.ensures.0 c.counted.ensures

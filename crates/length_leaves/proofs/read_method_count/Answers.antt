@@ -1,13 +1,12 @@
-use Rattle.std.proofs.Common.{refl, arith, rules}
-use Rattle.reader.proofs.Leaves.{leaves, count-below, count-size}
+use Rattle.std.proofs.Common.{refl, arith}
+use Rattle.reader.proofs.Leaves.{count-short, count-below, count-size}
 use Rattle.length_leaves.proofs.read_method_count.Goals as goal
 
-pub returns-in_default : goal.returns-in_default
-returns-in_default c = search (rules, leaves)
+pub returns-in_err-n : goal.returns-in_err-n
+returns-in_err-n c = count-short c.in_err-n.was c.from_residual.ensures.1 c.read_u32.ensures
 
 pub counted-requires : goal.counted-requires
-counted-requires c = count-below (search rules) c.in-Got.is c.read_u32-q.ensures (omega arith) (omega (arith, c.size.ensures.1, c.size-2.ensures.1))
+counted-requires c = count-below c.requires c.in_ok-n.was c.read_u32.ensures (omega arith) (omega (arith, c.size.ensures.1, c.size-2.ensures.1))
 
 pub returns : goal.returns
-returns c =
-    count-size c.in-Got.is c.read_u32-q.ensures refl (rw (c.size.ensures.0, c.size-2.ensures.0)) c.counted.ensures
+returns c = count-size c.in_ok-n.was c.read_u32.ensures refl (rw (c.size.ensures.0, c.size-2.ensures.0)) c.counted.ensures

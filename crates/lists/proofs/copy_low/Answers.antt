@@ -1,4 +1,4 @@
-use Rattle.std.proofs.Common.{◌-◌, arith}
+use Rattle.std.proofs.Common.{arith}
 use Rattle.lists.proofs.Lows.{copied-start, copied_more}
 use Rattle.lists.proofs.copy_low.Goals as goal
 

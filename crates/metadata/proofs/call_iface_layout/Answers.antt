@@ -1,20 +1,19 @@
-use Rattle.std.proofs.Common.{arith, rules}
-use Rattle.reader.proofs.Reading.{reading}
+use Rattle.std.proofs.Common.{arith, refl}
+use Rattle.reader.proofs.Recording.{record_lost, lost_here, lost_then, fixed-fits}
 use Rattle.metadata.proofs.Shapes.{call_iface_record}
-use Rattle.reader.proofs.Recording.{recording, fixed-fits}
 use Rattle.metadata.proofs.call_iface_layout.Goals as goal
 
-pub returns-in_default : goal.returns-in_default
-returns-in_default c = search (rules, reading, recording)
+pub returns-in_err-id : goal.returns-in_err-id
+returns-in_err-id c = record_lost refl c.from_residual.ensures.1 (lost_here c.in_err-id.was refl c.number_u32.ensures)
 
-pub returns-in_default-q2 : goal.returns-in_default-q2
-returns-in_default-q2 c = search (rules, reading, recording)
+pub returns-in_err-method : goal.returns-in_err-method
+returns-in_err-method c = record_lost refl c.from_residual-in_err-method.ensures.1 (lost_then c.in_ok-id.was c.number_u32.ensures λ _. lost_here c.in_err-method.was refl c.number_u32-2.ensures)
 
 pub overflow_cast-kind : goal.overflow_cast-kind
-overflow_cast-kind c = record { fits = fixed-fits c.in-Got.is c.number_u32-q1.ensures (λ i. omega (arith, c.shared_slice_known-1.given i)) }
+overflow_cast-kind c = record { fits = fixed-fits c.in_ok-id.was c.number_u32.ensures (λ i. omega (arith, c.shared_slice_known-1.given i)) }
 
 pub overflow_cast-kind-2 : goal.overflow_cast-kind-2
-overflow_cast-kind-2 c = record { fits = fixed-fits c.in-Got-q2.is c.number_u32-q2.ensures (λ i. omega (arith, c.shared_slice_known-1.given i)) }
+overflow_cast-kind-2 c = record { fits = fixed-fits c.in_ok-method.was c.number_u32-2.ensures (λ i. omega (arith, c.shared_slice_known-1.given i)) }
 
 pub returns : goal.returns
-returns c = call_iface_record _ c.in-Got.is c.in-Got-q2.is c.number_u32-q1.ensures c.number_u32-q2.ensures c.layouts.ensures
+returns c = call_iface_record _ c.in_ok-id.was c.in_ok-method.was c.number_u32.ensures c.number_u32-2.ensures c.layouts.ensures

@@ -1,17 +1,16 @@
-use Rattle.std.proofs.Common.{arith, rules}
-use Rattle.reader.proofs.Reading.{reading}
+use Rattle.std.proofs.Common.{arith, refl}
+use Rattle.reader.proofs.Recording.{record_lost, lost_here, lost_then, fixed-fits}
 use Rattle.metadata.proofs.Shapes.{elem_record}
-use Rattle.reader.proofs.Recording.{recording, fixed-fits}
 use Rattle.metadata.proofs.elem_layout.Goals as goal
 
-pub returns-in_default : goal.returns-in_default
-returns-in_default c = search (rules, reading, recording)
+pub returns-in_err-bytes : goal.returns-in_err-bytes
+returns-in_err-bytes c = record_lost refl c.from_residual.ensures.1 (lost_here c.in_err-bytes.was refl c.number_u32.ensures)
 
-pub returns-in_default-q2 : goal.returns-in_default-q2
-returns-in_default-q2 c = search (rules, reading, recording)
+pub returns-in_err-extend : goal.returns-in_err-extend
+returns-in_err-extend c = record_lost refl c.from_residual-in_err-extend.ensures.1 (lost_then c.in_ok-bytes.was c.number_u32.ensures λ _. lost_here c.in_err-extend.was refl c.number_bool.ensures)
 
 pub overflow_cast-kind : goal.overflow_cast-kind
-overflow_cast-kind c = record { fits = fixed-fits c.in-Got.is c.number_u32-q1.ensures (λ i. omega (arith, c.shared_slice_known-1.given i)) }
+overflow_cast-kind c = record { fits = fixed-fits c.in_ok-bytes.was c.number_u32.ensures (λ i. omega (arith, c.shared_slice_known-1.given i)) }
 
 pub returns : goal.returns
-returns c = elem_record _ c.in-Got.is c.in-Got-q2.is c.number_u32-q1.ensures c.number_bool-q2.ensures c.layout.ensures
+returns c = elem_record _ c.in_ok-bytes.was c.in_ok-extend.was c.number_u32.ensures c.number_bool.ensures c.layout.ensures

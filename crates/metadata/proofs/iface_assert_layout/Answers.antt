@@ -1,21 +1,20 @@
-use Rattle.std.proofs.Common.{arith, rules}
-use Rattle.reader.proofs.Reading.{reading}
+use Rattle.std.proofs.Common.{arith, refl}
+use Rattle.reader.proofs.Recording.{record_lost, lost_here, lost_then, fixed-fits}
 use Rattle.reader.proofs.Parts.{tag-most-bare}
 use Rattle.metadata.proofs.Shapes.{assert_record}
-use Rattle.reader.proofs.Recording.{recording, fixed-fits}
 use Rattle.metadata.proofs.iface_assert_layout.Goals as goal
 
-pub returns-in_default : goal.returns-in_default
-returns-in_default c = search (rules, reading, recording)
+pub returns-in_err-assert : goal.returns-in_err-assert
+returns-in_err-assert c = record_lost refl c.from_residual.ensures.1 (lost_here c.in_err-assert.was refl c.number_assert_kind.ensures)
 
-pub returns-in_default-q2 : goal.returns-in_default-q2
-returns-in_default-q2 c = search (rules, reading, recording)
+pub returns-in_err-target : goal.returns-in_err-target
+returns-in_err-target c = record_lost refl c.from_residual-in_err-target.ensures.1 (lost_then c.in_ok-assert.was c.number_assert_kind.ensures λ _. lost_here c.in_err-target.was refl c.number_u32.ensures)
 
 pub overflow_cast-kind : goal.overflow_cast-kind
-overflow_cast-kind c = omega (arith, tag-most-bare c.in-Got.is c.number_assert_kind-q1.ensures)
+overflow_cast-kind c = omega (arith, tag-most-bare c.in_ok-assert.was c.number_assert_kind.ensures)
 
 pub overflow_cast-kind-2 : goal.overflow_cast-kind-2
-overflow_cast-kind-2 c = record { fits = fixed-fits c.in-Got-q2.is c.number_u32-q2.ensures (λ i. omega (arith, c.shared_slice_known-1.given i)) }
+overflow_cast-kind-2 c = record { fits = fixed-fits c.in_ok-target.was c.number_u32.ensures (λ i. omega (arith, c.shared_slice_known-1.given i)) }
 
 pub returns : goal.returns
-returns c = assert_record _ c.in-Got.is c.in-Got-q2.is c.number_assert_kind-q1.ensures c.number_u32-q2.ensures c.layout.ensures
+returns c = assert_record _ c.in_ok-assert.was c.in_ok-target.was c.number_assert_kind.ensures c.number_u32.ensures c.layout.ensures

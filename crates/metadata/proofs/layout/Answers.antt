@@ -1,11 +1,10 @@
+use Rattle.std.proofs.Common.{refl}
+use Rattle.reader.proofs.Recording.{record_lost, lost_last}
 use Rattle.metadata.proofs.Shapes.{one_layout}
-use Rattle.reader.proofs.Reading.{reading}
-use Rattle.reader.proofs.Recording.{recording}
-use Rattle.std.proofs.Common.{rules}
 use Rattle.metadata.proofs.layout.Goals as goal
 
-pub returns-in_default : goal.returns-in_default
-returns-in_default c = search (rules, reading, recording)
+pub returns-in_err-n : goal.returns-in_err-n
+returns-in_err-n c = record_lost refl c.from_residual.ensures.1 (lost_last c.in_err-n.was refl c.number_slot_types.ensures)
 
 pub returns : goal.returns
-returns c = one_layout c.in-Got.is c.number_slot_types-q.ensures c.list_at.ensures
+returns c = one_layout c.in_ok-n.was c.number_slot_types.ensures c.list_at.ensures

@@ -1,14 +1,13 @@
-use Rattle.reader.proofs.Reading.{reading}
+use Rattle.std.proofs.Common.{refl}
+use Rattle.reader.proofs.Recording.{record_lost, lost_here, lost_then, lost_last}
 use Rattle.metadata.proofs.Shapes.{two_layout}
-use Rattle.reader.proofs.Recording.{recording}
-use Rattle.std.proofs.Common.{rules}
 use Rattle.metadata.proofs.layouts.Goals as goal
 
-pub returns-in_default : goal.returns-in_default
-returns-in_default c = search (rules, reading, recording)
+pub returns-in_err-m : goal.returns-in_err-m
+returns-in_err-m c = record_lost refl c.from_residual.ensures.1 (lost_here c.in_err-m.was refl c.number_slot_types.ensures)
 
-pub returns-in_default-q2 : goal.returns-in_default-q2
-returns-in_default-q2 c = search (rules, reading, recording)
+pub returns-in_err-n : goal.returns-in_err-n
+returns-in_err-n c = record_lost refl c.from_residual-in_err-n.ensures.1 (lost_then c.in_ok-m.was c.number_slot_types.ensures λ _. lost_last c.in_err-n.was refl c.number_slot_types-2.ensures)
 
 pub returns : goal.returns
-returns c = two_layout _ c.in-Got.is c.number_slot_types-q1.ensures c.in-Got-q2.is c.number_slot_types-q2.ensures c.list_at.ensures c.list_at-2.ensures
+returns c = two_layout _ c.in_ok-m.was c.number_slot_types.ensures c.in_ok-n.was c.number_slot_types-2.ensures c.list_at.ensures c.list_at-2.ensures

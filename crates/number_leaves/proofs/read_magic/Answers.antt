@@ -1,19 +1,13 @@
-use Rattle.reader.proofs.Leaves.{leaves}
-use Rattle.number_leaves.proofs.Marks.{marks}
-use Rattle.std.proofs.Common.{rules}
+use Rattle.std.specs.Cmp.Lexicographic.{same_text, other_text}
+use Rattle.std.proofs.Common.{sym, ◌∙◌}
+use Rattle.number_leaves.proofs.Marks.{magic-short, magic-got, magic-other}
 use Rattle.number_leaves.proofs.read_magic.Goals as goal
 
-pub returns-then-s-place-lt3 : goal.returns-then-s-place-lt3
-returns-then-s-place-lt3 c = search (rules, leaves, marks)
+pub returns-in_default : goal.returns-in_default
+returns-in_default c = magic-short c.requires c.in_default.ensures.cases c.refuse.ensures
 
-pub returns-then-s-place-ne86 : goal.returns-then-s-place-ne86
-returns-then-s-place-ne86 c = search (rules, leaves, marks)
-
-pub returns-then-s-place-ne79 : goal.returns-then-s-place-ne79
-returns-then-s-place-ne79 c = search (rules, leaves, marks)
-
-pub returns-then-s-place-ne66 : goal.returns-then-s-place-ne66
-returns-then-s-place-ne66 c = search (rules, leaves, marks)
+pub returns-then-eq : goal.returns-then-eq
+returns-then-eq c = rw c.past-d.ensures (magic-got c.requires c.in-Some.ensures.cases (same_text _ _ (sym c.if-eq.true ∙ c.eq.ensures)))
 
 pub returns : goal.returns
-returns c = search (rules, leaves, marks)
+returns c = magic-other c.requires c.in-Some.ensures.cases (other_text _ _ (sym c.if-eq.false ∙ c.eq.ensures)) (c.refuse-2.ensures ∙ rw c.past-d.ensures)

@@ -1,11 +1,5 @@
-use Rattle.std.proofs.Common.{◌-◌}
 use Rattle.number_leaves.proofs.Packing.{Packing}
 use Rattle.number_leaves.proofs.read_source_u32.Given as goal
 
 abbrev pub invariant-loop-i : goal.invariant-loop-i
 invariant-loop-i l = Packing l.s l.initial.d l.value l.d l.i
-
-abbrev pub decreases-loop-i : goal.decreases-loop-i
-decreases-loop-i l = 5 - l.i
-
--- past the fifth byte's test

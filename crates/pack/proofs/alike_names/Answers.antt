@@ -3,12 +3,12 @@ use Rattle.vob24.specs.Settings.{settings_of}
 use Rattle.pack.proofs.alike_names.Goals as goal
 
 pub find_alike-requires : goal.find_alike-requires
-find_alike-requires c = alike-placed _ c.opening_whole-start.ensures c.deserialize-first.ensures c.ended-end.ensures c.in-Taken.is
+find_alike-requires c = alike-placed _ c.opening_whole-start.ensures c.deserialize-first.ensures c.ended.ensures c.in_ok-ended.was
 
-pub returns-in-Refused : goal.returns-in-Refused
+pub returns-in_err-ended : goal.returns-in_err-ended
 unfolding settings_of
-returns-in-Refused c = alike-refused _ c.opening_whole-start.ensures c.deserialize-first.ensures c.ended-end.ensures c.in-Refused.is
+returns-in_err-ended c = alike-refused _ c.opening_whole-start.ensures c.deserialize-first.ensures c.ended.ensures c.in_err-ended.was c.from_residual.ensures.1
 
-pub returns-in-Taken : goal.returns-in-Taken
+pub returns : goal.returns
 unfolding settings_of
-returns-in-Taken c = alike-found _ c.opening_whole-start.ensures c.deserialize-first.ensures c.ended-end.ensures c.in-Taken.is c.find_alike.ensures
+returns c = alike-found _ c.opening_whole-start.ensures c.deserialize-first.ensures c.ended.ensures c.in_ok-ended.was c.find_alike.ensures

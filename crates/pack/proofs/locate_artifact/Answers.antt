@@ -3,12 +3,12 @@ use Rattle.vob24.specs.Settings.{settings_of}
 use Rattle.pack.proofs.locate_artifact.Goals as goal
 
 pub located-requires : goal.located-requires
-located-requires c = locate-whole _ c.opening_whole-start.ensures c.deserialize-first.ensures c.ended-end.ensures c.in-Taken.is
+located-requires c = locate-whole _ c.opening_whole-start.ensures c.deserialize-first.ensures c.ended.ensures c.in_ok-end.was
 
-pub returns-in-Refused : goal.returns-in-Refused
+pub returns-in_err-end : goal.returns-in_err-end
 unfolding settings_of
-returns-in-Refused c = locate-refused _ c.opening_whole-start.ensures c.deserialize-first.ensures c.ended-end.ensures c.in-Refused.is
+returns-in_err-end c = locate-refused _ c.opening_whole-start.ensures c.deserialize-first.ensures c.ended.ensures c.in_err-end.was c.from_residual.ensures.1
 
-pub returns-in-Taken : goal.returns-in-Taken
+pub returns : goal.returns
 unfolding settings_of
-returns-in-Taken c = locate-found _ c.opening_whole-start.ensures c.deserialize-first.ensures c.ended-end.ensures c.in-Taken.is c.located.ensures
+returns c = locate-found _ c.opening_whole-start.ensures c.deserialize-first.ensures c.ended.ensures c.in_ok-end.was c.located.ensures

@@ -1,5 +1,6 @@
 use Rattle.calls.proofs.Laws.{opens_at, read-since, read-refused, read_taken}
 use Rattle.std.proofs.Common.{rules}
+use Rattle.std.proofs.lemmas.Result.{err_from_is_err_and}
 use Rattle.vob24.specs.Settings.{settings_of}
 use Rattle.pack.proofs.read.Goals as goal
 
@@ -10,13 +11,13 @@ pub returns-then-pack-le-SMALL : goal.returns-then-pack-le-SMALL
 unfolding settings_of
 returns-then-pack-le-SMALL c = search rules
 
-pub closed_whole-answer-requires-clause-since : goal.closed_whole-answer-requires-clause-since
-closed_whole-answer-requires-clause-since c = read-since _ (c.opening_whole-start).ensures c.deserialize-first.ensures
+pub closed_whole-requires-clause-since : goal.closed_whole-requires-clause-since
+closed_whole-requires-clause-since c = read-since _ (c.opening_whole-start).ensures c.deserialize-first.ensures
 
-pub returns-in_default : goal.returns-in_default
+pub returns-in_err-taken : goal.returns-in_err-taken
 unfolding settings_of
-returns-in_default c = read-refused _ (c.opening_whole-start).ensures c.deserialize-first.ensures (search rules) c.closed_whole-answer.ensures c.in_default.is
+returns-in_err-taken c = let p = err_from_is_err_and c.from_residual.result c.from_residual.ensures.1 in rw (p.1, p.2) (read-refused _ (c.opening_whole-start).ensures c.deserialize-first.ensures (search rules) c.closed_whole.ensures c.in_err-taken.was)
 
 pub returns : goal.returns
 unfolding settings_of
-returns c = read_taken _ (c.opening_whole-start).ensures c.deserialize-first.ensures (search rules) c.closed_whole-answer.ensures c.in-Taken.is c.deserialize.ensures
+returns c = read_taken _ (c.opening_whole-start).ensures c.deserialize-first.ensures (search rules) c.closed_whole.ensures c.in_ok-taken.was c.deserialize.ensures

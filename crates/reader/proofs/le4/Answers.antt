@@ -1,10 +1,6 @@
-use Rattle.std.proofs.Common.{rules, get_or}
-use Rattle.reader.proofs.Gather.{put}
-use Rattle.std.proofs.Common.{w8}
-use Rattle.std.proofs.Common.{Fits}
+use Rattle.std.proofs.Common.{rules, ◌∙◌}
+use Rattle.reader.proofs.Little.{little_4}
 use Rattle.reader.proofs.le4.Goals as goal
 
 pub returns : goal.returns
-returns c =
-    let l = c.args.b in
-    put 32 3 l (search rules) (search rules) (λ i. let h : Fits w8 (get_or l i 0) = search rules in h.fits)
+returns c = c.from_le_bytes.ensures ∙ little_4 c.args.b (search rules)

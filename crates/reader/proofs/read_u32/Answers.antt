@@ -1,9 +1,9 @@
-use Rattle.std.proofs.Common.{arith, rules}
-use Rattle.reader.proofs.Leaves.{leaves, fetch4}
+use Rattle.std.proofs.Common.{◌∙◌}
+use Rattle.reader.proofs.Leaves.{fetch-short, fetch4}
 use Rattle.reader.proofs.read_u32.Goals as goal
 
-pub returns-then-s-place-lt4 : goal.returns-then-s-place-lt4
-returns-then-s-place-lt4 c = search (rules, leaves)
+pub returns-in_default : goal.returns-in_default
+returns-in_default c = fetch-short c.requires c.in_default.ensures.cases c.refuse.ensures
 
 pub returns : goal.returns
-returns c = fetch4 c.requires (search rules) c.le4-n.ensures (λ i. omega (arith, c.shared_slice_known-1.given i))
+returns c = rw c.past.ensures (fetch4 c.requires c.in-Some.ensures.cases (c.from.ensures ∙ c.from_le_bytes.ensures) (λ i. (c.type_inv.s i).fits))

@@ -1,9 +1,8 @@
-use Rattle.std.proofs.Common.{arith, rules}
-use Rattle.reader.proofs.Leaves.{leaves, fetch8}
+use Rattle.reader.proofs.Leaves.{fetch-short, fetch8}
 use Rattle.reader.proofs.read_u64.Goals as goal
 
-pub returns-then-s-place-lt8 : goal.returns-then-s-place-lt8
-returns-then-s-place-lt8 c = search (rules, leaves)
+pub returns-in_default : goal.returns-in_default
+returns-in_default c = fetch-short c.requires c.in_default.ensures.cases c.refuse.ensures
 
 pub returns : goal.returns
-returns c = fetch8 c.requires (search rules) c.le8-n.ensures (λ i. omega (arith, c.shared_slice_known-1.given i))
+returns c = rw c.past.ensures (fetch8 c.requires c.in-Some.ensures.cases c.from_le_bytes.ensures (λ i. (c.type_inv.s i).fits))

@@ -1,9 +1,8 @@
-use Rattle.std.proofs.Common.{arith, rules}
-use Rattle.reader.proofs.Leaves.{leaves, fetch1}
+use Rattle.reader.proofs.Leaves.{fetch-short, fetch1}
 use Rattle.reader.proofs.read_u8.Goals as goal
 
-pub returns-then-s-place-lt1 : goal.returns-then-s-place-lt1
-returns-then-s-place-lt1 c = search (rules, leaves)
+pub returns-in_default : goal.returns-in_default
+returns-in_default c = fetch-short c.requires c.in_default.ensures.cases c.refuse.ensures
 
 pub returns : goal.returns
-returns c = fetch1 c.requires (search rules) c.wide-n.ensures (λ i. omega (arith, c.shared_slice_known-1.given i))
+returns c = rw c.past.ensures (fetch1 c.requires c.in-Some.ensures.cases c.from.ensures (λ i. (c.type_inv.s i).fits))

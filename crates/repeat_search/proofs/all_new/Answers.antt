@@ -1,16 +1,16 @@
-use Rattle.std.proofs.Common.{rules}
-use Rattle.repeat_search.proofs.Marks.{scanning, scanning-read}
 use Rattle.in_place.proofs.Walking.{walking_here}
+use Rattle.repeat_search.proofs.Marks.{scanning-start, scanning-text, scanning-read}
 use Rattle.repeat_search.proofs.all_new.Goals as goal
 
-pub loop-i-init : goal.loop-i-init
-loop-i-init c = search (rules, scanning)
+pub loop-init : goal.loop-init
+loop-init c = scanning-start c.requires
 
 pub mark_text-m-requires : goal.mark_text-m-requires
-mark_text-m-requires c = search (rules, scanning)
+mark_text-m-requires c = scanning-text c.loop.invariant c.loop-test.true
 
 pub past_item-p-requires : goal.past_item-p-requires
-past_item-p-requires c = walking_here c.loop-i-test.true c.loop-i.invariant.walk
+past_item-p-requires c = walking_here c.loop-test.true c.loop.invariant.walk
 
-pub loop-i-preserved : goal.loop-i-preserved
-loop-i-preserved c = scanning-read c.loop-i.invariant c.loop-i-test.true c.as_read.ensures c.if-not-as_read.false c.mark_text-m.ensures c.if-x-m.false c.past_item-p.ensures
+pub loop-preserved : goal.loop-preserved
+loop-preserved c =
+    scanning-read c.loop.invariant c.loop-test.true c.in_default.not-Alike c.mark_text-m.ensures c.if-marks-m.false c.past_item-p.ensures

@@ -1,6 +1,6 @@
 use Rattle.std.proofs.Common.{rules}
-use Rattle.repeat_search.proofs.Hashes.{streams}
+use Rattle.repeat_search.proofs.Hashes.{streaming-done}
 use Rattle.repeat_search.proofs.hash_folded.Goals as goal
 
 pub returns : goal.returns
-returns c = search (rules, streams)
+returns c = search (rules, streaming-done)

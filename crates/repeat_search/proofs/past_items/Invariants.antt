@@ -1,8 +1,5 @@
 use Rattle.repeat_search.proofs.Tables.{Leaving}
 use Rattle.repeat_search.proofs.past_items.Given as goal
 
-abbrev pub invariant-loop-k : goal.invariant-loop-k
-invariant-loop-k l = Leaving l.table l.s l.from l.p l.k
-
-abbrev pub decreases-loop-k : goal.decreases-loop-k
-decreases-loop-k l = l.k
+abbrev pub invariant-loop : goal.invariant-loop
+invariant-loop l = Leaving l.list.table l.s l.list.from l.list.n l.p l.counter

@@ -1,9 +1,5 @@
-use Rattle.std.proofs.Common.{◌-◌}
 use Rattle.repeat_search.proofs.Marks.{Scanning}
 use Rattle.repeat_search.proofs.scan.Given as goal
 
 abbrev pub invariant-loop-i : goal.invariant-loop-i
-invariant-loop-i l = Scanning l.table l.s l.from l.n l.p l.i l.marks
-
-abbrev pub decreases-loop-i : goal.decreases-loop-i
-decreases-loop-i l = l.n - l.i
+invariant-loop-i l = Scanning l.list.table l.s l.list.from l.list.n l.p l.i l.marks

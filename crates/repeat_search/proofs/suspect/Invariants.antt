@@ -1,9 +1,6 @@
-use Rattle.std.proofs.Common.{length, ◌-◌, ◌≡◌}
 use Rattle.repeat_search.proofs.Filters.{Suspecting}
 use Rattle.repeat_search.proofs.suspect.Given as goal
 
-abbrev pub invariant-loop-i : goal.invariant-loop-i
-invariant-loop-i l = Suspecting l.lo l.hi l.seed l.table l.s l.from l.n l.filter l.suspects l.p l.i × (length l.filter ≡ length l.initial.filter) × (length l.suspects ≡ length l.initial.suspects)
-
-abbrev pub decreases-loop-i : goal.decreases-loop-i
-decreases-loop-i l = l.n - l.i
+abbrev pub invariant-loop : goal.invariant-loop
+invariant-loop l =
+    Suspecting l.classes l.seed l.list.table l.s l.list.from l.list.n l.filter l.suspects l.p l.counter

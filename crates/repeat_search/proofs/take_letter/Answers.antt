@@ -1,9 +1,10 @@
-use Rattle.repeat_search.proofs.Hashes.{streams}
 use Rattle.std.proofs.Common.{rules}
+use Rattle.repeat_search.proofs.Hashes.{taken-stays, taken-letter}
 use Rattle.repeat_search.proofs.take_letter.Goals as goal
 
-pub returns-then-fold-eq0 : goal.returns-then-fold-eq0
-returns-then-fold-eq0 c = search (rules, streams)
+pub returns-in_default : goal.returns-in_default
+returns-in_default c = search (rules, taken-stays)
 
 pub returns : goal.returns
-returns c = search (rules, streams)
+returns c =
+    taken-letter c.requires c.in-Some.ensures (rw c.from-2.ensures at c.mix-x.ensures) c.mix-y.ensures (rw c.from-3.ensures at c.mix-2.ensures)

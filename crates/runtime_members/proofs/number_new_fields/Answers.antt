@@ -1,16 +1,16 @@
-use Rattle.std.proofs.Common.{rules, refl}
-use Rattle.reader.proofs.Reading.{reading}
-use Rattle.reader.proofs.Laws.{number_just}
+use Rattle.reader.proofs.Numbering.{numbered_not}
 use Rattle.unique_names.proofs.Accepting.{accepted-list}
-use Rattle.reader.proofs.Numbering.{numbering}
-use Rattle.runtime_members.proofs.Laws.{list_asked, list_behind}
+use Rattle.runtime_members.proofs.Laws.{list_behind, list_reads, list_asked, list_denied}
 use Rattle.runtime_members.proofs.number_new_fields.Goals as goal
 
-pub returns-in_default : goal.returns-in_default
-returns-in_default c = search (rules, reading, numbering)
+pub returns-in_err-n : goal.returns-in_err-n
+returns-in_err-n c = numbered_not c.in_err-n.was c.from_residual.ensures.1 c.number_list.ensures
 
 pub field_set-requires : goal.field_set-requires
-field_set-requires c = (list_behind c.in-Got.is c.requires.0 c.number_fields-q.ensures, accepted-list (λ x a. number_just refl (list_asked c.in-Got.is c.number_fields-q.ensures a refl)) c.requires.1)
+field_set-requires c = (list_behind c.in_ok-n.was c.requires.0 c.number_list.ensures, accepted-list (λ x a. list_reads c.in_ok-n.was c.number_list.ensures a) c.requires.1)
+
+pub returns-in_err-e : goal.returns-in_err-e
+returns-in_err-e c = list_denied c.in_ok-n.was c.number_list.ensures c.field_set.ensures c.in_err-e.was c.from_residual-in_err-e.ensures.1
 
 pub returns : goal.returns
-returns c = list_asked c.in-Got.is c.number_fields-q.ensures c.field_set.ensures c.number_of.ensures
+returns c = list_asked c.in_ok-n.was c.number_list.ensures c.field_set.ensures c.in_ok-e.was

@@ -1,21 +1,22 @@
-use Rattle.std.proofs.Common.{arith, rules}
-use Rattle.reader.proofs.Reading.{reading}
-use Rattle.reader.proofs.Recording.{recording, fixed-fits, last_two}
+use Rattle.std.proofs.Common.{arith}
+use Rattle.reader.specs.Recorded.{recorded}
+use Rattle.reader.proofs.Recording.{fixed-fits, last_two}
 use Rattle.runtime_type.specs.Records.{bare_of, optional_of}
 use Rattle.runtime_type.specs.declared.RuntimeType.TheVariants as kind
+use Rattle.runtime_type.proofs.Laws.{lost_first, lost_second}
 use Rattle.runtime_type.proofs.named.Goals as goal
 
-pub returns-in_default : goal.returns-in_default
-returns-in_default c = search (rules, reading, recording)
+pub returns-in_err-id : goal.returns-in_err-id
+returns-in_err-id c = lost_first c.in_err-id.was c.from_residual.ensures.1 c.number_u32.ensures
 
-pub returns-in_default-q2 : goal.returns-in_default-q2
-returns-in_default-q2 c = search (rules, reading, recording)
+pub returns-in_err-raw : goal.returns-in_err-raw
+returns-in_err-raw c = lost_second c.in_ok-id.was c.number_u32.ensures c.in_err-raw.was c.from_residual-in_err-raw.ensures.1 c.number_optional_id.ensures
 
 pub overflow_cast-kind : goal.overflow_cast-kind
-overflow_cast-kind c = record { fits = fixed-fits c.in-Got.is c.number_u32-q1.ensures (λ i. omega (arith, c.type_inv.s i)) }
+overflow_cast-kind c = record { fits = fixed-fits c.in_ok-id.was c.number_u32.ensures (λ i. omega (arith, c.type_inv.s i)) }
 
 pub optional_id-requires : goal.optional_id-requires
-optional_id-requires c = fixed-fits c.in-Got-q2.is c.number_optional_id-q2.ensures (λ i. omega (arith, c.type_inv.s i))
+optional_id-requires c = fixed-fits c.in_ok-raw.was c.number_optional_id.ensures (λ i. omega (arith, c.type_inv.s i))
 
 pub returns : goal.returns
-returns c = last_two c.in-Got.is c.number_u32-q1.ensures c.in-Got-q2.is c.number_optional_id-q2.ensures (λ m n _. bare_of (kind.Named m (optional_of n))) (rw (← c.optional_id.ensures) c.bare.ensures)
+returns c = recorded (last_two c.in_ok-id.was c.number_u32.ensures c.in_ok-raw.was c.number_optional_id.ensures (λ m n _. bare_of (kind.Named m (optional_of n))) (rw (← c.optional_id.ensures) c.bare.ensures))

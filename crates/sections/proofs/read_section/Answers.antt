@@ -1,17 +1,18 @@
 use Rattle.std.proofs.Common.{rules}
+use Rattle.std.proofs.lemmas.Result.{err_from_is_err_and}
 use Rattle.vob24.specs.Settings.{settings, settings_of}
 use Rattle.vob24_data.specs.Sections.{section_of, functions_of}
 use Rattle.calls.proofs.Laws.{section-since, section-refused, section-taken}
 use Rattle.sections.proofs.read_section.Goals as goal
 
-pub closed-answer-requires : goal.closed-answer-requires
+pub closed-requires : goal.closed-requires
 unfolding settings_of
-closed-answer-requires c = section-since settings (functions_of c.args.section) (section_of c.args.section) c.opening-start.ensures c.section-first.ensures
+closed-requires c = section-since settings (functions_of c.args.section) (section_of c.args.section) c.opening-start.ensures c.section-first.ensures
 
-pub returns-in_default : goal.returns-in_default
+pub returns-in_err-taken : goal.returns-in_err-taken
 unfolding settings_of
-returns-in_default c = section-refused settings (functions_of c.args.section) (section_of c.args.section) c.opening-start.ensures c.section-first.ensures (search rules) c.closed-answer.ensures c.in_default.is
+returns-in_err-taken c = let p = err_from_is_err_and c.from_residual.result c.from_residual.ensures.1 in rw (p.1, p.2) (section-refused settings (functions_of c.args.section) (section_of c.args.section) c.opening-start.ensures c.section-first.ensures (search rules) c.closed.ensures c.in_err-taken.was)
 
 pub returns : goal.returns
 unfolding settings_of
-returns c = section-taken settings (functions_of c.args.section) (section_of c.args.section) c.opening-start.ensures c.section-first.ensures (search rules) c.closed-answer.ensures c.in-Taken.is c.section.ensures
+returns c = section-taken settings (functions_of c.args.section) (section_of c.args.section) c.opening-start.ensures c.section-first.ensures (search rules) c.closed.ensures c.in_ok-taken.was c.section.ensures

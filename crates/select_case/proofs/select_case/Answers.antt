@@ -1,16 +1,15 @@
+use Rattle.std.proofs.Common.{refl}
+use Rattle.reader.proofs.Recording.{record_lost, lost_here}
 use Rattle.vob24.specs.Grammar.{select_case}
 use Rattle.select_case.proofs.Laws.{select_at, select-one}
-use Rattle.reader.proofs.Reading.{reading}
-use Rattle.reader.proofs.Recording.{recording}
-use Rattle.std.proofs.Common.{rules}
 use Rattle.select_case.proofs.select_case.Goals as goal
 
-pub returns-in_default : goal.returns-in_default
+pub returns-in_err-tag : goal.returns-in_err-tag
 unfolding select_case
-returns-in_default c = search (rules, reading, recording)
+returns-in_err-tag c = record_lost refl c.from_residual.ensures.1 (lost_here c.in_err-tag.was refl c.number_select_tag.ensures)
 
 pub returns-then-tag-eq0 : goal.returns-then-tag-eq0
-returns-then-tag-eq0 c = select_at 0 c.in-Got.is c.if-tag-eq0.true c.number_select_tag-q.ensures c.send.ensures
+returns-then-tag-eq0 c = select_at 0 c.in_ok-tag.was c.if-tag-eq0.true c.number_select_tag.ensures c.send.ensures
 
 pub returns : goal.returns
-returns c = select_at 1 c.in-Got.is (select-one c.in-Got.is c.if-tag-eq0.false c.number_select_tag-q.ensures) c.number_select_tag-q.ensures c.recv.ensures
+returns c = select_at 1 c.in_ok-tag.was (select-one c.in_ok-tag.was c.if-tag-eq0.false c.number_select_tag.ensures) c.number_select_tag.ensures c.recv.ensures

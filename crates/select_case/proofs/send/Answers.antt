@@ -1,26 +1,26 @@
-use Rattle.std.proofs.Common.{arith, refl, rules}
-use Rattle.reader.proofs.Reading.{reading}
+use Rattle.std.proofs.Common.{arith, refl}
+use Rattle.reader.specs.Recorded.{recorded}
+use Rattle.reader.proofs.Recording.{record_lost, lost_here, lost_then, lost_last, last_three, fixed-fits}
 use Rattle.select_case.specs.declared.SelectCase.TheVariants.{Send}
-use Rattle.reader.proofs.Recording.{last_three, recording, fixed-fits}
 use Rattle.select_case.proofs.send.Goals as goal
 
-pub returns-in_default : goal.returns-in_default
-returns-in_default c = search (rules, reading, recording)
+pub returns-in_err-queue : goal.returns-in_err-queue
+returns-in_err-queue c = record_lost refl c.from_residual.ensures.1 (lost_here c.in_err-queue.was refl c.number_u16.ensures)
 
-pub returns-in_default-q2 : goal.returns-in_default-q2
-returns-in_default-q2 c = search (rules, reading, recording)
+pub returns-in_err-value : goal.returns-in_err-value
+returns-in_err-value c = record_lost refl c.from_residual-in_err-value.ensures.1 (lost_then c.in_ok-queue.was c.number_u16.ensures λ _. lost_here c.in_err-value.was refl c.number_u16-2.ensures)
 
-pub returns-in_default-q3 : goal.returns-in_default-q3
-returns-in_default-q3 c = search (rules, reading, recording)
+pub returns-in_err-slots : goal.returns-in_err-slots
+returns-in_err-slots c = record_lost refl c.from_residual-in_err-slots.ensures.1 (lost_then c.in_ok-queue.was c.number_u16.ensures λ _. lost_then c.in_ok-value.was c.number_u16-2.ensures λ _. lost_last c.in_err-slots.was refl c.number_u16-3.ensures)
 
 pub overflow_cast-result : goal.overflow_cast-result
-overflow_cast-result c = record { fits = fixed-fits c.in-Got.is c.number_u16-q1.ensures (λ i. omega (arith, c.shared_slice_known-1.given i)) }
+overflow_cast-result c = record { fits = fixed-fits c.in_ok-queue.was c.number_u16.ensures (λ i. omega (arith, c.shared_slice_known-1.given i)) }
 
 pub overflow_cast-result-2 : goal.overflow_cast-result-2
-overflow_cast-result-2 c = record { fits = fixed-fits c.in-Got-q2.is c.number_u16-q2.ensures (λ i. omega (arith, c.shared_slice_known-1.given i)) }
+overflow_cast-result-2 c = record { fits = fixed-fits c.in_ok-value.was c.number_u16-2.ensures (λ i. omega (arith, c.shared_slice_known-1.given i)) }
 
 pub overflow_cast-result-3 : goal.overflow_cast-result-3
-overflow_cast-result-3 c = record { fits = fixed-fits c.in-Got-q3.is c.number_u16-q3.ensures (λ i. omega (arith, c.shared_slice_known-1.given i)) }
+overflow_cast-result-3 c = record { fits = fixed-fits c.in_ok-slots.was c.number_u16-3.ensures (λ i. omega (arith, c.shared_slice_known-1.given i)) }
 
 pub returns : goal.returns
-returns c = last_three c.in-Got.is c.number_u16-q1.ensures c.in-Got-q2.is c.number_u16-q2.ensures c.in-Got-q3.is c.number_u16-q3.ensures (λ a b k _. Send a b k) refl
+returns c = recorded (last_three c.in_ok-queue.was c.number_u16.ensures c.in_ok-value.was c.number_u16-2.ensures c.in_ok-slots.was c.number_u16-3.ensures (λ a b k _. Send a b k) refl)

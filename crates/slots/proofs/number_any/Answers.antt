@@ -1,15 +1,12 @@
-use Rattle.reader.proofs.Reading.{reading}
-use Rattle.reader.proofs.Numbering.{numbered_items, numbering}
-use Rattle.std.proofs.Common.{ap, sym, rules}
-use Rattle.reader.specs.Contract.{number_of}
+use Rattle.reader.proofs.Numbering.{numbered_not, numbered_items, numbered_refused}
 use Rattle.vob24.specs.Leaves.{slot_type}
 use Rattle.slots.proofs.number_any.Goals as goal
 
-pub returns-in_default : goal.returns-in_default
-returns-in_default c = search (rules, reading, numbering)
+pub returns-in_err-n : goal.returns-in_err-n
+returns-in_err-n c = numbered_not c.in_err-n.was c.from_residual.ensures.1 c.number_count.ensures
 
-pub returns-in_default-r : goal.returns-in_default-r
-returns-in_default-r c = numbered_items c.in-Got.is c.number_count-q.ensures slot_type c.slot_types-r.ensures c.number_of.ensures
+pub returns-in_err-e : goal.returns-in_err-e
+returns-in_err-e c = numbered_refused c.in_ok-n.was c.number_count.ensures slot_type c.in_err-e.was c.from_residual-in_err-e.ensures.1 c.slot_types.ensures
 
 pub returns : goal.returns
-returns c = numbered_items c.in-Got.is c.number_count-q.ensures slot_type c.slot_types-r.ensures (sym (ap (number_of _) c.in-Taken.is))
+returns c = numbered_items c.in_ok-n.was c.number_count.ensures slot_type c.in_ok-e.was c.slot_types.ensures

@@ -1,19 +1,12 @@
-use Rattle.std.proofs.Common.{rules}
-use Rattle.reader.proofs.Reading.{reading}
-use Rattle.reader.proofs.Parts.{list_done, list-refused}
+use Rattle.reader.proofs.Laws.{up-refused}
+use Rattle.reader.proofs.Parts.{part_not, list_then}
 use Rattle.small_sections.proofs.artifacts.Goals as goal
 
-pub returns-in_default : goal.returns-in_default
-returns-in_default c = search (rules, reading)
+pub returns-in_err-r : goal.returns-in_err-r
+returns-in_err-r c = up-refused c.in_err-r.was c.from_residual.ensures.1
 
-pub returns-in_default-q : goal.returns-in_default-q
-returns-in_default-q c = search (rules, reading)
-
-pub returns-in_default-here : goal.returns-in_default-here
-returns-in_default-here c = list-refused c.in-Taken.is c.in-Got.is c.number_artifact_count-q.ensures c.loop-k-test.true c.loop-k.invariant c.artifact-here.ensures c.in_default-here.is
-
-pub loop-k-preserved : goal.loop-k-preserved
-loop-k-preserved c = search (rules, reading)
+pub returns-in_err-n : goal.returns-in_err-n
+returns-in_err-n c = part_not c.in_ok-r.was c.in_err-n.was c.from_residual-in_err-n.ensures.1 c.number_artifact_count.ensures
 
 pub returns : goal.returns
-returns c = list_done c.in-Taken.is c.in-Got.is c.number_artifact_count-q.ensures c.loop-k-test.false c.loop-k.invariant
+returns c = list_then _ c.in_ok-r.was c.in_ok-n.was c.number_artifact_count.ensures c.entries.ensures

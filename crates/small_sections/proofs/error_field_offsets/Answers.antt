@@ -1,15 +1,15 @@
-use Rattle.reader.proofs.Reading.{reading}
-use Rattle.std.proofs.Common.{rules}
+use Rattle.reader.proofs.Laws.{up-refused, field_then}
+use Rattle.reader.proofs.Parts.{part_not, optional-none, optional-some}
 use Rattle.small_sections.proofs.error_field_offsets.Goals as goal
 
-pub returns-in_default : goal.returns-in_default
-returns-in_default c = search (rules, reading)
+pub returns-in_err-r : goal.returns-in_err-r
+returns-in_err-r c = up-refused c.in_err-r.was c.from_residual.ensures.1
 
-pub returns-in_default-q : goal.returns-in_default-q
-returns-in_default-q c = search (rules, reading)
+pub returns-in_err-n : goal.returns-in_err-n
+returns-in_err-n c = part_not c.in_ok-r.was c.in_err-n.was c.from_residual-in_err-n.ensures.1 c.number_bool.ensures
 
 pub returns-then-n-eq0 : goal.returns-then-n-eq0
-returns-then-n-eq0 c = search (rules, reading)
+returns-then-n-eq0 c = optional-none c.in_ok-r.was c.in_ok-n.was c.if-n-eq0.true c.number_bool.ensures
 
 pub returns : goal.returns
-returns c = search (rules, reading)
+returns c = optional-some c.in_ok-r.was c.in_ok-n.was c.if-n-eq0.false c.number_bool.ensures (field_then c.field_u16-first.ensures λ _. c.field_u16.ensures)

@@ -1,6 +1,6 @@
-use Rattle.std.proofs.Common.{arith}
+use Rattle.std.proofs.Common.{rules, arith}
 use Rattle.vob24.specs.Settings.{settings_of}
-use Rattle.source_lines.proofs.Locations.{list-room, list-items, line-past, line-none, line-entry}
+use Rattle.source_lines.proofs.Locations.{list-room, list-items, line-past, line-shown}
 use Rattle.source_lines.proofs.line_from.Goals as goal
 
 pub returns-then-n-function : goal.returns-then-n-function
@@ -13,10 +13,7 @@ pub overflow_add-list : goal.overflow_add-list
 overflow_add-list c = omega (arith, list-room (settings_of c.args.set.now) c.list_at-list.ensures.placed, c.list_at-list.ensures.placed.small)
 
 pub best_of-best-requires : goal.best_of-best-requires
-best_of-best-requires c = (list-items (settings_of c.args.set.now) c.list_at-list.ensures.placed c.word_at-count.ensures, c.word_at-count.ensures.below)
-
-pub returns-then-entry-eq0 : goal.returns-then-entry-eq0
-returns-then-entry-eq0 c = line-none (settings_of c.args.set.now) c.requires c.word_at-n.ensures c.args.function c.args.address c.args.end c.if-n-function.false c.list_at-list.ensures c.word_at-count.ensures c.best_of-best.ensures c.if-entry-eq0.true
+best_of-best-requires c = list-items (settings_of c.args.set.now) c.list_at-list.ensures.placed c.word_at-count.ensures
 
 pub returns : goal.returns
-returns c = line-entry (settings_of c.args.set.now) c.requires c.word_at-n.ensures c.args.function c.args.address c.args.end c.if-n-function.false c.list_at-list.ensures c.word_at-count.ensures c.best_of-best.ensures c.if-entry-eq0.false
+returns c = line-shown (settings_of c.args.set.now) c.requires c.word_at-n.ensures c.args.function c.args.address c.args.end c.if-n-function.false c.list_at-list.ensures c.word_at-count.ensures c.best_of-best.ensures (search rules)

@@ -1,8 +1,8 @@
-use Rattle.std.proofs.Common.{arith, rules}
+use Rattle.std.proofs.Common.{arith, rules, inl, inr}
 use Rattle.in_place.specs.Tables.{item_of}
 use Rattle.in_place.proofs.Places.{item-name, runtime-package}
 use Rattle.in_place.proofs.Keys.{placed-in}
-use Rattle.unique_names.proofs.Asking.{answering}
+use Rattle.unique_names.proofs.Asking.{told-method, told-alike, answering}
 use Rattle.unique_names.proofs.refuse_repeat.Goals as goal
 
 pub repeated-requires : goal.repeated-requires
@@ -17,17 +17,11 @@ overflow_add-package c = omega (arith, (runtime-package (placed-in c.in-Identiti
 pub repeated-requires-in-Identities : goal.repeated-requires-in-Identities
 repeated-requires-in-Identities c = item-name (item_of c.args.table) c.requires
 
-pub repeated-requires-in-Alike : goal.repeated-requires-in-Alike
-repeated-requires-in-Alike c = item-name (item_of c.args.table) c.requires
-
 pub returns-in-Fields : goal.returns-in-Fields
 returns-in-Fields c = search (rules, answering)
 
 pub returns-in-Methods : goal.returns-in-Methods
-returns-in-Methods c = search (rules, answering)
+returns-in-Methods c = elim c.in-Methods.is [ inl h ↦ told-method c.requires h.1 c.repeated-in-Methods.ensures | inr h ↦ told-alike c.requires h.1 c.repeated-in-Methods.ensures ]
 
 pub returns-in-Identities : goal.returns-in-Identities
 returns-in-Identities c = search (rules, answering)
-
-pub returns-in-Alike : goal.returns-in-Alike
-returns-in-Alike c = search (rules, answering)

@@ -1,5 +1,8 @@
-use Rattle.utf8.proofs.Laws.{oring-more}
+use Rattle.std.proofs.Common.{◌≡◌, fold, bit_or, rules}
+use Rattle.utf8.proofs.Laws.{low-joined}
 use Rattle.utf8.proofs.ascii.Goals as goal
 
-pub loop-k-preserved : goal.loop-k-preserved
-loop-k-preserved c = oring-more c.loop-k-test.true c.loop-k.invariant
+pub returns : goal.returns
+returns c =
+    let e : c.fold.result ≡ fold bit_or 0 c.args.s.now = search rules in
+    rw e (low-joined c.args.s.now)

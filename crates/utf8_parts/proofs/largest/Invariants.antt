@@ -1,9 +1,5 @@
-use Rattle.std.proofs.Common.{◌-◌}
-use Rattle.utf8_parts.proofs.Bytes.{Rising}
+use Rattle.utf8_parts.specs.Parts.{Most}
 use Rattle.utf8_parts.proofs.largest.Given as goal
 
-abbrev pub invariant-loop-k : goal.invariant-loop-k
-invariant-loop-k l = Rising l.s l.from l.m l.k
-
-abbrev pub decreases-loop-k : goal.decreases-loop-k
-decreases-loop-k l = 240 - l.k
+abbrev pub invariant-loop-b : goal.invariant-loop-b
+invariant-loop-b l = Most l.s 0 l.b-index l.m

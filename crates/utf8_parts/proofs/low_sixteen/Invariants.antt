@@ -1,9 +1,6 @@
-use Rattle.std.proofs.Common.{◌-◌}
-use Rattle.utf8_parts.proofs.Bytes.{Lows}
+use Rattle.std.proofs.Common.{◌-◌, ◌+◌, ◌<◌}
+use Rattle.utf8_parts.specs.Parts.{Ascii}
 use Rattle.utf8_parts.proofs.low_sixteen.Given as goal
 
 abbrev pub invariant-loop-k : goal.invariant-loop-k
-invariant-loop-k l = Lows l.s l.to l.r l.bits l.x l.k
-
-abbrev pub decreases-loop-k : goal.decreases-loop-k
-decreases-loop-k l = 16 - l.k
+invariant-loop-k l = l.bits < 128 → Ascii l.s (l.to - l.r) (l.from + l.k)

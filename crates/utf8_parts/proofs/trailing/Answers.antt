@@ -1,9 +1,8 @@
-use Rattle.std.proofs.Common.{arith, sym}
-use Rattle.utf8_parts.proofs.Bytes.{trailing-yes, trailing-no}
+use Rattle.std.proofs.Common.{◌∙◌, arith}
+use Rattle.utf8_parts.proofs.Bytes.{trailing-byte, trailing-few}
 use Rattle.utf8_parts.proofs.trailing.Goals as goal
 
-pub returns-then-b-eq2 : goal.returns-then-b-eq2
-returns-then-b-eq2 c = (sym (trailing-yes c.args.b c.if-b-eq2.true), omega arith)
-
 pub returns : goal.returns
-returns c = (sym (trailing-no c.args.b c.if-b-eq2.false), omega arith)
+returns c =
+    let e = c.from.ensures ∙ trailing-byte c.args.b in
+    (e, omega (arith, trailing-few c.args.b))

@@ -5,11 +5,11 @@ use Rattle.repeat_search.proofs.Tables.{items-less}
 use Rattle.alike_names.proofs.Searching.{table_none, table-found, plain-apart, table-apart, repeats-found}
 use Rattle.alike_names.proofs.search.table.Goals as goal
 
-pub returns-in-Past : goal.returns-in-Past
-returns-in-Past c = table-apart plain-apart c.requires c.items_without.ensures c.in-Past.is
+pub returns-in-Some : goal.returns-in-Some
+returns-in-Some c = table-apart plain-apart c.requires c.items_without.ensures c.in-Some.is
 
-pub returns-in-Past-items_without : goal.returns-in-Past-items_without
-returns-in-Past-items_without c = table-apart fold-injective c.requires c.items_without-2.ensures c.in-Past-items_without.is
+pub returns-in-Some-items_without : goal.returns-in-Some-items_without
+returns-in-Some-items_without c = table-apart fold-injective c.requires c.items_without-2.ensures c.in-Some-items_without.is
 
 pub returns-then-n-i : goal.returns-then-n-i
 returns-then-n-i c = table_none c.requires.items c.first_repeat-i.ensures c.if-n-i.true c.past_items.ensures
@@ -20,11 +20,11 @@ past_items-p-requires c = items-less (omega arith) c.requires.items
 pub partner-a-requires : goal.partner-a-requires
 partner-a-requires c = (repeats-found c.requires.items c.first_repeat-i.ensures c.if-n-i.false c.past_items-p.ensures)
 
-pub overflow_add-earlier : goal.overflow_add-earlier
-overflow_add-earlier c = omega (arith, (item-name c.args.item c.partner-a.ensures.placed).room, c.requires.items.small)
+pub overflow_add-result : goal.overflow_add-result
+overflow_add-result c = omega (arith, (item-name c.args.item c.partner-a.ensures.placed).room, c.requires.items.small)
 
-pub overflow_add-later : goal.overflow_add-later
-overflow_add-later c = omega (arith, (item-name c.args.item (repeats-found c.requires.items c.first_repeat-i.ensures c.if-n-i.false c.past_items-p.ensures).standing.after.here).room, c.requires.items.small)
+pub overflow_add-result-2 : goal.overflow_add-result-2
+overflow_add-result-2 c = omega (arith, (item-name c.args.item (repeats-found c.requires.items c.first_repeat-i.ensures c.if-n-i.false c.past_items-p.ensures).standing.after.here).room, c.requires.items.small)
 
 pub word_at-requires : goal.word_at-requires
 word_at-requires c = omega (arith, (item-name c.args.item c.partner-a.ensures.placed).room)

@@ -9,17 +9,17 @@ word_at-n-requires c = (itabs-list _ c.requires).room
 pub overflow_add-at : goal.overflow_add-at
 overflow_add-at c = omega (arith, (itabs-list _ c.requires).room, c.requires.small)
 
-pub loop-k-init : goal.loop-k-init
-loop-k-init c = leaving-list c.requires (itabs-list _ c.requires) c.word_at-n.ensures
+pub loop-init : goal.loop-init
+loop-init c = leaving-list c.requires (itabs-list _ c.requires) c.word_at-n.ensures
 
-pub overflow_add-at-in-loop-k : goal.overflow_add-at-in-loop-k
-overflow_add-at-in-loop-k c = omega (arith, (itab-words _ (leaving-here c.loop-k-test.true c.loop-k.invariant)).room, c.requires.small)
+pub overflow_add-at-in-loop : goal.overflow_add-at-in-loop
+overflow_add-at-in-loop c = omega (arith, (itab-words _ (leaving-here c.loop.invariant c.loop-test.true)).room, c.requires.small)
 
 pub past_words-at-requires : goal.past_words-at-requires
-past_words-at-requires c = itab-words _ (leaving-here c.loop-k-test.true c.loop-k.invariant)
+past_words-at-requires c = itab-words _ (leaving-here c.loop.invariant c.loop-test.true)
 
-pub loop-k-preserved : goal.loop-k-preserved
-loop-k-preserved c = leaving-more c.loop-k-test.true c.loop-k.invariant (itab-past _ (leaving-here c.loop-k-test.true c.loop-k.invariant) c.past_words-at.ensures)
+pub loop-preserved : goal.loop-preserved
+loop-preserved c = leaving-more c.loop.invariant c.loop-test.true (itab-past _ (leaving-here c.loop.invariant c.loop-test.true) c.past_words-at.ensures)
 
 pub returns : goal.returns
-returns c = record { is = leaving-done c.loop-k-test.false c.loop-k.invariant }
+returns c = record { is = leaving-done c.loop.invariant c.loop-test.false }

@@ -11,8 +11,8 @@ overflow_add-result c = omega (arith, packed-room c.requires, c.requires.small)
 pub returns-then-first-lt128 : goal.returns-then-first-lt128
 returns-then-first-lt128 c = packed-short c.requires c.if-first-lt128.true c.wide.ensures
 
-pub returns-in-Got : goal.returns-in-Got
-returns-in-Got c = packed-got c.requires c.read_source_u32-q.ensures c.in-Got.is
+pub returns-in-Ok : goal.returns-in-Ok
+returns-in-Ok c = packed-got c.requires c.read_source_u32-q.ensures c.in-Ok.is
 
-pub returns-in-Not : goal.returns-in-Not
-returns-in-Not c = packed-not c.requires c.read_source_u32-q.ensures c.in-Not.is
+pub returns-in-Err : goal.returns-in-Err
+returns-in-Err c = packed-not c.requires c.read_source_u32-q.ensures c.in-Err.is

@@ -1,4 +1,5 @@
-use Rattle.source_lines.proofs.Skips.{passing-room, passing-block, passing-number, passing-next}
+use Rattle.std.proofs.Common.{arith}
+use Rattle.source_lines.proofs.Skips.{passing-room, passing-block, passing-number, passing-next, passing-on, passing-done}
 use Rattle.source_lines.proofs.packed.past_numbers.Goals as goal
 
 pub ends_in-requires : goal.ends_in-requires
@@ -7,8 +8,14 @@ ends_in-requires c = (passing-room c.loop-k.invariant c.loop-k-test.true).0
 pub loop-k-preserved : goal.loop-k-preserved
 loop-k-preserved c = passing-block c.loop-k.invariant c.loop-k-test.true c.ends_in.ensures
 
-pub past_number-at-requires : goal.past_number-at-requires
-past_number-at-requires c = passing-number c.loop-k-2.invariant c.loop-k-2-test.true
+pub loop-init : goal.loop-init
+loop-init c = passing-on c.loop-k.invariant (omega arith)
 
-pub loop-k-2-preserved : goal.loop-k-2-preserved
-loop-k-2-preserved c = passing-next c.loop-k-2.invariant c.loop-k-2-test.true c.past_number-at.ensures
+pub past_number-at-requires : goal.past_number-at-requires
+past_number-at-requires c = passing-number c.loop.invariant (omega arith)
+
+pub loop-preserved : goal.loop-preserved
+loop-preserved c = passing-on (passing-next c.loop.invariant (omega arith) c.past_number-at.ensures) (omega arith)
+
+pub returns : goal.returns
+returns c = passing-done c.loop.invariant (omega arith)

@@ -1,0 +1,10 @@
+use Rattle.reader.proofs.Leaves.{narrow-byte}
+use Rattle.reader.proofs.Keeping.{one-fixed}
+use Rattle.fields.proofs.Keeps.{number-wordy, number-kept}
+use Rattle.fields.proofs.number_slot_type.Goals as goal
+
+pub kept-requires : goal.kept-requires
+kept-requires c = number-wordy c.requires c.read_small.ensures
+
+pub returns : goal.returns
+returns c = number-kept c.requires (one-fixed narrow-byte) c.read_small.ensures c.kept.ensures

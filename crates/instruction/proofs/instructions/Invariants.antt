@@ -1,9 +1,0 @@
-use Rattle.reader.proofs.Laws.{Turns}
-use Rattle.instruction.specs.Formats.{instruction_format}
-use Rattle.instruction.proofs.instructions.Given as goal
-
-abbrev pub invariant-loop-k : goal.invariant-loop-k
-invariant-loop-k l = Turns instruction_format l.s l.initial.tape l.initial.here l.initial.k l.tape l.here l.k
-
-abbrev pub decreases-loop-k : goal.decreases-loop-k
-decreases-loop-k l = l.k

@@ -1,9 +1,0 @@
-use Rattle.reader.proofs.Laws.{Turns}
-use Rattle.vob24.specs.Leaves.{u32}
-use Rattle.lists.proofs.u32s.Given as goal
-
-abbrev pub invariant-loop-k : goal.invariant-loop-k
-invariant-loop-k l = Turns u32 l.s l.initial.tape l.initial.here l.initial.k l.tape l.here l.k
-
-abbrev pub decreases-loop-k : goal.decreases-loop-k
-decreases-loop-k l = l.k

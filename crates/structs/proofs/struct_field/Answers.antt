@@ -1,8 +1,0 @@
-use Rattle.std.proofs.Common.{rules}
-use Rattle.vob24.specs.Grammar.{struct_field}
-use Rattle.reader.proofs.Reading.{reading}
-use Rattle.structs.proofs.struct_field.Goals as goal
-
-pub returns : goal.returns
-unfolding struct_field
-returns c = search (rules, reading)
