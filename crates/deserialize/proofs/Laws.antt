@@ -101,7 +101,7 @@ module _ (set : Settings) {x : Section} (y : Section) (e : x ≡ y) {s : List �
 -- ---- the road
 
 -- a section that is not the last, and the rest
-section-first : (set : Settings) (n : ℕ) (xs : List vob.Section) (i : ℕ) → suc i < length xs
+pub section-first : (set : Settings) (n : ℕ) (xs : List vob.Section) (i : ℕ) → suc i < length xs
     → in_order set n (drop i xs) ≡ seq (section set 0 (get_or xs i inline_sources)) (λ v. in_order set (functions_by n (get_or xs i inline_sources) v) (drop (suc i) xs))
 section-first set n [] i h = absurd (omega arith)
 section-first set n (x ∷ []) i h = absurd (omega arith)

@@ -3,10 +3,10 @@ use Rattle.std.specs.Prelude.{Ok, Err}
 use Rattle.std.specs.Result.{IsErrAnd}
 use Prim.Native.Nat.{ℕ, suc, zero, ◌+◌, ◌-◌, ◌≤◌, ◌<◌}
 use mathlib.Core.Path.{◌≡◌, refl, ap, sym, ◌∙◌}
-use mathlib.Core.List.{List, [], ◌∷◌}
+use mathlib.Core.List.{List}
 use native.Mathlib.Omega.{arith}
 use native.Mathlib.Numerals.{add-one}
-use lib.ListN.{length, get_or, drop}
+use lib.ListN.{get_or}
 use Rattle.format.specs.Format.{Value, first, second, Format, seq, counted}
 use Rattle.format.specs.Reading.{trace}
 use Rattle.format.specs.SettleTheorems.{settle-taken}
@@ -24,19 +24,11 @@ use Rattle.reader.proofs.Laws.{field_reads, at-refused, comes-not, comes_then, c
 use Rattle.reader.specs.declared.Cursor.{Cursor}
 use Rattle.reader.specs.declared.Refusal.{Refusal}
 use Rattle.in_place.specs.Walk.{Stands, value_at, stand, parts}
-use Rattle.deserialize.specs.Parts.{format_of, functions_by, in_order, from_number, count_of}
-use Rattle.deserialize.proofs.Laws.{number-comes}
+use Rattle.deserialize.specs.Parts.{format_of, functions_by, from_number, count_of}
+use Rattle.deserialize.proofs.Laws.{section-first, number-comes}
 use Rattle.reach.specs.Reach.{Between, with_number, place_of, SectionAt, Reaches}
 
 -- ---- one section
-
--- a section that is not the last, and the rest
-section-first : (set : Settings) (n : ℕ) (xs : List vob.Section) (i : ℕ) → suc i < length xs
-    → in_order set n (drop i xs) ≡ seq (section set 0 (get_or xs i inline_sources)) (λ v. in_order set (functions_by n (get_or xs i inline_sources) v) (drop (suc i) xs))
-section-first set n [] i h = absurd (omega arith)
-section-first set n (x ∷ []) i h = absurd (omega arith)
-section-first set n (x ∷ y ∷ xs) zero h = refl
-section-first set n (x ∷ y ∷ xs) (suc i) h = section-first set n (y ∷ xs) i (omega arith)
 
 -- the functions alone, the tenth, change the number of functions
 others_keep : (i : ℕ) → (i ≡ 9 → ⊥) → (n : ℕ) (v : Value) → functions_by n (get_or all_sections i inline_sources) v ≡ n

@@ -1,6 +1,6 @@
 use Rattle.calls.proofs.Laws.{opens_at, read-since, read-refused, read_taken}
 use Rattle.std.proofs.Common.{rules}
-use Rattle.std.proofs.lemmas.Result.{err_from_is_err_and}
+use Rattle.reader.proofs.Errors.{handed}
 use Rattle.vob24.specs.Settings.{settings_of}
 use Rattle.pack.proofs.read.Goals as goal
 
@@ -16,7 +16,7 @@ closed_whole-requires-clause-since c = read-since _ (c.opening_whole-start).ensu
 
 pub returns-in_err-taken : goal.returns-in_err-taken
 unfolding settings_of
-returns-in_err-taken c = let p = err_from_is_err_and c.from_residual.result c.from_residual.ensures.1 in rw (p.1, p.2) (read-refused _ (c.opening_whole-start).ensures c.deserialize-first.ensures (search rules) c.closed_whole.ensures c.in_err-taken.was)
+returns-in_err-taken c = rw (handed c.from_residual.result c.from_residual.ensures.1) (read-refused _ (c.opening_whole-start).ensures c.deserialize-first.ensures (search rules) c.closed_whole.ensures c.in_err-taken.was)
 
 pub returns : goal.returns
 unfolding settings_of

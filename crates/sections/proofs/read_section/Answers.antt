@@ -1,5 +1,5 @@
 use Rattle.std.proofs.Common.{rules}
-use Rattle.std.proofs.lemmas.Result.{err_from_is_err_and}
+use Rattle.reader.proofs.Errors.{handed}
 use Rattle.vob24.specs.Settings.{settings, settings_of}
 use Rattle.vob24_data.specs.Sections.{section_of, functions_of}
 use Rattle.calls.proofs.Laws.{section-since, section-refused, section-taken}
@@ -11,7 +11,7 @@ closed-requires c = section-since settings (functions_of c.args.section) (sectio
 
 pub returns-in_err-taken : goal.returns-in_err-taken
 unfolding settings_of
-returns-in_err-taken c = let p = err_from_is_err_and c.from_residual.result c.from_residual.ensures.1 in rw (p.1, p.2) (section-refused settings (functions_of c.args.section) (section_of c.args.section) c.opening-start.ensures c.section-first.ensures (search rules) c.closed.ensures c.in_err-taken.was)
+returns-in_err-taken c = rw (handed c.from_residual.result c.from_residual.ensures.1) (section-refused settings (functions_of c.args.section) (section_of c.args.section) c.opening-start.ensures c.section-first.ensures (search rules) c.closed.ensures c.in_err-taken.was)
 
 pub returns : goal.returns
 unfolding settings_of
