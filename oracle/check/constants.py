@@ -52,6 +52,12 @@ def rattle(body):
     return [(name.lower(), number(value)) for name, value in re.findall(r"pub const (\w+): \w+ = ([\d_]+);", body)]
 
 
+def variants(body, name):
+    """The variants of an enum of Rattle with their numbers."""
+    body = re.search(rf"pub enum {name} {{\n(.*?)^}}", body, re.M | re.S).group(1).split("// of `source_lines`")[0]
+    return [(snake(variant), int(value)) for variant, value in re.findall(r"^    (\w+) = (\d+),$", body, re.M)]
+
+
 def antt(body):
     return [(snake(name), int(value)) for name, value in re.findall(r"^(\w+) = (\d+)$", body, re.M)]
 
@@ -65,30 +71,30 @@ def rust_variants(body):
 
 
 # Refusal numbers.
-numbers = "crates/reader/src/numbers.rt"
+kinds = "crates/reader/src/kinds.rt"
 refusals = "crates/vob24/specs/Refusals.antt"
 kernel = antt(text("crates/format/specs/Trace.antt"))
 imported = re.search(r"Trace\.\{([^}]*)\}", text(refusals)).group(1)
 own = antt(text(refusals).split("-- Contexts")[0]) + [pair for pair in kernel if pair[0] in map(snake, imported.split(", "))]
 documented = re.findall(r"^    /// (\d+): .*\n(?:    ///.*\n)*    (\w+)", text("bindings/rust/src/error.rs"), re.M)
 agree("refusal numbers", {
-    numbers: rattle(text(numbers).split("// Contexts")[0]),
+    kinds: variants(text(kinds), "Kind"),
     refusals: sorted(own, key=lambda pair: pair[1]),
     "bindings/c/vob.h": header(part("bindings/c/vob.h", "VOB_TAKEN = 0,", "};")),
     "bindings/rust/src/error.rs": [(snake(name), int(value)) for value, name in documented],
 })
 
 # Contexts, and those of 20.
-contexts = rattle(text(numbers).split("// Contexts:")[1].split("// Contexts of 20")[0])
+contexts = variants(text(kinds), "Context")
 agree("contexts", {
-    numbers: contexts,
+    kinds: contexts,
     refusals: antt(text(refusals).split("-- Contexts:")[1].split("-- What of a function")[0]),
     "bindings/c/vob.h": header(part("bindings/c/vob.h", "/* The contexts of", "};")),
     "bindings/rust/src/error.rs": list(zip(
         rust_variants(part("bindings/rust/src/error.rs", "pub enum Context {", "\n}")), range(1, len(contexts) + 1))),
 })
 agree("contexts of 20", {
-    numbers: rattle(text(numbers).split("// Contexts of 20")[1]),
+    kinds: variants(text(kinds), "Part"),
     refusals: antt(text(refusals).split("-- What of a function")[1]),
 })
 
@@ -97,7 +103,7 @@ settings = "crates/vob24/specs/Settings.antt"
 named = [pair for pair in antt(part(settings, "StructMeta : ℕ", "pub record Settings")) if pair[0] != "measured"]
 named = [("struct_meta", 1)] + [pair for pair in named if pair[0] != "struct_meta"]
 agree("numbers of the sizes", {
-    "crates/reader/src/sizes.rt": rattle(text("crates/reader/src/sizes.rt")),
+    "crates/vob24_data/src/lib.rt": variants(text("crates/vob24_data/src/lib.rt"), "Size"),
     settings: named,
 })
 count = len(named)
@@ -188,5 +194,5 @@ agree("stored lists", {"crates/replay/data": lists, "oracle/answers": stored("or
 
 if differences:
     sys.exit(1)
-print(f"constants: {count} sizes, {len(limits)} limits, {len(rattle(text(numbers).split('// Contexts')[0]))} refusal numbers, "
+print(f"constants: {count} sizes, {len(limits)} limits, {len(variants(text(kinds), 'Kind'))} refusal numbers, "
       f"{len(contexts)} contexts, 17 sections and {len(lists)} stored lists agree")

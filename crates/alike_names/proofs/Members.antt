@@ -23,7 +23,8 @@ use Rattle.in_place.proofs.Places.{number-stands}
 use Rattle.alike_names.specs.Contract.{table_of, TableAt, Walks, past, TableWalk}
 use Rattle.alike_names.specs.Tables.{variant, OtherAt, struct_tables, named_tables, WalksAt}
 use Rattle.alike_names.specs.declared.AlikeNames.{AlikeNames}
-use Rattle.alike_names.proofs.Lists.{behind, list-stands, asked-stands}
+use Rattle.in_place.proofs.Lists.{list-stands}
+use Rattle.alike_names.proofs.Lists.{behind, asked-stands}
 use Rattle.alike_names.proofs.Sizes.{sized-number, sized-list}
 use Rattle.alike_names.proofs.NewNames.{methods-stand}
 use Rattle.alike_names.proofs.Pairs.{walks-found, walks-then}

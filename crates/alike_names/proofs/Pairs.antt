@@ -10,7 +10,9 @@ use Rattle.in_place.proofs.Walking.{items-cons}
 use Rattle.alike_names.specs.Contract.{pair_of, Walks, found, past}
 use Rattle.alike_names.specs.Tables.{tables_in, WalksAt}
 use Rattle.alike_names.specs.declared.AlikeNames.{AlikeNames}
-use Rattle.alike_names.proofs.Lists.{ListStands, Leaving, leaving-list, leaving-here, leaving-more, leaving-done}
+use Rattle.in_place.proofs.Lists.{ListStands}
+use Rattle.in_place.proofs.Walking.{Leaving, leaving-here, leaving-more, leaving-done}
+use Rattle.alike_names.proofs.Lists.{leaving-list}
 
 -- ---- tables one after the other
 
@@ -77,5 +79,3 @@ module _ {g f : Format} {ts : Value → List (List Value)} {s : List ℕ} {from 
   pub walked-done : {p n i : ℕ} → n ≤ i → Walked g f ts s from p (n - i) → WalksAt g (tables_in ts) s from (Continue p)
   unfolding flat_map pair_in
   walked-done {p} {n} {i} h l = record { walks = past (l.leads ∙ rw (items-none f (n - i) s p (omega arith))) (leaving-done l.leaves h) }
-
-pub ruleset walked = (walked_start, walked_here, walked-found, walked_more, walked-done)

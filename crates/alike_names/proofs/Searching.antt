@@ -1,7 +1,6 @@
 -- The laws of the search of one table: names alike are keys that repeat, and the nearest of them is the pair's earlier
 -- name.
-use Rattle.std.proofs.Common.{ℕ, zero, suc, ◌+◌, ◌-◌, ◌/◌, ◌%◌, ◌≤◌, ◌<◌, ◌≡◌, refl, ap, sym, ◌∙◌, List, [], ◌∷◌, ◌++◌, map, Bool, true, false, not, arith, add-one, T, eqb, eq-eqb, Continue, Break, Option, Some, None}
-use Rattle.std.proofs.lemmas.Bool.{not-false}
+use Rattle.std.proofs.Common.{ℕ, zero, suc, ◌+◌, ◌-◌, ◌/◌, ◌%◌, ◌≤◌, ◌<◌, ◌≡◌, refl, ap, sym, ◌∙◌, List, [], ◌∷◌, ◌++◌, map, Bool, true, false, arith, add-one, T, eqb, eq-eqb, Continue, Break, Option, Some}
 use Rattle.format.specs.Trace.{pick}
 use Rattle.format.specs.Format.{Value, content, first, Format, seq}
 use Rattle.format.specs.Reading.{same}
@@ -25,7 +24,7 @@ use Rattle.in_place.specs.declared.Table.TheVariants.{Alike}
 use Rattle.in_place.specs.Walk.{Stands, AllStand, value_at, next_at, items_at, last_at, parts, passed, items_more, items-none, items-snoc, items-nil, last_snoc}
 use Rattle.in_place.specs.Items.{format_of, name_of, text_at}
 use Rattle.in_place.specs.Tables.{key_of}
-use Rattle.in_place.specs.Contract.{TextAt, WordIs, Placed, Past, Items, TwoPlaced, SameKey}
+use Rattle.in_place.specs.Contract.{TextAt, WordIs, Placed, Past, Items, PastItems, TwoPlaced, SameKey}
 use Rattle.in_place.proofs.Texts.{text-part, text-length}
 use Rattle.in_place.proofs.Places.{name-stands, item-name}
 use Rattle.in_place.proofs.Walking.{Walking, walking_start, walking_here, walking-at, walking-next}
@@ -35,7 +34,6 @@ use Rattle.repeat_search.proofs.Tables.{repeats-at}
 use Rattle.alike_names.specs.Contract.{table_of, TableAt, found, past, TableWalk}
 use Rattle.alike_names.specs.Search.{All, ItemsWithout, Repeats, name_at, NearerIs, PartnerIs}
 use Rattle.alike_names.specs.Search as search
-use Rattle.alike_names.specs.Tables.{PastItems}
 
 -- ---- all values of a list
 
@@ -167,12 +165,12 @@ same-sym x y = go (same x y) (same y x) refl refl
 
 fold-some : (b : ℕ) (t : List ℕ) → fold_bytes (b ∷ t) ≡ [] → ⊥
 unfolding fold_bytes pick
-fold-some b [] e = let z : ◌≡◌ {A = ℕ} 0 1 = cc in omega arith
+fold-some b [] e = cc
 fold-some b (c ∷ t) e = go (eqb (fold_of b c) 0) e
   where
     go : (t' : Bool) → pick t' (b ∷ fold_bytes (c ∷ t)) (fold_of b c / 256 ∷ 0xcc ∷ fold_of b c % 256 ∷ fold_bytes t) ≡ [] → ⊥
-    go true e = let z : ◌≡◌ {A = ℕ} 0 1 = cc in omega arith
-    go false e = let z : ◌≡◌ {A = ℕ} 0 1 = cc in omega arith
+    go true e = cc
+    go false e = cc
 
 fold-blank : (x : List ℕ) → fold_bytes x ≡ 95 ∷ [] → x ≡ 95 ∷ []
 unfolding fold_bytes pick
@@ -183,7 +181,7 @@ fold-blank (b ∷ c ∷ t) e = go (eqb (fold_of b c) 0) e
     go : (t' : Bool) → pick t' (b ∷ fold_bytes (c ∷ t)) (fold_of b c / 256 ∷ 0xcc ∷ fold_of b c % 256 ∷ fold_bytes t) ≡ 95 ∷ []
         → b ∷ c ∷ t ≡ 95 ∷ []
     go true e = let z : fold_bytes (c ∷ t) ≡ [] = cc in absurd (fold-some c t z)
-    go false e = let z : ◌≡◌ {A = ℕ} 0 1 = cc in absurd (omega arith)
+    go false e = absurd (cc)
 
 blank-alike : (x y : List ℕ) → same y (95 ∷ []) ≡ true → same (fold_bytes x) (fold_bytes y) ≡ true → same x (95 ∷ []) ≡ true
 unfolding fold_bytes
@@ -194,7 +192,7 @@ blank-alike x y e f =
     rw z (same_refl (95 ∷ []))
 
 never : {X : Type 0} → false ≡ true → X
-never e = let z : ◌≡◌ {A = ℕ} 0 1 = cc in absurd (omega arith)
+never e = absurd (cc)
 
 exempt-alike : (i : Item) (v u : Value) → exempted i u ≡ true
     → same (fold_bytes (content (name_of i v))) (fold_bytes (content (name_of i u))) ≡ true → exempted i v ≡ true
@@ -234,7 +232,7 @@ module _ (i : Item) (v : Value) (g : Formed (name_of i v)) where
 
   or-none : (q r : Names) → or_else q r ≡ none → (q ≡ none) × (r ≡ none)
   or-none none r e = (refl, e)
-  or-none (pair x y) r e = let z : ◌≡◌ {A = ℕ} 0 1 = cc in absurd (omega arith)
+  or-none (pair x y) r e = absurd (cc)
 
   near-some : {vs : List Value} → All (λ u. Formed (name_of i u)) vs → exempted i v ≡ false
       → among_identities (key i v) (map (key i) vs) ≡ true → nearest (name_of i v) (table_of i vs) ≡ none → ⊥
@@ -251,7 +249,7 @@ module _ (i : Item) (v : Value) (g : Formed (name_of i v)) where
           let m = or-none (nearest (name_of i v) (table_of i us)) (pick (alike (content (name_of i u)) (content (name_of i v))) (pair (name_of i u) (name_of i v)) none) (rw (table-in i u us k) at n) in
           let a : alike (content (name_of i u)) (content (name_of i v)) ≡ true = alike-fold (name_of i u) (name_of i v) f g ∙ j in
           let o : pair (name_of i u) (name_of i v) ≡ none = rw a at m.1 in
-          let z : ◌≡◌ {A = ℕ} 0 1 = cc in omega arith
+          cc
       go false true j k l x = x l (rw (table-out i u us k) at n)
       go false false j k l x = x l (or-none (nearest (name_of i v) (table_of i us)) (pick (alike (content (name_of i u)) (content (name_of i v))) (pair (name_of i u) (name_of i v)) none) (rw (table-in i u us k) at n)).0
 
@@ -441,22 +439,14 @@ module _ {i : Item} {low high : ℕ} {s : List ℕ} {from n : ℕ} where
     pub passing-text : k < n → TextAt s p
     passing-text h = item-name i (passing-here h)
 
-    pub passing-more : {m z : ℕ} {b : Bool} → k < n → WordIs s p m → folding.WithoutIs s (p + 4) m low high b → not b ≡ false
+    pub passing-more : {m z : ℕ} {b : Bool} → k < n → WordIs s p m → folding.WithoutIs s (p + 4) m low high b → b ≡ true
         → Past (format_of i) s p z → Passing i low high s from n z (k + 1)
     passing-more {m} h e u v w =
         let f = format_of i in
         let x = (name-stands i (passing-here h).stands).value in
-        let y : Without low high (content (name_of i (value_at f s p))) = rw (x, text-part (passing-text h) e) (u.is (not-false _ v)) in
+        let y : Without low high (content (name_of i (value_at f s p))) = rw (x, text-part (passing-text h) e) (u.is v) in
         let b : items_at f (k + 1) s from ≡ items_at f k s from ++ (value_at f s p ∷ []) = ap (λ j. items_at f j s from) (add-one k) ∙ items-snoc f k s from ∙ rw (← l.walk.here) in
         record { walk = walking-next h l.walk w; all = rw b (all_snoc l.all y) }
-
-    pub passing-done : n ≤ k → k ≤ n → ItemsWithout i n low high s from (Some p)
-    passing-done h j = let e : k ≡ n = omega arith in record { all = λ z r. let t : z ≡ p = cc in (rw e at l.all, t ∙ rw e at l.walk.here) }
-
-  pub passing-not : ItemsWithout i n low high s from None
-  passing-not = record { all = λ z r. let t : ◌≡◌ {A = ℕ} 0 1 = cc in absurd (omega arith) }
-
-pub ruleset passings = (passing-start, passing-here, passing-text, passing-more, passing-done, passing-not)
 
 -- ---- the loop of `partner`
 
@@ -533,8 +523,6 @@ module _ {i : Item} {s : List ℕ} {from k p : ℕ} where
             let r = repeats-among i s from k p t.place l.repeats.repeat in
             absurd (near-some i (value_at (format_of i) s p) (name-formed i t.after.here.stands) (items-formed i k s from t.after.before.all) r.0 r.1 n)
 
-pub ruleset partners = (partner-start, partner-here, partner-both, partner-more, partner-done)
-
 -- the answers of `nearer`
 module _ {i : Item} {s : List ℕ} {p a : ℕ} {b : Bool} (w : SameKey (Alike i) s p a b) where
   key-same : same (fold_bytes (text_at s p)) (fold_bytes (text_at s a)) ≡ b
@@ -552,8 +540,6 @@ module _ {i : Item} {s : List ℕ} {p a : ℕ} {b : Bool} (w : SameKey (Alike i)
   pub nearer-before : {best : ℕ} → b ≡ false → NearerIs i s p a best best
   unfolding pick
   nearer-before e = record { is = rw (key-same, e) }
-
-pub ruleset nearers = (nearer-here, nearer-before)
 
 -- what `partner` asks: item k, the first that repeats one before it
 pub repeats-found : {i : Item} {n : ℕ} {s : List ℕ} {from k p : ℕ} → Items (format_of i) n s from

@@ -7,7 +7,8 @@ use Rattle.vob24.specs.Settings.{max_pack_bytes}
 use Rattle.in_place.specs.Walk.{Stands, next_at, last_at, AllStand, parts, passed}
 use Rattle.in_place.specs.Contract.{Past}
 use Rattle.alike_names.specs.Tables.{WordsAt, WordsEnd}
-use Rattle.alike_names.proofs.Lists.{next-within, ListStands}
+use Rattle.in_place.proofs.Lists.{ListStands}
+use Rattle.alike_names.proofs.Lists.{next-within}
 
 -- f has k bytes
 pub record Sized (f : Format) (k : ℕ) : Type 0 where

@@ -8,9 +8,10 @@ use Rattle.vob24.specs.Grammar.{asking, identity, list, itab, field_set, rttids,
 use Rattle.in_place.specs.declared.Item.TheVariants.{RuntimeField}
 use Rattle.in_place.specs.Walk.{Stands, parts}
 use Rattle.in_place.specs.Items.{format_of}
-use Rattle.in_place.specs.Contract.{WordIs, Placed, Past, Items}
-use Rattle.alike_names.specs.Tables.{PastItems, WordsAt, WordsEnd, variant, OtherAt}
-use Rattle.alike_names.proofs.Lists.{Behind, behind, ListStands, list-stands, AskedStands, asked-stands}
+use Rattle.in_place.specs.Contract.{WordIs, Placed, Past, Items, PastItems}
+use Rattle.alike_names.specs.Tables.{WordsAt, WordsEnd, variant, OtherAt}
+use Rattle.in_place.proofs.Lists.{ListStands, list-stands}
+use Rattle.alike_names.proofs.Lists.{Behind, behind, AskedStands, asked-stands}
 use Rattle.alike_names.proofs.Sizes.{Sized, sized-none, sized-number, sized-both, SizedList, sized-list, words-at, words-past}
 
 -- the fields of a runtime struct, and the question on them

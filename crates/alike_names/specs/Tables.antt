@@ -7,16 +7,12 @@ use Rattle.format.specs.Reading.{little, part}
 use Rattle.vob24.specs.Settings.{Settings, max_pack_bytes}
 use Rattle.vob24.specs.Grammar.{runtime_variants, pack}
 use Rattle.alike.specs.Alike.{field_table, interface_tag, method_table, tables}
-use Rattle.in_place.specs.Walk.{value_at, next_at, last_at}
+use Rattle.in_place.specs.Walk.{value_at, next_at}
 use Rattle.in_place.specs.Contract.{Placed}
 use Rattle.alike_names.specs.Contract.{Walks}
 use Rattle.alike_names.specs.declared.AlikeNames.{AlikeNames}
 
 -- ---- what is passed over
-
--- q is the place past n items of f.
-pub record PastItems (f : Format) (n : ℕ) (s : List ℕ) (p q : ℕ) : Type 0 where
-  pub is : q ≡ last_at f n s p
 
 -- the place past a list whose items have four bytes each
 abbrev pub words_end : List ℕ → ℕ → ℕ

@@ -12,7 +12,7 @@ use in_place::Item;
 use std::ops::ControlFlow;
 use vob24_data::Settings;
 
-// The tag of an interface among the runtime types.
+// The tag of an interface among the runtime types, as the file has it: of no other tag anything is asked here.
 const INTERFACE_TAG: u8 = 9;
 
 // A struct's fields, behind its slot types, each of one byte.

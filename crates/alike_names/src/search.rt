@@ -5,7 +5,6 @@ ghost use Rattle.alike_names.specs.Search.{ItemsWithout, Repeats, PartnerIs, Nea
 ghost use Rattle.in_place.specs.Items.{format_of};
 ghost use Rattle.in_place.specs.Contract.{Items, TwoPlaced};
 
-use crate::skips::past_items;
 use crate::{AlikeNames, Walk};
 use in_place::{Item, Table};
 use reader::Span;
@@ -66,9 +65,9 @@ pub(crate) fn table(s: &[u8], item: Item, from: usize, n: usize) -> Walk
     }
     let i = repeat_search::first_repeat(s, Table::Alike(item), from, n);
     if n <= i {
-        return ControlFlow::Continue(past_items(s, item, from, n));
+        return ControlFlow::Continue(in_place::past_items(s, item, from, n));
     }
-    let p = past_items(s, item, from, i);
+    let p = in_place::past_items(s, item, from, i);
     let a = partner(s, item, from, i, p);
     ControlFlow::Break(AlikeNames {
         earlier: Span {

@@ -1,24 +1,11 @@
 // The places past parts of a pack that have no table.
 ghost use Rattle.vob24.specs.Settings.{settings_of};
 ghost use Rattle.vob24.specs.Grammar.{section, itabs};
-ghost use Rattle.in_place.specs.Items.{format_of};
-ghost use Rattle.in_place.specs.Contract.{Placed, Past, Items};
-ghost use Rattle.alike_names.specs.Tables.{PastItems, WordsAt, WordsEnd, variant, OtherAt};
+ghost use Rattle.in_place.specs.Contract.{Placed, Past};
+ghost use Rattle.alike_names.specs.Tables.{WordsAt, WordsEnd, variant, OtherAt};
 
 use in_place::Item;
 use vob24_data::Settings;
-
-// The place past n items from `from` on.
-pub(crate) fn past_items(s: &[u8], item: Item, from: usize, n: usize) -> usize
-    requires { Items (format_of item) n s.now from }
-    ensures { PastItems (format_of item) n s.now from result }
-{
-    let mut p = from;
-    for _ in 0..n {
-        p = in_place::past(s, item, p);
-    }
-    p
-}
 
 // The place past a list whose items have four bytes each.
 pub(crate) fn past_words(s: &[u8], p: usize) -> usize
@@ -62,7 +49,7 @@ pub(crate) fn past_variant(s: &[u8], set: &Settings, tag: u8, p: usize) -> usize
         }
         8 => {
             let n = in_place::word_at(s, p + 4);
-            past_items(s, Item::RuntimeField, p + 8, n)
+            in_place::past_items(s, Item::RuntimeField, p + 8, n)
         }
         10 => past_words(s, p),
         11 => p + 5,

@@ -1,5 +1,6 @@
 // The answers of the public calls as six numbers, for the calls over the C ABI.
 // The Rust has none of these.
+// `as` stands between usize and u64, where Rust has no `From`.
 #![tactic(auto)]
 
 ghost use Rattle.std.specs.Prelude.{◌≡◌};
@@ -38,7 +39,7 @@ fn refused(x: Refusal) -> VobAnswer
     ensures { result ≡ numbers_of (answer_of (Err x)) }
 {
     VobAnswer {
-        number: x.number,
+        number: u64::from(x.kind),
         value1: x.context,
         value2: x.detail1,
         value3: x.detail2,

@@ -15,24 +15,25 @@ use Rattle.vob24.specs.Settings.{Settings, max_pack_bytes}
 use Rattle.vob24.specs.Grammar.{Section, section, pack}
 use Rattle.vob24.specs.Calls as vob
 use Rattle.vob24_theorems.specs.Theorems.{whole-settled, section-alone}
-use Rattle.reader.specs.Contract.{refusal, wrong_of, ReadyAt, Takes, Reads, takes, refuses, skips, Reader, Step}
+use Rattle.reader.specs.Contract.{refusal, told, Takes, Reads, takes, refuses, skips, Reader, Step}
 use Rattle.reader.specs.Accepted.{Accepted}
 use Rattle.reader.proofs.Accepting.{taken-accepted}
 use Rattle.reader.proofs.Errors.{handed}
+use Rattle.reader.specs.declared.kinds.Kind.TheVariants.{InputTooLarge, UnexpectedEof, TrailingBytes, NoRoom}
 use Rattle.reader.specs.declared.Cursor.{Cursor}
 use Rattle.reader.specs.declared.Refusal.{Refusal}
-use Rattle.calls.specs.Contract.{Answer, answer_of, from, opened, Opens, ended, closed, Ends, Closes, Since, StaysWithin, ReadCall, SectionCall}
+use Rattle.calls.specs.Contract.{Answer, answer_of, from, opened, Opens, ended, closed, Ends, Closes, Since, ReadCall, SectionCall}
 use Rattle.calls.specs.declared.Taken as call
 
 -- ---- the three questions
 
 module _ {s : List ℕ} {p b : ℕ} where
-  pub opens-long : max_pack_bytes < length s → Opens s p b (Err (refusal (vob.too_large (length s)) p b))
+  pub opens-long : max_pack_bytes < length s → Opens s p b (Err (refusal InputTooLarge 0 (length s) max_pack_bytes (from p b)))
   unfolding opened pick
   opens-long h = record { is = rw (lt-leb _ _ h); ready = tt }
 
   pub opens-past : length s ≤ max_pack_bytes → length s < p
-      → Opens s p b (Err (refusal (wrong Refusals.unexpected_eof 0) p b))
+      → Opens s p b (Err (refusal UnexpectedEof 0 0 0 (from p b)))
   unfolding opened pick
   opens-past h i = record { is = rw (le-leb _ _ h, lt-leb _ _ i); ready = tt }
 
@@ -49,7 +50,7 @@ module _ {n : ℕ} {r : Step} where
   ends_at {c} e h = record { is = rw (e, eq-eqb c.place n h) }
 
   pub ends-past : {c : Cursor} → r ≡ Ok c → (c.place ≡ n → ⊥)
-      → Ends n r (Err (refusal (wrong Refusals.trailing_bytes (n - c.place)) c.place c.left))
+      → Ends n r (Err (refusal TrailingBytes 0 (n - c.place) 0 c))
   unfolding pick
   ends-past {c} e h = record { is = rw (e, ne_eqb c.place n h) }
 
@@ -58,7 +59,7 @@ module _ {p b room : ℕ} {r : Step} where
   closes-refused {q = q} e i = record { is = handed q i ∙ rw e }
 
   pub closes-short : {c : Cursor} → r ≡ Ok c → room < c.at
-      → Closes p b room r (Err (refusal (vob.no_room_for c.at room) c.place c.left))
+      → Closes p b room r (Err (refusal NoRoom 0 c.at room c))
   unfolding pick
   closes-short e h = record { is = rw (e, lt-leb _ _ h) }
 
@@ -66,13 +67,6 @@ module _ {p b room : ℕ} {r : Step} where
       → Closes p b room r (Ok (record { words = c.at; bytes = c.place - p; charged = b - c.left; left = c.left }))
   unfolding pick
   closes-taken e h = record { is = rw (e, le-leb _ _ h) }
-
-module _ {n p b : ℕ} {r r' : Step} (g : Ends n r r') where
-  pub since-ended : Since p b (ended n r) → Since p b r'
-  since-ended h = rw g.is h
-
-  pub closes-ended : {room : ℕ} {q : Answer} → Closes p b room r' q → Closes p b room (ended n r) q
-  closes-ended {room} m = record { is = m.is ∙ ap (closed p b room) g.is }
 
 pub ruleset questions = (opens-long, opens-past, opens_at)
 
@@ -83,12 +77,12 @@ pub data Passed (f : Format) (t : Trace Value) (s : List ℕ) (p b : ℕ) (start
   passed : {v : Value} {c : Cursor} → start ≡ Ok (from p b) → settle b t ≡ taken v c.place c.left
       → settle b (trace f s p) ≡ taken v c.place c.left → c.at ≡ length (words f v)
       → Passed f t s p b start (Ok c)
-  denied : {x : Refusal} → settle b t ≡ refused (wrong_of x) x.place x.left → Passed f t s p b start (Err x)
+  denied : {x : Refusal} → settle b t ≡ told x → Passed f t s p b start (Err x)
 
 -- how a call opened
 data Opened (s : List ℕ) (p b : ℕ) : Step → Type 0 where
-  long : max_pack_bytes < length s → Opened s p b (Err (refusal (vob.too_large (length s)) p b))
-  past : length s ≤ max_pack_bytes → length s < p → Opened s p b (Err (refusal (wrong Refusals.unexpected_eof 0) p b))
+  long : max_pack_bytes < length s → Opened s p b (Err (refusal InputTooLarge 0 (length s) max_pack_bytes (from p b)))
+  past : length s ≤ max_pack_bytes → length s < p → Opened s p b (Err (refusal UnexpectedEof 0 0 0 (from p b)))
   at : length s ≤ max_pack_bytes → p ≤ length s → Opened s p b (Ok (from p b))
 
 opened-as : (s : List ℕ) (p b : ℕ) → Opened s p b (opened s p b)
@@ -97,7 +91,7 @@ opened-as s p b = go (leb (length s) max_pack_bytes) (leb→le _ _) (nleb→lt _
   where
     go : (d : Bool) → (T d → length s ≤ max_pack_bytes) → (T (not d) → max_pack_bytes < length s) → (e : Bool)
         → (T e → p ≤ length s) → (T (not e) → length s < p)
-        → Opened s p b (pick d (pick e (Ok (from p b)) (Err (refusal (wrong Refusals.unexpected_eof 0) p b))) (Err (refusal (vob.too_large (length s)) p b)))
+        → Opened s p b (pick d (pick e (Ok (from p b)) (Err (refusal UnexpectedEof 0 0 0 (from p b)))) (Err (refusal InputTooLarge 0 (length s) max_pack_bytes (from p b))))
     go true x y true z w = at (x tt) (z tt)
     go true x y false z w = past (x tt) (w tt)
     go false x y e z w = long (y tt)
@@ -132,10 +126,10 @@ module _ (set : Settings) (s : List ℕ) (b : ℕ) where
   -- the whole pack, with the question after it
   judged : {t : List ℕ} {v : Value} {c : Cursor} {e : List ℕ} → length s ≤ max_pack_bytes
       → Takes (pack set) s (from 0 b) t v c e → (d : Bool) → eqb c.place (length s) ≡ d
-      → Passed (pack set) (vob.whole_trace set s) s 0 b (Ok (from 0 b)) (pick d (Ok c) (Err (refusal (wrong Refusals.trailing_bytes (length s - c.place)) c.place c.left)))
+      → Passed (pack set) (vob.whole_trace set s) s 0 b (Ok (from 0 b)) (pick d (Ok c) (Err (refusal TrailingBytes 0 (length s - c.place) 0 c)))
   unfolding pick then_s guard settle
   judged {v = v} {c = c} h k true i = passed {v = v} {c = c} refl (whole-settled set s b h ∙ rw (k.settles, i)) k.settles (k.moves ∙ zero-add _)
-  judged {c = c} h k false i = denied {x = refusal (wrong Refusals.trailing_bytes (length s - c.place)) c.place c.left} (whole-settled set s b h ∙ rw (k.settles, i))
+  judged {c = c} h k false i = denied {x = refusal TrailingBytes 0 (length s - c.place) 0 c} (whole-settled set s b h ∙ rw (k.settles, i))
 
   whole-cases : {r₀ r : Step} {t e : List ℕ} → Opened s 0 b r₀ → Reads (pack set) s r₀ t r e
       → Passed (pack set) (vob.whole_trace set s) s 0 b r₀ (ended (length s) r)
@@ -162,14 +156,14 @@ module _ {f : Format} {t : Trace Value} {s : List ℕ} {p b : ℕ} {r₀ : Step}
 -- the question of room, answered either way
 data Closed (p b room : ℕ) (c : Cursor) : Answer → Type 0 where
   fits : c.at ≤ room → Closed p b room c (Ok (record { words = c.at; bytes = c.place - p; charged = b - c.left; left = c.left }))
-  short : room < c.at → Closed p b room c (Err (refusal (vob.no_room_for c.at room) c.place c.left))
+  short : room < c.at → Closed p b room c (Err (refusal NoRoom 0 c.at room c))
 
 closed-as : (p b room : ℕ) (c : Cursor) → Closed p b room c (closed p b room (Ok c))
 unfolding pick
 closed-as p b room c = go (leb c.at room) (leb→le _ _) (nleb→lt _ _)
   where
     go : (d : Bool) → (T d → c.at ≤ room) → (T (not d) → room < c.at)
-        → Closed p b room c (pick d (Ok (record { words = c.at; bytes = c.place - p; charged = b - c.left; left = c.left })) (Err (refusal (vob.no_room_for c.at room) c.place c.left)))
+        → Closed p b room c (pick d (Ok (record { words = c.at; bytes = c.place - p; charged = b - c.left; left = c.left })) (Err (refusal NoRoom 0 c.at room c)))
     go true x y = fits (x tt)
     go false x y = short (y tt)
 
@@ -215,13 +209,13 @@ closed-taken p b room (Ok c) {w = w} e j = go (closed-as p b room c) (sym e ∙ 
     go (short h) j = let no : ⊥ = cc in absurd no
 
 module _ (f : Format) (t : Trace Value) (p b : ℕ) (tape : List ℕ) where
-  closing-denied : {x : Refusal} → settle b t ≡ refused (wrong_of x) x.place x.left
+  closing-denied : (x : Refusal) → settle b t ≡ told x
       → vob.closing f p b tape (settle b t) ≡ record { answer = answer_of (Err x); tape = tape }
-  closing-denied i = ap (vob.closing f p b tape) i
+  closing-denied x i = ap (vob.closing f p b tape) i
 
   closing-short : {v : Value} {c : Cursor} → settle b t ≡ taken v c.place c.left → c.at ≡ length (words f v)
       → length tape < c.at
-      → vob.closing f p b tape (settle b t) ≡ record { answer = answer_of (Err (refusal (vob.no_room_for c.at (length tape)) c.place c.left)); tape = tape }
+      → vob.closing f p b tape (settle b t) ≡ record { answer = answer_of (Err (refusal NoRoom 0 c.at (length tape) c)); tape = tape }
   unfolding pick
   closing-short {v} {c} i m h = let h' : length tape < length (words f v) = omega arith in ap (vob.closing f p b tape) i ∙ rw (lt-leb _ _ h', m)
 
@@ -241,7 +235,7 @@ module _ (f : Format) (t : Trace Value) (p b : ℕ) (tape : List ℕ) where
   refused-so : {s : List ℕ} {r₀ r : Step} {q : Answer} {x : Refusal} → Passed f t s p b r₀ r
       → q ≡ closed p b (length tape) r → q ≡ Err x
       → vob.closing f p b tape (settle b t) ≡ record { answer = answer_of q; tape = tape }
-  refused-so (denied {x = y} i) e j = closing-denied i ∙ rw e
+  refused-so (denied {x = y} i) e j = closing-denied y i ∙ rw e
   refused-so (passed {c = c} o i k m) e j = rw e (short-so i m (closed-as p b (length tape) c) (sym e ∙ j))
 
   fits-so : {v : Value} {c : Cursor} {q : Answer} {t₂ : List ℕ} {w : call.Taken}
@@ -271,10 +265,6 @@ module _ (set : Settings) (n : ℕ) (x : Section) {s : List ℕ} {p b : ℕ} {r�
   pub section-since : Since p b r
   section-since = passed-since section-passed
 
-  pub section-accepted : {g : Bool} {room : ℕ} {q : Answer} {w : call.Taken} → Closes p b room r q
-      → q ≡ Ok w → Accepted g (section set n x) s r₀
-  section-accepted {room = room} m j = passed-accepted section-passed (closed-taken p b room r m.is j).1
-
   module _ {t : List ℕ} {q : Answer} (z : length e ≡ 0) (m : Closes p b (length (e ++ t)) r q) where
     pub section-refused : {y : Refusal} → q ≡ Err y → SectionCall set n x s p b t (Err y) (e ++ t)
     unfolding vob.section_outcome
@@ -288,9 +278,6 @@ module _ (set : Settings) (n : ℕ) (x : Section) {s : List ℕ} {p b : ℕ} {r�
 -- ---- the call on a whole pack
 
 module _ (set : Settings) {s : List ℕ} {b : ℕ} {r₀ r : Step} {t₀ e : List ℕ} (o : Opens s 0 b r₀) (k : Reader (pack set) s r₀ t₀ r e) where
-  pub read-within : StaysWithin (length s) r
-  read-within = record { place = λ c i. let y : ReadyAt s c = rw i at k.ready in y.within }
-
   pub read-passed : {r' : Step} → Ends (length s) r r' → Passed (pack set) (vob.whole_trace set s) s 0 b r₀ r'
   read-passed g = rw g.is (whole-cases set s b (rw o.is (opened-as s 0 b)) k.reads)
 
@@ -314,9 +301,6 @@ module _ (set : Settings) {s : List ℕ} {b : ℕ} {r₀ r : Step} {t₀ e : Lis
     -- a call that takes a pack has the room
     pub read-room : w.words ≤ room
     read-room = let d = closed-taken 0 b room (ended (length s) r) m.is j in omega (arith, d.2, d.3)
-
-    pub read-accepted : {g : Bool} → Accepted g (pack set) s r₀
-    read-accepted = passed-accepted whole-passed (closed-taken 0 b room (ended (length s) r) m.is j).1
 
   -- a small pack: read over a tape of its own
   module _ {t : List ℕ} {q : Answer} (m : Closes 0 b (length t) (ended (length s) r) q) where

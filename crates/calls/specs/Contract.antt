@@ -1,11 +1,11 @@
 -- The contracts of the public calls: the answer and the tape at exit are the outcome that vob24 defines.
 use Rattle.std.specs.Prelude.{ℕ, ◌-◌, ◌≤◌, ◌≡◌, List, Result, Ok, Err, length, leb, eqb}
-use Rattle.format.specs.Trace.{wrong, pick}
-use Rattle.vob24.specs.Refusals
+use Rattle.format.specs.Trace.{pick}
 use Rattle.vob24.specs.Settings.{Settings, max_pack_bytes}
 use Rattle.vob24.specs.Grammar.{Section}
 use Rattle.vob24.specs.Calls as vob
 use Rattle.reader.specs.Contract.{refusal, wrong_of, Ready, Step}
+use Rattle.reader.specs.declared.kinds.Kind.TheVariants.{InputTooLarge, UnexpectedEof, TrailingBytes, NoRoom}
 use Rattle.reader.specs.declared.Cursor.{Cursor}
 use Rattle.reader.specs.declared.Refusal.{Refusal}
 use Rattle.calls.specs.declared.Taken as call
@@ -34,8 +34,8 @@ from p b = record { place = p; left = b; at = 0 }
 unfoldable pub opened : List ℕ → ℕ → ℕ → Step
 opened s p b =
     pick (leb (length s) max_pack_bytes)
-    (pick (leb p (length s)) (Ok (from p b)) (Err (refusal (wrong Refusals.unexpected_eof 0) p b)))
-    (Err (refusal (vob.too_large (length s)) p b))
+    (pick (leb p (length s)) (Ok (from p b)) (Err (refusal UnexpectedEof 0 0 0 (from p b))))
+    (Err (refusal InputTooLarge 0 (length s) max_pack_bytes (from p b)))
 
 pub record Opens (s : List ℕ) (p b : ℕ) (r : Step) : Type 0 where
   pub is : r ≡ opened s p b
@@ -43,7 +43,7 @@ pub record Opens (s : List ℕ) (p b : ℕ) (r : Step) : Type 0 where
 
 -- Nothing after the end.
 abbrev pub ended : ℕ → Step → Step
-ended n (Ok c) = pick (eqb c.place n) (Ok c) (Err (refusal (wrong Refusals.trailing_bytes (n - c.place)) c.place c.left))
+ended n (Ok c) = pick (eqb c.place n) (Ok c) (Err (refusal TrailingBytes 0 (n - c.place) 0 c))
 ended n (Err x) = Err x
 
 -- The answer after a first pass, from the length of the tape.
@@ -51,7 +51,7 @@ abbrev pub closed : ℕ → ℕ → ℕ → Step → Answer
 closed p b room (Ok c) =
     pick (leb c.at room)
     (Ok (record { words = c.at; bytes = c.place - p; charged = b - c.left; left = c.left }))
-    (Err (refusal (vob.no_room_for c.at room) c.place c.left))
+    (Err (refusal NoRoom 0 c.at room c))
 closed p b room (Err x) = Err x
 
 pub record Ends (n : ℕ) (r q : Step) : Type 0 where

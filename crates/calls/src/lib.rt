@@ -1,13 +1,14 @@
 // What the public calls share: the questions before a first pass, the question of room after it, and their contracts.
 // A call reads twice by the same code: first with an empty tape, which counts the words, then, where there is room,
 // with the tape.
+// `as` stands between usize and u64, where Rust has no `From`.
 #![tactic(auto)]
 
 ghost use Rattle.std.specs.Prelude.{◌≡◌, ◌≤◌, length};
 ghost use Rattle.std.proofs.Math.Seq.{paste};
 ghost use Rattle.calls.specs.Contract.{Opens, Since, StaysWithin, Ends, Closes, ended};
 
-use reader::{Cursor, Refusal, Step, numbers};
+use reader::{Cursor, Kind, Refusal, Step};
 
 const MAX_PACK_BYTES: usize = 134_217_728;
 
@@ -27,7 +28,7 @@ pub fn opening(pack: &[u8], place: usize, budget: u64) -> Step
     let n = pack.len();
     if MAX_PACK_BYTES < n {
         return Err(Refusal {
-            number: numbers::INPUT_TOO_LARGE,
+            kind: Kind::InputTooLarge,
             context: 0,
             detail1: n as u64,
             detail2: MAX_PACK_BYTES as u64,
@@ -37,7 +38,7 @@ pub fn opening(pack: &[u8], place: usize, budget: u64) -> Step
     }
     if n < place {
         return Err(Refusal {
-            number: numbers::UNEXPECTED_EOF,
+            kind: Kind::UnexpectedEof,
             context: 0,
             detail1: 0,
             detail2: 0,
@@ -63,7 +64,7 @@ pub fn ended(first: Step, length: usize) -> Step
         return Ok(c);
     }
     Err(Refusal {
-        number: numbers::TRAILING_BYTES,
+        kind: Kind::TrailingBytes,
         context: 0,
         detail1: (length - place) as u64,
         detail2: 0,
@@ -81,7 +82,7 @@ pub fn closed(first: Step, place: usize, budget: u64, room: usize) -> Result<Tak
     let words = c.at;
     if room < words {
         return Err(Refusal {
-            number: numbers::NO_ROOM,
+            kind: Kind::NoRoom,
             context: 0,
             detail1: words as u64,
             detail2: room as u64,
@@ -97,7 +98,8 @@ pub fn closed(first: Step, place: usize, budget: u64, room: usize) -> Result<Tak
     })
 }
 
-// The first n words of a tape, to another.
+// The first n words of a tape, to another. A function of its own, as its contract says by the tape what `copy_from_slice`
+// says by parts.
 pub fn copy_record(from: &[u32], n: usize, to: &mut [u32])
     requires { (n ≤ length from.now) × (n ≤ length to.old) }
     ensures { to.new ≡ paste to.old 0 from.now n }

@@ -11,7 +11,7 @@ use Rattle.format.proofs.TraceTheorems.{part_length}
 use Rattle.vob24.specs.Leaves.{u64, bool, str}
 use Rattle.vob24.specs.Grammar as vob
 use Rattle.fields.specs.Fields.{constant_tag}
-use Rattle.reader.specs.Contract.{ReadyAt, refuses, NumberOf, SpanOf, ReadsSpan, lost_span, WordyPair, KeptPair, Read, span_at, bits_of}
+use Rattle.reader.specs.Contract.{ReadyAt, refuses, NumberOf, SpanOf, ReadsSpan, lost_span, KeptPair, Read, span_at, bits_of}
 use Rattle.reader.specs.Leaves.{Fetches, there, short, FetchesSigned, signed, short_signed, FetchesFloat, float, short_float}
 use Rattle.reader.specs.declared.Cursor.{Cursor}
 use Rattle.reader.specs.declared.Refusal.{Refusal}
@@ -22,7 +22,7 @@ use Rattle.reader.proofs.Errors.{handed}
 use Rattle.reader.proofs.Laws.{got-ready, number_then}
 use Rattle.reader.proofs.Leaves.{fetched, below}
 use Rattle.reader.proofs.Parts.{span_of, tag-most-bare}
-use Rattle.reader.proofs.Keeping.{fixed-lost, long_kept, wordy8}
+use Rattle.reader.proofs.Keeping.{fixed-lost, long_kept}
 use Rattle.reader.proofs.Recording.{record_lost, lost_here, lost_last, recorded_empty, recorded_value, recorded_then, recorded_last}
 use Rattle.constants.specs.declared.answers.Constant.{Constant}
 use Rattle.constants.specs.Constants.{constant_format, constant_of, constant_by, bool_of, int_of, float_of, text_of}
@@ -51,10 +51,10 @@ bool-record e h = number-record (λ n. Constant.Bool (eqb n 1)) e h
 
 pub text-record : {f : Format} {s : List ℕ} {c : Cursor} {t t₁ : List ℕ} {q : Read Span} {p n : ℕ} {d : Cursor}
     → q ≡ Ok (span_at p n, d) → SpanOf f s c t q t₁
-    → RecordOf f (λ _ v. text_of v) s c t (Ok (Constant.Text p n, d)) t₁
+    → RecordOf f (λ _ v. text_of v) s c t (Ok (Constant.Text (span_at p n), d)) t₁
 text-record {s = s} {p = p} {n = n} e h =
     let k = span_of e h in
-    recorded (recorded_value k.ready k.takes (ap (Constant.Text p) (sym (part_length s p n k.room))))
+    recorded (recorded_value k.ready k.takes (ap (λ m. Constant.Text (span_at p m)) (sym (part_length s p n k.room))))
 
 -- a signed number is a number of its bits, and so is a float
 module _ {s : List ℕ} {c d : Cursor} {n : ℕ} where
@@ -73,14 +73,6 @@ module _ {s : List ℕ} {c d : Cursor} {n : ℕ} where
       go (float f k) = (there f, k)
 
   module _ (a : ReadyAt s c) where
-    pub signed-wordy : {q : Read (Bits ℤ)} {i : ℤ} → q ≡ Ok (bits_of i n, d) → FetchesSigned s c q
-        → WordyPair d (n % 4294967296) (n / 4294967296)
-    signed-wordy e h = wordy8 a refl (signed-bits e h).0
-
-    pub float-wordy : {q : Read (Bits Float)} {y : Float} → q ≡ Ok (bits_of y n, d) → FetchesFloat s c q
-        → WordyPair d (n % 4294967296) (n / 4294967296)
-    float-wordy e h = wordy8 a refl (float-bits e h).0
-
     module _ {t t₁ : List ℕ} {g : Cursor} where
       -- a signed number in an enum stands for its bits
       pub int-record : {q : Read (Bits ℤ)} {i : ℤ} → q ≡ Ok (bits_of i n, d) → FetchesSigned s c q

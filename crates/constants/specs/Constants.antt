@@ -9,6 +9,7 @@ use Rattle.vob24.specs.Settings as of
 use Rattle.vob24.specs.Settings.{Settings}
 use Rattle.vob24.specs.Fields.{variant_of}
 use Rattle.vob24.specs.Grammar as vob
+use Rattle.reader.specs.Contract.{span_at}
 use Rattle.constants.specs.declared.answers.Constant.{Constant}
 
 abbrev pub constant_format : Format
@@ -28,7 +29,7 @@ abbrev pub float_of : Value → Constant
 float_of v = Constant.Float (of_bits binary64 (number v))
 
 abbrev pub text_of : Value → Constant
-text_of v = Constant.Text (start v) (length (content v))
+text_of v = Constant.Text (span_at (start v) (length (content v)))
 
 unfoldable pub constant_by : ℕ → Value → Constant
 constant_by zero v = Constant.Nil

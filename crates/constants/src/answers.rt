@@ -1,4 +1,5 @@
 // The answer for a constant: in a file of its own, as a name that differs from `constant` in case alone.
+use reader::Span;
 
 #[derive(Clone, Copy, PartialEq, Debug)]
 pub enum Constant {
@@ -6,5 +7,5 @@ pub enum Constant {
     Bool(bool),
     Int(i64),
     Float(f64),
-    Text { start: usize, length: usize },
+    Text(Span),
 }

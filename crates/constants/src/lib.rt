@@ -10,9 +10,10 @@ ghost use Rattle.reader.specs.Recorded.{RecordOf};
 ghost use Rattle.constants.specs.Constants.{constant_format, constant_list, bool_of, int_of, float_of, text_of, constant_of};
 
 use answers::Constant;
+use fields::{Bool, ConstantTag};
 use lists::Entry;
-use reader::{Bits, Cursor, Read, Step, sizes};
-use vob24_data::Settings;
+use reader::{Bits, Cursor, Read, Step};
+use vob24_data::{Settings, Size};
 
 pub mod answers;
 
@@ -20,7 +21,7 @@ fn constant_bool(s: &[u8], c: Cursor, tape: &mut [u32]) -> Read<Constant>
     requires { ReadyAt s.now c }
     ensures { RecordOf bool (λ p v. bool_of v) s.now c tape.old result tape.new }
 {
-    let (n, d) = fields::number_bool(s, c, tape)?;
+    let (n, d) = fields::number::<Bool>(s, c, tape)?;
     Ok((Constant::Bool(n == 1), d))
 }
 
@@ -52,20 +53,14 @@ fn constant_text(s: &[u8], c: Cursor, tape: &mut [u32]) -> Read<Constant>
     ensures { RecordOf str (λ p v. text_of v) s.now c tape.old result tape.new }
 {
     let (span, d) = fields::span_str(s, c, tape)?;
-    Ok((
-        Constant::Text {
-            start: span.start,
-            length: span.length,
-        },
-        d,
-    ))
+    Ok((Constant::Text(span), d))
 }
 
 pub fn constant(s: &[u8], c: Cursor, tape: &mut [u32]) -> Read<Constant>
     requires { ReadyAt s.now c }
     ensures { RecordOf constant_format constant_of s.now c tape.old result tape.new }
 {
-    let (tag, d) = fields::number_constant_tag(s, c, tape)?;
+    let (tag, d) = fields::number::<ConstantTag>(s, c, tape)?;
     match tag {
         0 => Ok((Constant::Nil, d)),
         1 => constant_bool(s, d, tape),
@@ -94,5 +89,5 @@ pub fn constants(s: &[u8], set: &Settings, r: Step, tape: &mut [u32]) -> Step
     ensures { Reader (constant_list (settings_of set.now)) s.now r tape.old result
         tape.new }
 {
-    lists::read_list(s, set, r, sizes::CONSTANT, &Item, tape)
+    lists::read_list(s, set, r, Size::Constant, &Item, tape)
 }

@@ -1,14 +1,11 @@
 -- The laws of the masks and shifts that take a packed number apart and put it together.
-use Prim.Native.Nat.{ℕ, suc, ◌+◌, ◌-◌, ◌*◌, ◌/◌, ◌%◌, ◌^◌, ◌≤◌, ◌<◌}
-use mathlib.Core.Path.{◌≡◌, ◌∙◌}
+use Prim.Native.Nat.{ℕ, suc, ◌+◌, ◌-◌, ◌*◌, ◌/◌, ◌%◌, ◌≤◌, ◌<◌}
+use mathlib.Core.Path.{◌≡◌}
 use native.Mathlib.Omega.{arith}
-use lib.Bits.{bit_and, bit_or, and_mask}
-use Rattle.reader.proofs.Gather.{gather}
+use lib.Bits.{bit_and, and_mask}
 use Rattle.debug_info.specs.Packs.{Packs, last, more}
 
 -- a group of seven bits, and the groups above it
-pub group-above : (b n : ℕ) → n < 33554432 → bit_or (bit_and b 127) ((n * 2 ^ 7) % 2 ^ 32) ≡ b % 128 + 128 * n
-group-above b n h = rw (and_mask b 7) (gather 25 7 32 (b % 128) n (omega arith) h (omega arith) ∙ omega arith)
 
 pub masked-last : {k m x : ℕ} → bit_and x 255 < 128 → m ≤ bit_and x 255 → Packs (suc k) m x (bit_and x 255) 1
 masked-last {x = x} h l = rw (and_mask x 8) (last (rw (and_mask x 8) at h) (rw (and_mask x 8) at l))

@@ -14,7 +14,7 @@ use Rattle.format.specs.SettleTheorems.{then_s}
 use Rattle.format.proofs.TraceTheorems.{leaf-ends, settle-seq}
 use Rattle.vob24.specs.Leaves.{source_u32}
 use Rattle.vob24.specs.Grammar as vob
-use Rattle.reader.specs.Contract.{wrong_of, Ready, Takes, Refuses, Reads, takes, refuses, skips, Reader, NumberOf, Step, Read}
+use Rattle.reader.specs.Contract.{told, Ready, Takes, Refuses, Reads, takes, refuses, skips, Reader, NumberOf, Step, Read}
 use Rattle.reader.specs.declared.Cursor.{Cursor}
 use Rattle.reader.specs.declared.Refusal.{Refusal}
 use Rattle.reader.proofs.Laws.{sets-append, takes-ends, ready_at, got_of, then_reads, then-takes, then-refuses, seq-refuses}
@@ -38,12 +38,12 @@ module _ (f : Format) (g : Value → Format) (s : List ℕ) (c : Cursor) (t : Li
       go : (r : Settled Value) → settle c.left (trace f s c.place) ≡ r
           → then_s r (λ v q l. then_s (settle l (trace (g v) s q)) (λ w r m. taken (pair v w) r m)) ≡ taken v d.place d.left
           → Parted f g s c t (Ok d) t'
-      go (refused w p l) e k = let no : ◌≡◌ {A = ℕ} 0 1 = cc in absurd (omega arith)
+      go (refused w p l) e k = absurd (cc)
       go (taken a p l) e k = on (settle l (trace (g a) s p)) refl k
         where
           on : (r : Settled Value) → settle l (trace (g a) s p) ≡ r
               → then_s r (λ w r m. taken (pair a w) r m) ≡ taken v d.place d.left → Parted f g s c t (Ok d) t'
-          on (refused w p' l') e' k' = let no : ◌≡◌ {A = ℕ} 0 1 = cc in absurd (omega arith)
+          on (refused w p' l') e' k' = absurd (cc)
           on (taken b p' l') e' k' =
               let i : p' ≡ d.place = cc in
               let j : l' ≡ d.left = cc in
@@ -59,16 +59,16 @@ module _ (f : Format) (g : Value → Format) (s : List ℕ) (c : Cursor) (t : Li
   parted-refused {x} {t'} h = go (settle c.left (trace f s c.place)) refl (sym (settle-seq c.left f g s c.place) ∙ h.settles)
     where
       go : (r : Settled Value) → settle c.left (trace f s c.place) ≡ r
-          → then_s r (λ v q l. then_s (settle l (trace (g v) s q)) (λ w r m. taken (pair v w) r m)) ≡ refused (wrong_of x) x.place x.left
+          → then_s r (λ v q l. then_s (settle l (trace (g v) s q)) (λ w r m. taken (pair v w) r m)) ≡ told x
           → Parted f g s c t (Err x) t'
       go (refused w p l) e k = stops (record { settles = e ∙ k })
       go (taken a p l) e k = on (settle l (trace (g a) s p)) refl k
         where
           on : (r : Settled Value) → settle l (trace (g a) s p) ≡ r
-              → then_s r (λ w r m. taken (pair a w) r m) ≡ refused (wrong_of x) x.place x.left
+              → then_s r (λ w r m. taken (pair a w) r m) ≡ told x
               → Parted f g s c t (Err x) t'
           on (refused w p' l') e' k' = goes (first_taken e) (refuses (record { settles = e' ∙ k' }))
-          on (taken b p' l') e' k' = let no : ◌≡◌ {A = ℕ} 0 1 = cc in absurd (omega arith)
+          on (taken b p' l') e' k' = absurd (cc)
 
 parted : {f : Format} {g : Value → Format} {s : List ℕ} {c : Cursor} {t t' : List ℕ} {q : Step}
     → Reads (seq f g) s (Ok c) t q t' → Parted f g s c t q t'

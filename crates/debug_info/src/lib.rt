@@ -1,6 +1,7 @@
 // The debug information: source files, the locations of each function's code, and the sources of inlined code.
 // Ports what Module::deserialize and read_inline_sources of serialize.rs read into the records of debug_info.rs and
 // debug_info/inline.rs.
+// `as` stands where a number is known to fit a narrower type: a `TryFrom` would have a case that no caller meets.
 #![tactic(auto)]
 
 ghost use Rattle.std.specs.Prelude.{Bool, IfSome, false, ◌≡◌, ◌+◌, ◌*◌, ◌%◌, ◌≤◌, ◌<◌};
@@ -12,9 +13,10 @@ ghost use Rattle.lists.specs.Runs.{Runs};
 ghost use Rattle.debug_info.specs.Packs.{Packs};
 ghost use Rattle.debug_info.specs.DebugInfo.{file_list, location_list, function_locations, span_format, frame_format, frame_list, entry_format, function_format, entries_of, function_list, inline_format};
 
+use fields::{SourceU32, U32};
 use lists::{Entry, Rest};
-use reader::{Cursor, Read, Step, numbers, sizes};
-use vob24_data::Settings;
+use reader::{Context, Cursor, Read, Step};
+use vob24_data::{Settings, Size};
 
 struct File;
 
@@ -33,7 +35,7 @@ pub fn files(s: &[u8], set: &Settings, r: Step, tape: &mut [u32]) -> Step
     ensures { Reader (file_list (settings_of set.now)) s.now r tape.old result
         tape.new }
 {
-    lists::read_list(s, set, r, sizes::STRING, &File, tape)
+    lists::read_list(s, set, r, Size::String, &File, tape)
 }
 
 // ---- packed numbers
@@ -164,7 +166,7 @@ fn source_numbers(s: &[u8], c: Cursor, n: u64, tape: &mut [u32]) -> Step
     let mut k = first.items;
     let mut here = first.at;
     while 0 < k {
-        let d = fields::field_source_u32(s, Ok(here), tape)?;
+        let d = fields::field::<SourceU32>(s, Ok(here), tape)?;
         let run = short_run(s, d, k - 1, tape);
         here = run.at;
         k = run.items;
@@ -185,7 +187,7 @@ impl Entry for Locations<'_> {
     ghost again = { λ _. false };
 
     fn read(&self, s: &[u8], r: Step, tape: &mut [u32]) -> Step {
-        let (n, d) = fields::number_count(s, self.set, r?, sizes::DEBUG_LOC, tape)?;
+        let (n, d) = fields::number_count(s, self.set, r?, Size::DebugLoc, tape)?;
         source_numbers(s, d, n * 5, tape)
     }
 }
@@ -195,7 +197,7 @@ pub fn function_locations(s: &[u8], set: &Settings, r: Step, tape: &mut [u32]) -
     ensures { Reader (function_locations (settings_of set.now)) s.now r tape.old
         result tape.new }
 {
-    lists::read_list(s, set, r, sizes::FUNC_DEBUG_INFO, &Locations { set }, tape)
+    lists::read_list(s, set, r, Size::FuncDebugInfo, &Locations { set }, tape)
 }
 
 // ---- inline sources
@@ -204,17 +206,17 @@ fn span(s: &[u8], r: Step, tape: &mut [u32]) -> Step
     requires { Ready s.now r }
     ensures { Reader span_format s.now r tape.old result tape.new }
 {
-    let file_id = fields::field_u32(s, r, tape);
-    let line = fields::field_u32(s, file_id, tape);
-    let col = fields::field_u32(s, line, tape);
-    fields::field_u32(s, col, tape)
+    let file_id = fields::field::<U32>(s, r, tape);
+    let line = fields::field::<U32>(s, file_id, tape);
+    let col = fields::field::<U32>(s, line, tape);
+    fields::field::<U32>(s, col, tape)
 }
 
 fn optional_span(s: &[u8], r: Step, tape: &mut [u32]) -> Step
     requires { Ready s.now r }
     ensures { Reader (optional span_format) s.now r tape.old result tape.new }
 {
-    let (n, d) = fields::number_bool(s, r?, tape)?;
+    let (n, d) = fields::number::<fields::Bool>(s, r?, tape)?;
     if n == 0 {
         return Ok(d);
     }
@@ -229,8 +231,8 @@ impl Entry for Frame {
     ghost again = { λ _. false };
 
     fn read(&self, s: &[u8], r: Step, tape: &mut [u32]) -> Step {
-        let parent = fields::field_u32(s, r, tape);
-        let function_id = fields::field_u32(s, parent, tape);
+        let parent = fields::field::<U32>(s, r, tape);
+        let function_id = fields::field::<U32>(s, parent, tape);
         optional_span(s, function_id, tape)
     }
 }
@@ -245,9 +247,9 @@ fn inline_frames(s: &[u8], set: &Settings, r: Step, tape: &mut [u32]) -> Step
         s,
         set,
         r?,
-        numbers::INLINE_FRAMES,
+        Context::InlineFrames,
         most,
-        sizes::INLINE_SOURCE_FRAME,
+        Size::InlineSourceFrame,
         tape,
     )?;
     lists::entries(s, Ok(d), n, &Frame, tape)
@@ -261,8 +263,8 @@ impl Entry for InlineEntry {
     ghost again = { λ _. false };
 
     fn read(&self, s: &[u8], r: Step, tape: &mut [u32]) -> Step {
-        let pc = fields::field_u32(s, r, tape);
-        fields::field_u32(s, pc, tape)
+        let pc = fields::field::<U32>(s, r, tape);
+        fields::field::<U32>(s, pc, tape)
     }
 }
 
@@ -272,14 +274,14 @@ fn inline_function(s: &[u8], set: &Settings, c: Cursor, left: u64, tape: &mut [u
     ensures { NumberOf (function_format (settings_of set.now) left) entries_of s.now c
         tape.old result tape.new }
 {
-    let (_, d) = fields::number_u32(s, c, tape)?;
+    let (_, d) = fields::number::<U32>(s, c, tape)?;
     let (n, e) = fields::number_debug_count(
         s,
         set,
         d,
-        numbers::INLINE_ENTRIES,
+        Context::InlineEntries,
         left,
-        sizes::INLINE_SOURCE_ENTRY,
+        Size::InlineSourceEntry,
         tape,
     )?;
     let g = lists::entries(s, Ok(e), n, &InlineEntry, tape)?;
@@ -298,9 +300,9 @@ fn inline_functions(s: &[u8], set: &Settings, r: Step, functions: u64, tape: &mu
         s,
         set,
         r?,
-        numbers::INLINE_FUNCTIONS,
+        Context::InlineFunctions,
         functions.min(all),
-        sizes::INLINE_FUNCTION_SOURCES,
+        Size::InlineFunctionSources,
         tape,
     )?;
     let mut here = d;

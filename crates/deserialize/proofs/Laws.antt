@@ -26,6 +26,7 @@ use Rattle.vob24_data.specs.declared.Section.{Section}
 use Rattle.in_place.specs.Walk.{list-off}
 use Rattle.reader.specs.Contract.{step_of, Ready, ReadyAt, Refuses, Reads, refuses, skips, Reader, ComesTo, ReadsOf, got, lost, NumberOf, On, Step, Read}
 use Rattle.reader.specs.Accepted.{Accepted}
+use Rattle.vob24_theorems.specs.RefusalNumbers.{sections-listed}
 use Rattle.reader.proofs.Accepting.{accepted-next, accepted-on, on-accepted, on-next}
 use Rattle.reader.proofs.Errors.{handed}
 use Rattle.reader.proofs.Laws.{seq-refuses, then_reads, field_then, at-refused, comes-not, comes_then, comes-next, comes-last}
@@ -80,15 +81,8 @@ pub lost-comes : {f : Format} (g : ℕ → Format) {s : List ℕ} {r : Step} {t 
 lost-comes g q e i = rw (handed q i, e) (comes-not refl)
 
 module _ {f : Format} (g : ℕ → Format) {s : List ℕ} {r : Step} {t t' : List ℕ} {q : Read ℕ} (k : ComesTo f (g (count_of q)) s r t (step_of q) t') where
-  pub number-got : {n : ℕ} {d : Cursor} → q ≡ Ok (n, d) → {r' : Step} {t'' : List ℕ} → Reader (g n) s (Ok d) t' r' t''
-      → Reader f s r t r' t''
-  number-got e m = comes_then (rw e at k) m
-
   pub number-lost : {x : Refusal} {r' : Step} → q ≡ Err x → IsErrAnd r' (λ y. y ≡ x) → Reader f s r t r' t'
   number-lost {r' = r'} e i = rw (handed r' i) (comes_then (rw e at k) (at-refused refl))
-
-  pub number-ready : {n : ℕ} {d : Cursor} → q ≡ Ok (n, d) → ReadyAt s d
-  number-ready e = rw e at k.ready
 
 -- ---- one section, by its name
 module _ (set : Settings) {x : Section} (y : Section) (e : x ≡ y) {s : List ℕ} {r : Step} where
@@ -130,7 +124,7 @@ module _ {set : Settings} {s : List ℕ} {r : Step} where
     here v q l o = rw (e.1, e.0, ← (section-first set (functions_before i v) all_sections i (omega arith))) (a.on v q l o)
 
     pub along-accepted : Accepted true (format_of set x) s r₁
-    along-accepted = let o = accepted-on a.accepted in on-accepted (here o.0 o.1 o.2 o.3)
+    along-accepted = let o = accepted-on (λ c e. record { number = λ w p l k. let z = sections-listed set s c.place c.left k in (z.least, omega (arith, z.most)) }) a.accepted in on-accepted (here o.0 o.1 o.2 o.3)
 
     pub along-more : {r₂ : Step} {t t' : List ℕ} → Reader (format_of set x) s r₁ t r₂ t' → Along set (i + 1) s r r₂
     along-more k = rw (add-one i) (record { on = λ v q l o. rw (← (after-second i v)) (on-next (here v q l o) k); accepted = a.accepted; ready = k.ready })

@@ -11,6 +11,7 @@ ghost use Rattle.reader.specs.Accepted.{Accepted};
 ghost use Rattle.deserialize.specs.Parts.{format_of, from_section, count_of};
 ghost use Rattle.deserialize.specs.Reach.{Reaches};
 
+use fields::U32;
 use reader::{Read, Step};
 use vob24_data::{Section, Settings};
 
@@ -36,9 +37,10 @@ fn after_functions(s: &[u8], set: &Settings, r: Step, functions: u64, tape: &mut
     ensures { Reader (from_section (settings_of set.now) functions vob.externs) s.now r
         tape.old result tape.new }
 {
+    // externs, entry, island_init
     let r1 = externs::externs(s, set, r, tape);
-    let r2 = small_sections::entry(s, r1, tape);
-    let r3 = small_sections::island_init(s, r2, tape);
+    let r2 = fields::field::<U32>(s, r1, tape);
+    let r3 = fields::field::<U32>(s, r2, tape);
     artifacts_on(s, set, r3, functions, tape)
 }
 
@@ -126,8 +128,8 @@ pub fn section(
         Section::Globals => small_sections::globals(s, set, r, tape),
         Section::Functions => functions::functions(s, set, r, tape),
         Section::Externs => externs::externs(s, set, r, tape),
-        Section::Entry => small_sections::entry(s, r, tape),
-        Section::IslandInit => small_sections::island_init(s, r, tape),
+        Section::Entry => fields::field::<U32>(s, r, tape),
+        Section::IslandInit => fields::field::<U32>(s, r, tape),
         Section::Artifacts => small_sections::artifacts(s, set, r, tape),
         Section::Files => debug_info::files(s, set, r, tape),
         Section::FunctionLocations => debug_info::function_locations(s, set, r, tape),

@@ -1,6 +1,7 @@
 // The calls for programs in C or Rust to link (rt lib in this folder): whole pack, sections, lookup, names alike and the
 // table of sizes, over the C ABI. The Rust has none of these; bindings/c/vob.h declares them. An answer is returned by value, so
 // a refusal changes no lent memory.
+// `as` stands between usize and u64, where Rust has no `From`.
 #![tactic(auto)]
 
 ghost use Rattle.std.specs.Prelude.{◌≡◌};

@@ -6,8 +6,8 @@ ghost use Rattle.vob24.specs.Settings.{settings_of};
 ghost use Rattle.reader.specs.Contract.{Ready, Reader};
 ghost use Rattle.externs.specs.Externs.{extern_list};
 
-use reader::{Step, numbers, sizes};
-use vob24_data::Settings;
+use reader::{Kind, Step};
+use vob24_data::{Settings, Size};
 
 // There is no extern: a pack that calls its host is refused, once its count is held against the bytes left and charged.
 pub fn externs(s: &[u8], set: &Settings, r: Step, tape: &mut [u32]) -> Step
@@ -15,9 +15,9 @@ pub fn externs(s: &[u8], set: &Settings, r: Step, tape: &mut [u32]) -> Step
     ensures { Reader (extern_list (settings_of set.now)) s.now r tape.old result
         tape.new }
 {
-    let (n, d) = fields::number_count(s, set, r?, sizes::EXTERN_DEF, tape)?;
+    let (n, d) = fields::number_count(s, set, r?, Size::ExternDef, tape)?;
     if n != 0 {
-        return Err(reader::refuse(d, numbers::HOST_CALLS, n));
+        return Err(reader::refuse(d, Kind::HostCalls, n));
     }
     Ok(d)
 }

@@ -4,13 +4,13 @@ use Rattle.std.specs.Result.{IsErrAnd}
 use Rattle.std.proofs.Common.{refl}
 use Rattle.format.specs.Format.{number, Leaf, Format, leaf}
 use Rattle.reader.specs.Contract.{Step, Read, ReadyAt, Reader, NumberOf, SpanOf, ReadsSpan, lost_span, takes, refuses}
-use Rattle.reader.specs.Leaves.{Answered, Denied, Answers, answered, denied, Spanned, Spans, spanned, unspanned}
+use Rattle.reader.specs.Leaves.{Answered, Denied, Answers, answered, denied, Spanned, Spans, spanned, unspanned, OneWord}
 use Rattle.reader.specs.declared.Cursor.{Cursor}
 use Rattle.reader.specs.declared.Refusal.{Refusal}
 use Rattle.reader.specs.declared.Span.{Span}
 use Rattle.reader.proofs.Errors.{handed}
 use Rattle.reader.proofs.Parts.{span_of}
-use Rattle.reader.proofs.Keeping.{denied-refuses, answered-takes, takes_number, refuses_number, takes_span, refuses_span, span-takes, span-wordy, wordy, OneWord, TwoWords}
+use Rattle.reader.proofs.Keeping.{denied-refuses, answered-takes, takes_number, refuses_number, takes_span, refuses_span, span-takes, span-wordy, wordy, TwoWords}
 use Rattle.fields.specs.Kept.{WordyRead, KeptRead, kept_number, unkept, SpanRead, KeptSpan, kept_part, unkept_part}
 
 module _ {l : Leaf} {s : List ℕ} {c : Cursor} (r : ReadyAt s c) where

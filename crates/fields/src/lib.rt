@@ -1,18 +1,27 @@
-// The field readers: a leaf, and its words on the tape. `number_` and `span_` readers start at a cursor and also return
-// the number, or the part of the pack, that they read; `field_` readers take the answer so far and give the next. Ports
-// the read_ functions of serialize.rs on one field.
+// The field readers: a leaf, and its words on the tape. `number` and `span` readers start at a cursor and also return the
+// number, or the part of the pack, that they read; `field` readers take the answer so far and give the next. Ports the
+// read_ functions of serialize.rs on one field.
+// `as` stands between usize and u64, where Rust has no `From`.
 #![tactic(auto)]
 
-ghost use Rattle.format.specs.Format.{number};
+ghost use Rattle.format.specs.Format.{number, leaf};
 ghost use Rattle.vob24.specs.Settings.{settings_of};
 ghost use Rattle.vob24.specs.Leaves.{u8, u16, u32, u64, optional_id, bool, slot_type, value_kind, direction, value_meta, value_rttid, source_u32, str, member_name, optional};
 ghost use Rattle.vob24.specs.Grammar.{assert_kind, magic, version};
+ghost use Rattle.vob24_data.specs.Sizes.{size_number};
+ghost use Rattle.reader.specs.Numbers.{context_number};
 ghost use Rattle.reader.specs.Contract.{Ready, ReadyAt, Reader, NumberOf, SpanOf};
 ghost use Rattle.fields.specs.Fields.{runtime_tag, constant_tag, select_tag, metadata_tagged, list_count, debug_count, artifact_count, method_count, artifact_name, artifact_payload};
 ghost use Rattle.fields.specs.Kept.{WordyRead, KeptRead, SpanRead, KeptSpan};
 
-use reader::{Cursor, Read, Span, Step, numbers};
-use vob24_data::Settings;
+mod words;
+
+use reader::{Context, Cursor, Read, Span, Step};
+use vob24_data::{Settings, Size};
+pub use words::{
+    AssertKind, Bool, ConstantTag, Direction, MetadataTag, RuntimeTag, SelectTag, SlotType,
+    SourceU32, U8, U16, U32, ValueKind, ValueMeta, ValueRttid, Word,
+};
 
 // The number's word, where there is a number.
 fn kept(q: Read<u64>, tape: &mut [u32]) -> Read<u64>
@@ -37,26 +46,12 @@ fn kept_span(q: Read<Span>, tape: &mut [u32]) -> Read<Span>
 
 // ---- numbers
 
-fn number_u8(s: &[u8], c: Cursor, tape: &mut [u32]) -> Read<u64>
+// A number of one word.
+pub fn number<W: Word>(s: &[u8], c: Cursor, tape: &mut [u32]) -> Read<u64>
     requires { ReadyAt s.now c }
-    ensures { NumberOf u8 number s.now c tape.old result tape.new }
+    ensures { NumberOf (leaf W.leaf) number s.now c tape.old result tape.new }
 {
-    kept(reader::read_u8(s, c), tape)
-}
-
-pub fn number_u16(s: &[u8], c: Cursor, tape: &mut [u32]) -> Read<u64>
-    requires { ReadyAt s.now c }
-    ensures { NumberOf u16 number s.now c tape.old result tape.new }
-{
-    kept(reader::read_u16(s, c), tape)
-}
-
-// Also an i32: a signed number is its bits.
-pub fn number_u32(s: &[u8], c: Cursor, tape: &mut [u32]) -> Read<u64>
-    requires { ReadyAt s.now c }
-    ensures { NumberOf u32 number s.now c tape.old result tape.new }
-{
-    kept(reader::read_u32(s, c), tape)
+    kept(W::read(s, c), tape)
 }
 
 // The low word, then the high.
@@ -83,132 +78,12 @@ pub fn number_optional_id(s: &[u8], c: Cursor, tape: &mut [u32]) -> Read<u64>
     Ok((n, reader::keep_pair(d, 1, n - 1, tape)))
 }
 
-pub fn number_bool(s: &[u8], c: Cursor, tape: &mut [u32]) -> Read<u64>
-    requires { ReadyAt s.now c }
-    ensures { NumberOf bool number s.now c tape.old result tape.new }
-{
-    kept(
-        number_leaves::read_small(s, c, 1, numbers::INVALID_BOOLEAN),
-        tape,
-    )
-}
+// ---- counts
 
-fn number_slot_type(s: &[u8], c: Cursor, tape: &mut [u32]) -> Read<u64>
+// The count of a list of entries, each of this size.
+pub fn number_count(s: &[u8], set: &Settings, c: Cursor, entry: Size, tape: &mut [u32]) -> Read<u64>
     requires { ReadyAt s.now c }
-    ensures { NumberOf slot_type number s.now c tape.old result tape.new }
-{
-    kept(
-        number_leaves::read_small(s, c, 5, numbers::INVALID_SLOT_TYPE),
-        tape,
-    )
-}
-
-pub fn number_value_kind(s: &[u8], c: Cursor, tape: &mut [u32]) -> Read<u64>
-    requires { ReadyAt s.now c }
-    ensures { NumberOf value_kind number s.now c tape.old result tape.new }
-{
-    kept(
-        number_leaves::read_small(s, c, 24, numbers::INVALID_VALUE_KIND),
-        tape,
-    )
-}
-
-pub fn number_direction(s: &[u8], c: Cursor, tape: &mut [u32]) -> Read<u64>
-    requires { ReadyAt s.now c }
-    ensures { NumberOf direction number s.now c tape.old result tape.new }
-{
-    kept(
-        number_leaves::read_small(s, c, 2, numbers::INVALID_CHAN_DIR),
-        tape,
-    )
-}
-
-fn number_value_meta(s: &[u8], c: Cursor, tape: &mut [u32]) -> Read<u64>
-    requires { ReadyAt s.now c }
-    ensures { NumberOf value_meta number s.now c tape.old result tape.new }
-{
-    kept(
-        number_leaves::read_packed_word(s, c, numbers::INVALID_PACKED_VALUE_META),
-        tape,
-    )
-}
-
-pub fn number_value_rttid(s: &[u8], c: Cursor, tape: &mut [u32]) -> Read<u64>
-    requires { ReadyAt s.now c }
-    ensures { NumberOf value_rttid number s.now c tape.old result tape.new }
-{
-    kept(
-        number_leaves::read_packed_word(s, c, numbers::INVALID_PACKED_VALUE_RTTID),
-        tape,
-    )
-}
-
-fn number_source_u32(s: &[u8], c: Cursor, tape: &mut [u32]) -> Read<u64>
-    requires { ReadyAt s.now c }
-    ensures { NumberOf source_u32 number s.now c tape.old result tape.new }
-{
-    kept(number_leaves::read_source_u32(s, c), tape)
-}
-
-// ---- tags and counts
-
-pub fn number_assert_kind(s: &[u8], c: Cursor, tape: &mut [u32]) -> Read<u64>
-    requires { ReadyAt s.now c }
-    ensures { NumberOf assert_kind number s.now c tape.old result tape.new }
-{
-    kept(
-        number_leaves::read_bare(s, c, 1, numbers::INVALID_INSTRUCTION_METADATA),
-        tape,
-    )
-}
-
-pub fn number_runtime_tag(s: &[u8], c: Cursor, tape: &mut [u32]) -> Read<u64>
-    requires { ReadyAt s.now c }
-    ensures { NumberOf runtime_tag number s.now c tape.old result tape.new }
-{
-    kept(
-        number_leaves::read_small(s, c, 12, numbers::INVALID_RUNTIME_TYPE),
-        tape,
-    )
-}
-
-pub fn number_constant_tag(s: &[u8], c: Cursor, tape: &mut [u32]) -> Read<u64>
-    requires { ReadyAt s.now c }
-    ensures { NumberOf constant_tag number s.now c tape.old result tape.new }
-{
-    kept(
-        number_leaves::read_bare(s, c, 4, numbers::INVALID_CONSTANT),
-        tape,
-    )
-}
-
-pub fn number_select_tag(s: &[u8], c: Cursor, tape: &mut [u32]) -> Read<u64>
-    requires { ReadyAt s.now c }
-    ensures { NumberOf select_tag number s.now c tape.old result tape.new }
-{
-    kept(
-        number_leaves::read_bare(s, c, 1, numbers::INVALID_INSTRUCTION_METADATA),
-        tape,
-    )
-}
-
-pub fn number_metadata_tag(s: &[u8], c: Cursor, tape: &mut [u32]) -> Read<u64>
-    requires { ReadyAt s.now c }
-    ensures { NumberOf metadata_tagged number s.now c tape.old result tape.new }
-{
-    kept(number_leaves::read_metadata_tag(s, c), tape)
-}
-
-// The count of a list of entries whose size is numbered `entry`, as reader::sizes has them.
-pub fn number_count(
-    s: &[u8],
-    set: &Settings,
-    c: Cursor,
-    entry: usize,
-    tape: &mut [u32],
-) -> Read<u64>
-    requires { ReadyAt s.now c }
-    ensures { NumberOf (list_count (settings_of set.now) entry) number s.now c tape.old result tape.new }
+    ensures { NumberOf (list_count (settings_of set.now) (size_number entry)) number s.now c tape.old result tape.new }
 {
     kept(length_leaves::read_count(s, set, c, entry), tape)
 }
@@ -217,13 +92,13 @@ pub fn number_debug_count(
     s: &[u8],
     set: &Settings,
     c: Cursor,
-    context: u64,
+    context: Context,
     most: u64,
-    entry: usize,
+    entry: Size,
     tape: &mut [u32],
 ) -> Read<u64>
     requires { ReadyAt s.now c }
-    ensures { NumberOf (debug_count (settings_of set.now) context most entry) number s.now c tape.old result tape.new }
+    ensures { NumberOf (debug_count (settings_of set.now) (context_number context) most (size_number entry)) number s.now c tape.old result tape.new }
 {
     kept(
         length_leaves::read_debug_count(s, set, c, context, most, entry),
@@ -247,27 +122,11 @@ pub fn number_method_count(s: &[u8], set: &Settings, c: Cursor, tape: &mut [u32]
 
 // ---- numbers, in the answer so far
 
-pub fn field_u8(s: &[u8], r: Step, tape: &mut [u32]) -> Step
+pub fn field<W: Word>(s: &[u8], r: Step, tape: &mut [u32]) -> Step
     requires { Ready s.now r }
-    ensures { Reader u8 s.now r tape.old result tape.new }
+    ensures { Reader (leaf W.leaf) s.now r tape.old result tape.new }
 {
-    let (_, d) = number_u8(s, r?, tape)?;
-    Ok(d)
-}
-
-pub fn field_u16(s: &[u8], r: Step, tape: &mut [u32]) -> Step
-    requires { Ready s.now r }
-    ensures { Reader u16 s.now r tape.old result tape.new }
-{
-    let (_, d) = number_u16(s, r?, tape)?;
-    Ok(d)
-}
-
-pub fn field_u32(s: &[u8], r: Step, tape: &mut [u32]) -> Step
-    requires { Ready s.now r }
-    ensures { Reader u32 s.now r tape.old result tape.new }
-{
-    let (_, d) = number_u32(s, r?, tape)?;
+    let (_, d) = number::<W>(s, r?, tape)?;
     Ok(d)
 }
 
@@ -279,56 +138,9 @@ pub fn field_optional_id(s: &[u8], r: Step, tape: &mut [u32]) -> Step
     Ok(d)
 }
 
-pub fn field_bool(s: &[u8], r: Step, tape: &mut [u32]) -> Step
-    requires { Ready s.now r }
-    ensures { Reader bool s.now r tape.old result tape.new }
-{
-    let (_, d) = number_bool(s, r?, tape)?;
-    Ok(d)
-}
-
-pub fn field_slot_type(s: &[u8], r: Step, tape: &mut [u32]) -> Step
-    requires { Ready s.now r }
-    ensures { Reader slot_type s.now r tape.old result tape.new }
-{
-    let (_, d) = number_slot_type(s, r?, tape)?;
-    Ok(d)
-}
-
-pub fn field_value_kind(s: &[u8], r: Step, tape: &mut [u32]) -> Step
-    requires { Ready s.now r }
-    ensures { Reader value_kind s.now r tape.old result tape.new }
-{
-    let (_, d) = number_value_kind(s, r?, tape)?;
-    Ok(d)
-}
-
-pub fn field_value_meta(s: &[u8], r: Step, tape: &mut [u32]) -> Step
-    requires { Ready s.now r }
-    ensures { Reader value_meta s.now r tape.old result tape.new }
-{
-    let (_, d) = number_value_meta(s, r?, tape)?;
-    Ok(d)
-}
-
-pub fn field_value_rttid(s: &[u8], r: Step, tape: &mut [u32]) -> Step
-    requires { Ready s.now r }
-    ensures { Reader value_rttid s.now r tape.old result tape.new }
-{
-    let (_, d) = number_value_rttid(s, r?, tape)?;
-    Ok(d)
-}
-
-pub fn field_source_u32(s: &[u8], r: Step, tape: &mut [u32]) -> Step
-    requires { Ready s.now r }
-    ensures { Reader source_u32 s.now r tape.old result tape.new }
-{
-    let (_, d) = number_source_u32(s, r?, tape)?;
-    Ok(d)
-}
-
 // ---- texts and payloads
 
+// Inlined for speed, as measured: docs/CHANGES.md, "The design pass".
 #[inline(always)]
 pub fn span_str(s: &[u8], c: Cursor, tape: &mut [u32]) -> Read<Span>
     requires { ReadyAt s.now c }
@@ -358,7 +170,7 @@ pub fn field_optional_str(s: &[u8], r: Step, tape: &mut [u32]) -> Step
     requires { Ready s.now r }
     ensures { Reader (optional str) s.now r tape.old result tape.new }
 {
-    let (n, d) = number_bool(s, r?, tape)?;
+    let (n, d) = number::<Bool>(s, r?, tape)?;
     if n == 0 {
         return Ok(d);
     }
@@ -371,7 +183,7 @@ pub fn field_artifact_name(s: &[u8], set: &Settings, r: Step, tape: &mut [u32]) 
         tape.new }
 {
     let most = vob24_data::artifact_name_bytes(set);
-    let (text, d) = length_leaves::read_artifact_string(s, r?, numbers::ARTIFACT_NAME, most)?;
+    let (text, d) = length_leaves::read_artifact_string(s, r?, Context::ArtifactName, most)?;
     let (_, e) = kept_span(Ok((text.span, d)), tape)?;
     Ok(e)
 }
@@ -382,7 +194,7 @@ pub fn field_artifact_payload(s: &[u8], set: &Settings, r: Step, tape: &mut [u32
         tape.new }
 {
     let most = vob24_data::artifact_payload_bytes(set);
-    let payload = length_leaves::read_artifact_bytes(s, r?, numbers::ARTIFACT_PAYLOAD, most);
+    let payload = length_leaves::read_artifact_bytes(s, r?, Context::ArtifactPayload, most);
     let (_, d) = kept_span(payload, tape)?;
     Ok(d)
 }

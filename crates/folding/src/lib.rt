@@ -60,7 +60,7 @@ pub fn fold_at(s: &[u8], at: usize, end: usize) -> Option<Letter>
     if !ends(last) {
         return None;
     }
-    let entry = DECOMPOSED[(lead as usize - 195) * 64 + (last as usize - 128)];
+    let entry = DECOMPOSED[(usize::from(lead) - 195) * 64 + (usize::from(last) - 128)];
     if entry == 0 {
         return None;
     }
@@ -180,6 +180,7 @@ pub fn same_folded(s: &[u8], a: usize, m: usize, b: usize, n: usize) -> bool
         at: b + k,
         end: b + n,
     };
+    // Letters of two names, taken until one name ends: no count does.
     while let Some((x, fore)) = left.next(s) {
         let Some((y, back)) = right.next(s) else {
             return false;

@@ -4,11 +4,7 @@ use Rattle.format.specs.Format.{counted, Format, seq}
 use Rattle.vob24.specs.Refusals.{capture_meta, parameter_meta}
 use Rattle.vob24.specs.Settings as of
 use Rattle.vob24.specs.Settings.{Settings}
-use Rattle.vob24.specs.Leaves.{u16}
 use Rattle.vob24.specs.Grammar as vob
-
-abbrev pub heap_slots : Settings → Format
-heap_slots set = vob.list set of.U16 u16
 
 abbrev pub code_format : Settings → Format
 code_format set = vob.code set

@@ -7,11 +7,12 @@ ghost use Rattle.std.specs.Prelude.{Bool, false, ◌<◌};
 ghost use Rattle.vob24.specs.Settings.{settings_of};
 ghost use Rattle.format.specs.Format.{counted};
 ghost use Rattle.reader.specs.Contract.{Ready, ReadyAt, Reader, NumberOf};
-ghost use Rattle.functions.specs.Formats.{heap_slots, code_format, transfer_format, transfer_types, function_head, function_returns, function_traits, function_body, function_slots, function_format, function_list};
+ghost use Rattle.functions.specs.Formats.{code_format, transfer_format, transfer_types, function_head, function_returns, function_traits, function_body, function_slots, function_format, function_list};
 
+use fields::{U16, U32};
 use lists::Entry;
-use reader::{Cursor, Read, Refusal, Step, numbers, sizes};
-use vob24_data::Settings;
+use reader::{Cursor, Kind, Part, Read, Refusal, Step};
+use vob24_data::{Settings, Size};
 
 // ---- code
 
@@ -24,7 +25,7 @@ fn code(s: &[u8], set: &Settings, r: Step, tape: &mut [u32]) -> Step
     let (instructions, d) = instruction::number_instructions(s, set, r?, tape)?;
     let (metadata, e) = metadata::number_instruction_metadata(s, set, d, tape)?;
     if metadata != instructions {
-        return Err(reader::refuse(e, numbers::INVALID_INSTRUCTION_METADATA, 0));
+        return Err(reader::refuse(e, Kind::InvalidInstructionMetadata, 0));
     }
     Ok(e)
 }
@@ -40,13 +41,14 @@ impl Entry for TransferType {
 
     // meta_raw, rttid_raw, slots
     fn read(&self, s: &[u8], r: Step, tape: &mut [u32]) -> Step {
-        let meta = fields::field_u32(s, r, tape);
-        let rttid = fields::field_u32(s, meta, tape);
-        fields::field_u16(s, rttid, tape)
+        let meta = fields::field::<U32>(s, r, tape);
+        let rttid = fields::field::<U32>(s, meta, tape);
+        fields::field::<U16>(s, rttid, tape)
     }
 }
 
-// Captures or parameters; context is that of the meta word.
+// Captures or parameters; context is that of the meta word. Inlined for speed, as measured: docs/CHANGES.md, "The design
+// pass".
 #[inline(always)]
 fn transfer_types(s: &[u8], set: &Settings, r: Step, context: u64, tape: &mut [u32]) -> Step
     requires ready { Ready s.now r }
@@ -54,7 +56,7 @@ fn transfer_types(s: &[u8], set: &Settings, r: Step, context: u64, tape: &mut [u
     ensures { Reader (transfer_types (settings_of set.now) context) s.now r tape.old result
         tape.new }
 {
-    let list = lists::read_list(s, set, r, sizes::TRANSFER_TYPE, &TransferType, tape);
+    let list = lists::read_list(s, set, r, Size::TransferType, &TransferType, tape);
     transfers::transfer_words(s, context, r, list)
 }
 
@@ -66,17 +68,8 @@ fn function_head(s: &[u8], r: Step, tape: &mut [u32]) -> Step
     ensures { Reader function_head s.now r tape.old result tape.new }
 {
     let name = fields::field_str(s, r, tape);
-    let param_count = fields::field_u16(s, name, tape);
-    fields::field_u16(s, param_count, tape)
-}
-
-fn heap_ret_slots(s: &[u8], set: &Settings, r: Step, tape: &mut [u32]) -> Step
-    requires { Ready s.now r }
-    ensures { Reader (heap_slots (settings_of set.now)) s.now r tape.old result
-        tape.new }
-{
-    let (n, d) = fields::number_count(s, set, r?, sizes::U16, tape)?;
-    lists::u16s(s, d, n, tape)
+    let param_count = fields::field::<U16>(s, name, tape);
+    fields::field::<U16>(s, param_count, tape)
 }
 
 // ret_slots, ret_slot_types, recv_slots, heap_ret_gcref_count, heap_ret_gcref_start, heap_ret_slots
@@ -85,12 +78,12 @@ fn function_returns(s: &[u8], set: &Settings, r: Step, tape: &mut [u32]) -> Step
     ensures { Reader (function_returns (settings_of set.now)) s.now r tape.old result
         tape.new }
 {
-    let ret_slots = fields::field_u16(s, r, tape);
+    let ret_slots = fields::field::<U16>(s, r, tape);
     let ret_slot_types = slots::slot_types(s, set, ret_slots, tape);
-    let recv_slots = fields::field_u16(s, ret_slot_types, tape);
-    let gcref_count = fields::field_u16(s, recv_slots, tape);
-    let gcref_start = fields::field_u16(s, gcref_count, tape);
-    heap_ret_slots(s, set, gcref_start, tape)
+    let recv_slots = fields::field::<U16>(s, ret_slot_types, tape);
+    let gcref_count = fields::field::<U16>(s, recv_slots, tape);
+    let gcref_start = fields::field::<U16>(s, gcref_count, tape);
+    lists::read_list(s, set, gcref_start, Size::U16, &U16, tape)
 }
 
 // is_closure, error_ret_slot, has_defer
@@ -98,9 +91,9 @@ fn function_traits(s: &[u8], r: Step, tape: &mut [u32]) -> Step
     requires { Ready s.now r }
     ensures { Reader function_traits s.now r tape.old result tape.new }
 {
-    let is_closure = fields::field_bool(s, r, tape);
-    let error_ret_slot = fields::field_u32(s, is_closure, tape);
-    fields::field_bool(s, error_ret_slot, tape)
+    let is_closure = fields::field::<fields::Bool>(s, r, tape);
+    let error_ret_slot = fields::field::<U32>(s, is_closure, tape);
+    fields::field::<fields::Bool>(s, error_ret_slot, tape)
 }
 
 // code, instruction_metadata, capture_types, capture_slot_types, param_types; then 20 unless there are as many slot
@@ -118,14 +111,14 @@ fn function_body(
         tape.old result tape.new }
 {
     let code = code(s, set, r, tape);
-    let captures = transfer_types(s, set, code, numbers::CAPTURE_META, tape);
+    let captures = transfer_types(s, set, code, Part::CaptureMeta as u64, tape);
     let capture_slot_types = slots::slot_types(s, set, captures, tape);
-    let params = transfer_types(s, set, capture_slot_types, numbers::PARAMETER_META, tape);
+    let params = transfer_types(s, set, capture_slot_types, Part::ParameterMeta as u64, tape);
     let c = params?;
     if types != locals {
         return Err(Refusal {
-            number: numbers::INVALID_FUNCTION_METADATA,
-            context: numbers::SLOT_COUNT,
+            kind: Kind::InvalidFunctionMetadata,
+            context: Part::SlotCount as u64,
             detail1: types,
             detail2: locals,
             place: c.place,
@@ -158,7 +151,7 @@ impl Entry for Function<'_> {
     // local_slots comes after the head
     fn read(&self, s: &[u8], r: Step, tape: &mut [u32]) -> Step {
         let head = function_head(s, r, tape);
-        let (locals, d) = fields::number_u16(s, head?, tape)?;
+        let (locals, d) = fields::number::<U16>(s, head?, tape)?;
         let returns = function_returns(s, self.set, Ok(d), tape);
         let traits = function_traits(s, returns, tape);
         function_slots(s, self.set, traits, locals, tape)
@@ -171,7 +164,7 @@ pub fn number_functions(s: &[u8], set: &Settings, c: Cursor, tape: &mut [u32]) -
     ensures { NumberOf (function_list (settings_of set.now)) counted s.now c
         tape.old result tape.new }
 {
-    lists::number_list(s, set, c, sizes::FUNCTION_DEF, &Function { set }, tape)
+    lists::number_list(s, set, c, Size::FunctionDef, &Function { set }, tape)
 }
 
 pub fn functions(s: &[u8], set: &Settings, r: Step, tape: &mut [u32]) -> Step

@@ -51,10 +51,8 @@ module _ {f : Format} {ask : List Value → Value → List Ask} {s : List ℕ} {
   unfolding over
   asking-done {p} {i} {c} h l = l.leads (Ok c) (rw (items-none f (n - i) s p (omega arith)) asks_none)
 
-pub ruleset asking = (asking-start, asking-here, asking-more, asking-not, asking-done)
-
 pub apart : {X : Type 0} {r : Step} {c : Cursor} {x : Refusal} → r ≡ Ok c → r ≡ Err x → X
-apart e i = let z : ◌≡◌ {A = ℕ} 0 1 = cc in absurd (omega arith)
+apart e i = absurd (cc)
 
 -- the refusal of some questions is handed on
 pub asks-up : {l : List Ask} {c : Cursor} {p q : Step} {x : Refusal} → p ≡ Err x → IsErrAnd q (λ y. y ≡ x) → Asks l c p → Asks l c q

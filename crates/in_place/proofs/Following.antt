@@ -1,7 +1,7 @@
 -- The laws by which a section's reader asks: on a list that it has read, and on two lists.
 use Rattle.std.proofs.Common.{ℕ, ◌+◌, ◌≤◌, ◌≡◌, refl, ◌∙◌, List, length, Ok, Err}
 use Rattle.format.specs.Trace.{Ends}
-use Rattle.format.specs.Format.{Value, number, Rule, count, ask, Ask, Format, leaf, seq, ◌▸◌, times, entries}
+use Rattle.format.specs.Format.{Value, Rule, ask, Ask, Format, leaf, seq, ◌▸◌, entries}
 use Rattle.format.specs.Reading.{little, part, trace}
 use Rattle.reader.specs.Contract.{Ready, Reads, takes, refuses, skips, Reader, Asks, Follows, Step}
 use Rattle.reader.specs.declared.Cursor.{Cursor}
@@ -11,10 +11,7 @@ use Rattle.reader.proofs.Asks.{asks-reads, behind, follow_then}
 use Rattle.in_place.specs.Walk.{AllStand, items_at, list-off}
 use Rattle.in_place.specs.Contract.{ListBehind, ListAsked}
 use Rattle.in_place.proofs.Asking.{apart}
-
--- a counted list
-abbrev listing : Rule → ℕ → ℕ → ℕ → Format → Format
-listing ρ m k z f = seq (leaf (count ρ m k z)) (λ n. times f (number n))
+use Rattle.in_place.proofs.Lists.{listing}
 
 module _ {ρ : Rule} {m k z : ℕ} {f : Format} {s : List ℕ} where
   -- the list, the reading having gone on to r₂
@@ -55,7 +52,7 @@ reads-ready h (refuses a) = tt
 reads-ready h skips = tt
 
 -- what goes on was not refused before
-was-taken : {f : Format} {s : List ℕ} {r q : Step} {t t₁ : List ℕ} → Reads f s r t q t₁ → (d : Cursor) → q ≡ Ok d
+pub was-taken : {f : Format} {s : List ℕ} {r q : Step} {t t₁ : List ℕ} → Reads f s r t q t₁ → (d : Cursor) → q ≡ Ok d
     → (c : Cursor) × (r ≡ Ok c)
 was-taken (takes {c = c} a) d e = (c, refl)
 was-taken (refuses {c = c} a) d e = (c, refl)

@@ -3,4 +3,5 @@ pub mod Places
 pub mod Walking
 pub mod Keys
 pub mod Asking
+pub mod Lists
 pub mod Following

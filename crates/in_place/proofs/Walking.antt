@@ -1,5 +1,5 @@
 -- The laws of walks over items.
-use Rattle.std.proofs.Common.{ℕ, ◌+◌, ◌-◌, ◌<◌, ◌≡◌, ap, sym, ◌∙◌, List, ◌∷◌, arith, add-one}
+use Rattle.std.proofs.Common.{ℕ, suc, zero, ◌+◌, ◌-◌, ◌≤◌, ◌<◌, ◌≡◌, refl, ap, sym, ◌∙◌, List, ◌∷◌, arith, add-one}
 use Rattle.format.specs.Format.{Format}
 use Rattle.in_place.specs.Walk.{Stands, value_at, next_at, items_at, last_at, items_more, items-nil, stand-more, stand-snoc, last_snoc}
 use Rattle.in_place.specs.Contract.{Placed, Past, Items, After}
@@ -45,3 +45,37 @@ module _ {f : Format} {s : List ℕ} {from n : ℕ} where
           here = w.is ∙ ap (next_at f s) l.here ∙ sym (last_snoc f i s from) ∙ ap (λ m. last_at f m s from) (sym (add-one i));
           after = rw k at (items-next {k = n - i} (omega arith) l.after w);
         }
+
+-- ---- a walk past items up to the place `end`, with k to go
+
+pub record Leaving (f : Format) (s : List ℕ) (end p k : ℕ) : Type 0 where
+  pub items : Items f k s p
+  pub last : end ≡ last_at f k s p
+
+last_more : (f : Format) (k : ℕ) (s : List ℕ) (p : ℕ) → 0 < k → last_at f k s p ≡ last_at f (k - 1) s (next_at f s p)
+unfolding last_at
+last_more f zero s p h = absurd (omega arith)
+last_more f (suc k) s p h = let e : suc k - 1 ≡ k = omega arith in rw e
+
+last_none : (f : Format) (k : ℕ) (s : List ℕ) (p : ℕ) → k ≤ 0 → last_at f k s p ≡ p
+unfolding last_at
+last_none f zero s p h = refl
+last_none f (suc k) s p h = absurd (omega arith)
+
+pub leaving-items : {f : Format} {s : List ℕ} {p n : ℕ} → Items f n s p → Leaving f s (last_at f n s p) p (n - 0)
+leaving-items {n = n} h = let e : n - 0 ≡ n = omega arith in record { items = rw e h; last = rw e }
+
+-- of n items, i are passed
+module _ {f : Format} {s : List ℕ} {end p n i : ℕ} (l : Leaving f s end p (n - i)) where
+  module _ (h : i < n) where
+    pub leaving-here : Placed f s p
+    leaving-here = items-here (omega arith) l.items
+
+    pub leaving-more : {q : ℕ} → Past f s p q → Leaving f s end q (n - (i + 1))
+    leaving-more w =
+        let m : 0 < n - i = omega arith in
+        let e : n - i - 1 ≡ n - (i + 1) = omega arith in
+        rw (← e) (record { items = items-next m l.items w; last = l.last ∙ last_more f (n - i) s p m ∙ rw w.is })
+
+  pub leaving-done : n ≤ i → p ≡ end
+  leaving-done h = sym (l.last ∙ last_none f (n - i) s p (omega arith))

@@ -10,7 +10,7 @@ use Rattle.reader.specs.Contract.{Ready, Asks, Step}
 use Rattle.reader.specs.declared.Cursor.{Cursor}
 use Rattle.reader.specs.declared.Refusal.{Refusal}
 use Rattle.in_place.specs.declared.Table.{Table}
-use Rattle.in_place.specs.Walk.{Stands, AllStand, value_at, next_at, items_at}
+use Rattle.in_place.specs.Walk.{Stands, AllStand, value_at, next_at, items_at, last_at}
 use Rattle.in_place.specs.Items.{text_at, end_of, package_at}
 use Rattle.in_place.specs.Tables.{format_in, key_of, key_text, package_text}
 
@@ -54,6 +54,10 @@ pub record PackageIs (s : List ℕ) (p q : ℕ) : Type 0 where
 pub record Items (f : Format) (n : ℕ) (s : List ℕ) (p : ℕ) : Type 0 where
   pub small : length s ≤ max_pack_bytes
   pub all : AllStand f n s p
+
+-- q is the place past them.
+pub record PastItems (f : Format) (n : ℕ) (s : List ℕ) (p q : ℕ) : Type 0 where
+  pub is : q ≡ last_at f n s p
 
 -- An item at p after n others.
 pub record After (f : Format) (s : List ℕ) (from n p : ℕ) : Type 0 where

@@ -2,6 +2,7 @@
 // have the same key.
 // Ports the comparisons behind the maps and sets of serialize.rs. There is no heap: names are compared where they
 // stand.
+// `as` stands between u32 and usize, where Rust has no `From`.
 #![tactic(auto)]
 
 ghost use Rattle.std.specs.Prelude.{◌≡◌, ◌+◌, ◌≤◌, ◌<◌, length};
@@ -9,7 +10,7 @@ ghost use Rattle.vob24.specs.Leaves.{str, optional};
 ghost use Rattle.vob24.specs.Grammar.{runtime_field};
 ghost use Rattle.in_place.specs.Items.{format_of, text_at};
 ghost use Rattle.in_place.specs.Tables.{item_of, format_in};
-ghost use Rattle.in_place.specs.Contract.{TextAt, WordIs, EndIs, SameText, SameFolded, SameName, BlankIs, Placed, Past, PackageIs, After, TwoPlaced, SamePackage, SameKey, Seen};
+ghost use Rattle.in_place.specs.Contract.{TextAt, WordIs, EndIs, SameText, SameFolded, SameName, BlankIs, Placed, Past, PackageIs, Items, PastItems, After, TwoPlaced, SamePackage, SameKey, Seen};
 
 // The items that have a name; it is the first field of each.
 #[derive(Clone, Copy)]
@@ -111,8 +112,20 @@ pub fn past(s: &[u8], item: Item, p: usize) -> usize
     }
 }
 
+// The place past n items from `from` on.
+pub fn past_items(s: &[u8], item: Item, from: usize, n: usize) -> usize
+    requires { Items (format_of item) n s.now from }
+    ensures { PastItems (format_of item) n s.now from result }
+{
+    let mut p = from;
+    for _ in 0..n {
+        p = past(s, item, p);
+    }
+    p
+}
+
 // What the items of a table are.
-fn item_of(table: Table) -> Item
+pub fn item_of(table: Table) -> Item
     ensures { result ≡ item_of table }
 {
     match table {

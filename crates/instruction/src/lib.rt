@@ -3,14 +3,15 @@
 #![tactic(auto)]
 
 ghost use Rattle.vob24.specs.Settings.{settings_of};
-ghost use Rattle.std.specs.Prelude.{ℕ, List, Bool, false};
+ghost use Rattle.std.specs.Prelude.{false};
 ghost use Rattle.format.specs.Format.{counted};
-ghost use Rattle.reader.specs.Contract.{Ready, ReadyAt, Reader, NumberOf};
+ghost use Rattle.reader.specs.Contract.{ReadyAt, NumberOf};
 ghost use Rattle.instruction.specs.Formats.{instruction_format, instruction_widths, sized_instruction, flat_instruction, instruction_list};
 
-use lists::{Entry, Fixed, Run};
-use reader::{Cursor, Read, Step, sizes};
-use vob24_data::Settings;
+use fields::{U8, U16};
+use lists::{Entry, Fixed, Rest};
+use reader::{Cursor, Read, Step};
+use vob24_data::{Settings, Size};
 
 struct Instruction;
 
@@ -21,15 +22,21 @@ impl Entry for Instruction {
 
     // op, flags, a, b, c
     fn read(&self, s: &[u8], r: Step, tape: &mut [u32]) -> Step {
-        let op = fields::field_u8(s, r, tape);
-        let flags = fields::field_u8(s, op, tape);
-        let a = fields::field_u16(s, flags, tape);
-        let b = fields::field_u16(s, a, tape);
-        fields::field_u16(s, b, tape)
+        let op = fields::field::<U8>(s, r, tape);
+        let flags = fields::field::<U8>(s, op, tape);
+        let a = fields::field::<U16>(s, flags, tape);
+        let b = fields::field::<U16>(s, a, tape);
+        fields::field::<U16>(s, b, tape)
+    }
+
+    fn run(&self, s: &[u8], c: Cursor, n: u64, tape: &mut [u32]) -> Rest {
+        lists::copied_run(s, c, n, self, tape)
     }
 }
 
 impl Fixed for Instruction {
+    ghost form = { λ _. instruction_format };
+
     ghost widths = { λ _. instruction_widths };
 
     const BYTES: usize = 8;
@@ -42,17 +49,15 @@ impl Fixed for Instruction {
 
     ghost sized = { λ _. sized_instruction };
 
+    ghost flat = { λ _. flat_instruction };
+
     fn put(&self, s: &[u8], p: usize, tape: &mut [u32], at: usize) {
-        tape[at] = lists::wide(s[p]);
-        tape[at + 1] = lists::wide(s[p + 1]);
+        tape[at] = u32::from(s[p]);
+        tape[at + 1] = u32::from(s[p + 1]);
         tape[at + 2] = lists::half(s, p + 2);
         tape[at + 3] = lists::half(s, p + 4);
         tape[at + 4] = lists::half(s, p + 6);
     }
-}
-
-impl Run for Instruction {
-    ghost flat = { λ _. flat_instruction };
 }
 
 // Also returns the count.
@@ -60,7 +65,5 @@ pub fn number_instructions(s: &[u8], set: &Settings, c: Cursor, tape: &mut [u32]
     requires { ReadyAt s.now c }
     ensures { NumberOf (instruction_list (settings_of set.now)) counted s.now c tape.old result tape.new }
 {
-    let (n, d) = fields::number_count(s, set, c, sizes::INSTRUCTION, tape)?;
-    let e = lists::run_entries(s, d, n, &Instruction, tape)?;
-    Ok((n, e))
+    lists::number_list(s, set, c, Size::Instruction, &Instruction, tape)
 }

@@ -9,10 +9,11 @@ ghost use Rattle.reader.specs.Contract.{Ready, Reader};
 ghost use Rattle.reader.specs.Accepted.{Accepted};
 ghost use Rattle.interfaces.specs.Interfaces.{method_format, interface_format, interface_list};
 
-use in_place::Item;
+use fields::U32;
+use in_place::{Item, Table};
 use lists::Entry;
-use reader::{Step, sizes};
-use vob24_data::Settings;
+use reader::Step;
+use vob24_data::{Settings, Size};
 
 struct Name;
 
@@ -35,7 +36,7 @@ impl Entry for Method {
 
     fn read(&self, s: &[u8], r: Step, tape: &mut [u32]) -> Step {
         let name = fields::field_member_name(s, r, tape);
-        fields::field_u32(s, name, tape)
+        fields::field::<U32>(s, name, tape)
     }
 }
 
@@ -54,10 +55,12 @@ impl Entry for Interface<'_> {
     fn read(&self, s: &[u8], r: Step, tape: &mut [u32]) -> Step {
         let set = self.set;
         let name = fields::field_str(s, r, tape);
-        let names = lists::read_list(s, set, name, sizes::STRING, &Name, tape);
-        let methods = lists::read_list(s, set, names, sizes::INTERFACE_METHOD_META, &Method, tape);
-        let unique = unique_names::method_set(s, set, Item::Name, name, methods, self.again);
-        unique_names::method_set(s, set, Item::InterfaceMethod, names, unique, self.again)
+        let names = lists::read_list(s, set, name, Size::String, &Name, tape);
+        let methods = lists::read_list(s, set, names, Size::InterfaceMethodMeta, &Method, tape);
+        let named = Table::Methods(Item::Name);
+        let unique = unique_names::asked(s, set, named, name, methods, self.again);
+        let typed = Table::Methods(Item::InterfaceMethod);
+        unique_names::asked(s, set, typed, names, unique, self.again)
     }
 }
 
@@ -70,7 +73,7 @@ pub fn interfaces(s: &[u8], set: &Settings, r: Step, again: bool, tape: &mut [u3
         s,
         set,
         r,
-        sizes::INTERFACE_META,
+        Size::InterfaceMeta,
         &Interface { set, again },
         tape,
     )

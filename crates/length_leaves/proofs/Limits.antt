@@ -4,9 +4,10 @@ use Prim.Native.Nat.{ℕ, ◌≤◌, ◌<◌}
 use mathlib.Core.Path.{◌≡◌}
 use mathlib.Core.List.{List}
 use borrow.Author.Tests.{le-leb, lt-leb}
+use Rattle.format.specs.Trace.{refused}
 use Rattle.format.specs.Format.{count}
 use Rattle.vob24.specs.Leaves.{limit}
-use Rattle.reader.specs.Contract.{refusal, Read}
+use Rattle.reader.specs.Contract.{told, Read}
 use Rattle.reader.specs.Leaves.{Fetches, Counted, Answers}
 use Rattle.reader.specs.declared.Cursor.{Cursor}
 use Rattle.reader.specs.declared.Refusal.{Refusal}
@@ -17,6 +18,6 @@ module _ {e x m m' l k z : ℕ} {s : List ℕ} {c d : Cursor} {q : Read ℕ} {n 
       → Answers (count (limit e x m) l k z) s c p
   limit-kept a b t = rw (← j) (count-size i h (le-leb _ _ a) b t)
 
-  pub limit-over : {y : Refusal} → m' < n → y ≡ refusal ((limit e x m').why n) d.place d.left
+  pub limit-over : {y : Refusal} → m' < n → told y ≡ refused ((limit e x m').why n) d.place d.left
       → Answers (count (limit e x m) l k z) s c (Err y)
   limit-over a b = rw (← j) (count_no i h (lt-leb _ _ a) b)

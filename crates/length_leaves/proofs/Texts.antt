@@ -9,13 +9,13 @@ use mathlib.Core.Bool.{Bool, true, false}
 use native.Mathlib.Omega.{arith}
 use lib.Dec.{leb}
 use lib.ListN.{length, take, drop}
-use Rattle.format.specs.Trace.{wrong, unexpected_eof, invalid_utf8, Trace, end, charge, needs, bind, guard, settle}
+use Rattle.format.specs.Trace.{wrong, refused, unexpected_eof, invalid_utf8, Trace, end, charge, needs, bind, guard, settle}
 use Rattle.format.specs.Format.{Value, text, content, Rule, string, payload}
 use Rattle.format.specs.Reading.{little, part, room, field, trace_leaf}
 use Rattle.format.specs.SettleTheorems.{then_s, settle-bind}
 use Rattle.vob24.specs.Utf8.{ill_formed, characters, scan, well_formed, is_text}
 use Rattle.utf8.specs.Answers.{scan_of, Tries}
-use Rattle.reader.specs.Contract.{refusal, Read, span_at, text_at}
+use Rattle.reader.specs.Contract.{told, Read, span_at, text_at}
 use Rattle.reader.specs.Leaves.{Denied, Spanned, Spans, spanned, unspanned, Texts, written, unwritten, Checked, formed, malformed}
 use Rattle.reader.specs.declared.Cursor.{Cursor}
 use Rattle.reader.specs.declared.Refusal.{Refusal}
@@ -63,8 +63,8 @@ module _ (ρ : Rule) (k : ℕ) {s : List ℕ} {c : Cursor} where
     text-formed e = record { settles = text-leads ∙ guard-yes d.left _ _ _ (ap is_text e); room = h.room; stays = h.stays }
 
     text-malformed : scan (part s p n) ≡ ill_formed
-        → Denied (string ρ k well_formed) s c (refusal (wrong invalid_utf8 0) d.place d.left)
-    text-malformed e = record { settles = text-leads ∙ guard-no d.left _ _ _ (ap is_text e) }
+        → {x : Refusal} → told x ≡ refused (wrong invalid_utf8 0) d.place d.left → Denied (string ρ k well_formed) s c x
+    text-malformed e i = record { settles = text-leads ∙ guard-no d.left _ _ _ (ap is_text e) ∙ sym i }
 
 pub text-then : {ρ : Rule} {k : ℕ} {s : List ℕ} {c : Cursor} {q : Read Span} {t : Read Text} → Spans (payload ρ k) s c q
     → Checked s q t → Texts (string ρ k well_formed) s c t
@@ -73,7 +73,7 @@ text-then {ρ} {k} {s} {c} (spanned h) y = go h y
     go : {p n : ℕ} {d : Cursor} {t : Read Text} → Spanned (payload ρ k) s c p n d → Checked s (Ok (span_at p n, d)) t
         → Texts (string ρ k well_formed) s c t
     go h (formed e) = written (text-formed ρ k h e) e
-    go h (malformed e w) = rw w (unwritten (text-malformed ρ k h e))
+    go h (malformed e w) = unwritten (text-malformed ρ k h e w)
 text-then {ρ} {k} {s} {c} (unspanned h) y = elim y [ ]
 
 pub text-not : {ρ : Rule} {k : ℕ} {s : List ℕ} {c : Cursor} {q : Read Span} {t : Read Text} {x : Refusal} → q ≡ Err x
@@ -114,7 +114,7 @@ module _ {s : List ℕ} {p : Span} {d : Cursor} (j : p.start + p.length ≤ leng
   checked-got i h = formed (ap scan (sym (up-to s p.start p.length j)) ∙ sym h ∙ ap scan_of i)
 
   pub checked-not : {w : Option ℕ} {x : Refusal} → w ≡ None → scan_of w ≡ scan (up_to s p.start p.length)
-      → x ≡ refusal (wrong invalid_utf8 0) d.place d.left → Checked s (Ok (p, d)) (Err x)
+      → told x ≡ refused (wrong invalid_utf8 0) d.place d.left → Checked s (Ok (p, d)) (Err x)
   checked-not i h y = malformed (ap scan (sym (up-to s p.start p.length j)) ∙ sym h ∙ ap scan_of i) y
 
   pub checked-tried : {w : Option ℕ} {m : ℕ} → w ≡ Some m → Tries (up_to s p.start p.length) w

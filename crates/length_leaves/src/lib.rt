@@ -1,28 +1,32 @@
 // Leaves with a length or a count: payloads, texts, and the counts of lists, each with the bytes left and the charge.
 // Ports read_bytes, read_string and, for the counts, what read_vec, read_debug_vec and their kin of `impl ByteReader`
 // in serialize.rs ask before the first item.
+// `as` stands between usize and u64, where Rust has no `From`.
 #![tactic(auto)]
 
 ghost use Rattle.std.specs.Prelude.{◌≡◌, ◌+◌, ◌≤◌, length as length_of};
+ghost use Rattle.format.specs.Trace.{refused};
 ghost use Rattle.format.specs.Format.{Leaf};
 ghost use Rattle.vob24.specs.Refusals;
 ghost use Rattle.vob24.specs.Settings.{settings_of, size_of, ModuleArtifact};
 ghost use Rattle.vob24.specs.Utf8.{well_formed};
 ghost use Rattle.vob24.specs.Leaves.{free, limit};
 ghost use Rattle.vob24.specs.Grammar.{method_size};
-ghost use Rattle.reader.specs.Contract.{cursor_at, refusal, ReadyAt};
+ghost use Rattle.reader.specs.Contract.{cursor_at, told, ReadyAt};
+ghost use Rattle.reader.specs.Numbers.{kind_number, context_number};
+ghost use Rattle.vob24_data.specs.Sizes.{size_number};
 ghost use Rattle.reader.specs.Leaves.{Answers, CountAt, Counted, Spans, Bought, Texts, Checked};
 
-use reader::{Cursor, Read, Refusal, Span, Text, numbers, sizes};
-use vob24_data::Settings;
+use reader::{Context, Cursor, Kind, Read, Refusal, Span, Text};
+use vob24_data::{Settings, Size};
 
 // The refusal of a length or count above its limit.
-fn over(d: Cursor, number: u64, context: u64, n: u64, most: u64) -> Refusal
-    ensures { result ≡ refusal ((limit number context most).why n) d.place d.left }
+fn over(d: Cursor, kind: Kind, context: Context, n: u64, most: u64) -> Refusal
+    ensures { told result ≡ refused ((limit (kind_number kind) (context_number context) most).why n) d.place d.left }
 {
     Refusal {
-        number,
-        context,
+        kind,
+        context: u64::from(context),
         detail1: n,
         detail2: most,
         place: d.place,
@@ -31,13 +35,13 @@ fn over(d: Cursor, number: u64, context: u64, n: u64, most: u64) -> Refusal
 }
 
 // What follows a length: the bytes, and their charge.
-fn bytes(s: &[u8], d: Cursor, n: u64, context: u64) -> Read<Span>
+fn bytes(s: &[u8], d: Cursor, n: u64, context: Context) -> Read<Span>
     requires { ReadyAt s.now d }
-    ensures { Bought s.now d n context result }
+    ensures { Bought s.now d n (context_number context) result }
 {
     let start = d.place;
     if ((s.len() - start) as u64) < n {
-        return Err(reader::refuse(d, numbers::UNEXPECTED_EOF, 0));
+        return Err(reader::refuse(d, Kind::UnexpectedEof, 0));
     }
     let length = n as usize;
     let past = Cursor {
@@ -53,17 +57,17 @@ fn read_bytes(s: &[u8], c: Cursor) -> Read<Span>
     ensures { Spans (Leaf.payload free Refusals.byte_string) s.now c result }
 {
     let (n, d) = reader::read_u32(s, c)?;
-    bytes(s, d, n, numbers::BYTE_STRING)
+    bytes(s, d, n, Context::ByteString)
 }
 
-pub fn read_artifact_bytes(s: &[u8], c: Cursor, context: u64, most: u64) -> Read<Span>
+pub fn read_artifact_bytes(s: &[u8], c: Cursor, context: Context, most: u64) -> Read<Span>
     requires { ReadyAt s.now c }
-    ensures { Spans (Leaf.payload (limit Refusals.module_artifact_limit_exceeded context most) context)
+    ensures { Spans (Leaf.payload (limit Refusals.module_artifact_limit_exceeded (context_number context) most) (context_number context))
         s.now c result }
 {
     let (n, d) = reader::read_u32(s, c)?;
     if most < n {
-        return Err(over(d, numbers::MODULE_ARTIFACT_LIMIT_EXCEEDED, context, n, most));
+        return Err(over(d, Kind::ModuleArtifactLimitExceeded, context, n, most));
     }
     bytes(s, d, n, context)
 }
@@ -75,7 +79,7 @@ fn text(s: &[u8], span: Span, d: Cursor) -> Read<Text>
 {
     let end = span.start + span.length;
     let Some(characters) = utf8::scan_at(&s[0..end], span.start, span.length) else {
-        return Err(reader::refuse(d, numbers::INVALID_UTF8, 0));
+        return Err(reader::refuse(d, Kind::InvalidUtf8, 0));
     };
     Ok((Text { span, characters }, d))
 }
@@ -102,9 +106,9 @@ pub fn read_string(s: &[u8], place: usize, left: u64, at: usize) -> Read<Text>
     Ok((found, e))
 }
 
-pub fn read_artifact_string(s: &[u8], c: Cursor, context: u64, most: u64) -> Read<Text>
+pub fn read_artifact_string(s: &[u8], c: Cursor, context: Context, most: u64) -> Read<Text>
     requires { ReadyAt s.now c }
-    ensures { Texts (Leaf.string (limit Refusals.module_artifact_limit_exceeded context most) context well_formed)
+    ensures { Texts (Leaf.string (limit Refusals.module_artifact_limit_exceeded (context_number context) most) (context_number context) well_formed)
         s.now c result }
 {
     let (span, d) = read_artifact_bytes(s, c, context, most)?;
@@ -114,27 +118,27 @@ pub fn read_artifact_string(s: &[u8], c: Cursor, context: u64, most: u64) -> Rea
 // ---- counts
 
 // What follows a count: the bytes of its entries, and their charge.
-fn counted(s: &[u8], d: Cursor, n: u64, least: u64, context: u64, size: u64) -> Read<u64>
+fn counted(s: &[u8], d: Cursor, n: u64, least: u64, context: Context, size: u64) -> Read<u64>
     requires { CountAt s.now d n least size }
-    ensures { Counted s.now d n least context size result }
+    ensures { Counted s.now d n least (context_number context) size result }
 {
     let place = d.place;
     if ((s.len() - place) as u64) < n * least {
-        let few = reader::refuse(d, numbers::UNEXPECTED_EOF, 0);
+        let few = reader::refuse(d, Kind::UnexpectedEof, 0);
         return Err(few);
     }
     let e = reader::charge_allocation(d, context, n * size)?;
     Ok((n, e))
 }
 
-// The count of a list of entries whose size is numbered `entry`.
-pub fn read_count(s: &[u8], set: &Settings, c: Cursor, entry: usize) -> Read<u64>
+// The count of a list of entries, each of this size.
+pub fn read_count(s: &[u8], set: &Settings, c: Cursor, entry: Size) -> Read<u64>
     requires { ReadyAt s.now c }
-    ensures { Answers (Leaf.count free 1 Refusals.vector (size_of (settings_of set.now) entry))
+    ensures { Answers (Leaf.count free 1 Refusals.vector (size_of (settings_of set.now) (size_number entry)))
         s.now c result }
 {
     let (n, d) = reader::read_u32(s, c)?;
-    counted(s, d, n, 1, numbers::VECTOR, vob24_data::size(set, entry))
+    counted(s, d, n, 1, Context::Vector, entry.bytes(set))
 }
 
 // The count of an inline list, which is at most `most`: `read_debug_vec`.
@@ -142,20 +146,20 @@ pub fn read_debug_count(
     s: &[u8],
     set: &Settings,
     c: Cursor,
-    context: u64,
+    context: Context,
     most: u64,
-    entry: usize,
+    entry: Size,
 ) -> Read<u64>
     requires { ReadyAt s.now c }
     ensures { Answers
-        (Leaf.count (limit Refusals.debug_metadata_limit_exceeded context most) 1 Refusals.vector
-        (size_of (settings_of set.now) entry)) s.now c result }
+        (Leaf.count (limit Refusals.debug_metadata_limit_exceeded (context_number context) most) 1 Refusals.vector
+        (size_of (settings_of set.now) (size_number entry))) s.now c result }
 {
     let (n, d) = reader::read_u32(s, c)?;
     if most < n {
-        return Err(over(d, numbers::DEBUG_METADATA_LIMIT_EXCEEDED, context, n, most));
+        return Err(over(d, Kind::DebugMetadataLimitExceeded, context, n, most));
     }
-    counted(s, d, n, 1, numbers::VECTOR, vob24_data::size(set, entry))
+    counted(s, d, n, 1, Context::Vector, entry.bytes(set))
 }
 
 // The count of artifacts, which is not compared with the bytes left.
@@ -171,8 +175,8 @@ pub fn read_artifact_count(s: &[u8], set: &Settings, c: Cursor) -> Read<u64>
     if most < n {
         return Err(over(
             d,
-            numbers::MODULE_ARTIFACT_LIMIT_EXCEEDED,
-            numbers::ARTIFACT_COUNT,
+            Kind::ModuleArtifactLimitExceeded,
+            Context::ArtifactCount,
             n,
             most,
         ));
@@ -182,8 +186,8 @@ pub fn read_artifact_count(s: &[u8], set: &Settings, c: Cursor) -> Read<u64>
         d,
         n,
         0,
-        numbers::MODULE_ARTIFACTS,
-        vob24_data::size(set, sizes::MODULE_ARTIFACT),
+        Context::ModuleArtifacts,
+        Size::ModuleArtifact.bytes(set),
     )
 }
 
@@ -194,7 +198,6 @@ pub fn read_method_count(s: &[u8], set: &Settings, c: Cursor) -> Read<u64>
         s.now c result }
 {
     let (n, d) = reader::read_u32(s, c)?;
-    let size = vob24_data::size(set, sizes::STRING_METHOD_INFO)
-        + 3 * vob24_data::size(set, sizes::USIZE);
-    counted(s, d, n, 14, numbers::NAMED_METHOD_MAP, size)
+    let size = Size::StringMethodInfo.bytes(set) + 3 * Size::Usize.bytes(set);
+    counted(s, d, n, 14, Context::NamedMethodMap, size)
 }

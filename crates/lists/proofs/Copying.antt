@@ -21,11 +21,6 @@ module _ (s : List ℕ) (p : ℕ) where
   unfolding little
   half_at h = rw (read_take 2 s p h) (omega arith)
 
-  pub word_at : p + 4 ≤ length s
-      → little (part s p 4) ≡ get_or s p 0 + 256 * (get_or s (p + 1) 0 + 256 * (get_or s (p + 2) 0 + 256 * get_or s (p + 3) 0))
-  unfolding little
-  word_at h = rw (read_take 4 s p h, add_assoc p 1 1, add_assoc p 2 1) (omega arith)
-
 -- ---- copies
 
 -- nothing is stored past the tape's end
@@ -128,25 +123,3 @@ pub copied-join : {ws : List ℕ} {k m : ℕ} {s : List ℕ} {from : ℕ} {t t�
     → Copied ws (k + m) s from t at t₂
 copied-join {ws} {k} {m} {s} {from} {t} {t₁} {t₂} {at} a b =
     record { is = b.is ∙ rw (a.is, words-join ws k m s from, sets-append t at (words_at ws k s from), words-length ws k s from) }
-
-pub copied-length : {ws : List ℕ} {n : ℕ} {s : List ℕ} {from : ℕ} {t : List ℕ} {at : ℕ} {t' : List ℕ}
-    → Copied ws n s from t at t' → length t' ≡ length t
-copied-length {ws} {n} {s} {from} {t} {at} a = ap length a.is ∙ length-sets t at (words_at ws n s from)
-
--- room for some of the items that there is room for
-pub fits-part : {n at l : ℕ} (k m : ℕ) → k + m ≤ n → Fits 1 n at l → Fits 1 m (at + k) l
-fits-part k m h (ended e) = ended (omega arith)
-fits-part k m h (room e) = room (omega arith)
-
--- one number an item
-module _ {n : ℕ} {s : List ℕ} {from : ℕ} {t : List ℕ} {at : ℕ} {t' : List ℕ} {p i k v : ℕ} (h : 0 < k) where
-  pub copying-number : {w : ℕ} → v ≡ little (part s p w) → Copying (w ∷ []) n s from t at t' p i k
-      → Copying (w ∷ []) n s from t at (set t' i v) (p + width (w ∷ [])) (i + 1) (k - 1)
-  copying-number e c = copying-more h (rw e refl) c
-
-  -- a byte is a number of one byte
-  pub copying-byte : p + 1 * k ≤ length s → v ≡ get_or s p 0 → Copying (1 ∷ []) n s from t at t' p i k
-      → Copying (1 ∷ []) n s from t at (set t' i v) (p + 1) (i + 1) (k - 1)
-  copying-byte b e c = copying-number (e ∙ sym (byte_at s p (omega arith))) c
-
-pub ruleset copying = (copied-ended, copying-start, copying-number, copying-byte, copying-done)

@@ -1,4 +1,5 @@
 -- The law of runs: items that end at no charge may be read at once.
+use Rattle.reader.specs.Leaves.{Narrow, narrow_byte, narrow_half, narrow_word}
 use Rattle.std.specs.Prelude.{Ok}
 use Prim.Native.Nat.{ℕ, suc, zero, ◌+◌, ◌-◌, ◌*◌, ◌/◌, ◌≤◌, ◌<◌}
 use mathlib.Core.Path.{◌≡◌, refl, ◌∙◌}
@@ -20,7 +21,6 @@ use Rattle.vob24.specs.Leaves.{free, at_most}
 use Rattle.reader.specs.Contract.{ReadyAt, Takes, Reads, Step}
 use Rattle.reader.specs.declared.Cursor.{Cursor}
 use Rattle.reader.proofs.Settles.{guard-yes, field-yes}
-use Rattle.reader.proofs.Leaves.{Narrow, narrow-byte, narrow-half, narrow-word}
 use Rattle.reader.proofs.Laws.{sets-append, takes-ready, then_reads, comes-on, Turns}
 use Rattle.lists.specs.Runs.{advanced, Runs, width, numbers_at, words_at, Copied, Low}
 use Rattle.lists.specs.Fixed.{Sized, Flat, flat-one, flat-more}
@@ -49,9 +49,9 @@ module _ (w : Width) (ρ : Rule) (s : List ℕ) (p : ℕ) (o : Narrow w) (h : p 
   one-shows = go o
     where
       go : {n : ℕ} {w : Width} → Narrow w → words_leaf (fixed w ρ) (num n) ≡ n ∷ []
-      go narrow-byte = refl
-      go narrow-half = refl
-      go narrow-word = refl
+      go narrow_byte = refl
+      go narrow_half = refl
+      go narrow_word = refl
 
   item-one : Item (leaf (fixed w ρ)) (size w ∷ []) s p
   item-one = record { value = num (little (part s p (size w))); settles = λ b. one-settles b ∙ rw add-zero; shows = one-shows }
@@ -70,9 +70,9 @@ item-flat s p (flat-one {w} o) h = item-one w free s p o (omega arith) refl
 item-flat s p (flat-more {w} o k) h = item-more w free s p o (omega arith) refl (item-flat s (p + size w) k (omega arith))
 
 narrow-some : {w : Width} → Narrow w → 1 ≤ size w
-narrow-some narrow-byte = omega arith
-narrow-some narrow-half = omega arith
-narrow-some narrow-word = omega arith
+narrow-some narrow_byte = omega arith
+narrow-some narrow_half = omega arith
+narrow-some narrow_word = omega arith
 
 flat-some : {f : Format} {ws : List ℕ} → Flat f ws → length ws ≤ width ws
 flat-some (flat-one o) = omega (arith, narrow-some o)
@@ -137,7 +137,7 @@ runs-low y {m} {most = most} {s = s} {c = c} r l h k a e = runs_of r l (omega ar
     passes p x z = le-leb (little (part s p 1)) most (omega (arith, byte_at s p x))
 
     item : (p : ℕ) → c.place ≤ p → p + 1 ≤ c.place + 1 * m → Item (leaf (fixed byte (at_most most y))) (1 ∷ []) s p
-    item p x z = item-one byte (at_most most y) s p narrow-byte (omega (arith, h)) (passes p (omega (arith, h)) (k.low p x (omega arith)))
+    item p x z = item-one byte (at_most most y) s p narrow_byte (omega (arith, h)) (passes p (omega (arith, h)) (k.low p x (omega arith)))
 
 -- ---- runs in a loop
 

@@ -3,8 +3,8 @@ use Rattle.std.specs.Prelude.{ℕ, ◌≡◌, ◌<◌, List, [], ◌∷◌, leng
 use Rattle.std.proofs.Common.{lit<}
 use Rattle.format.specs.Format.{Width, fixed, Format, leaf, ◌▸◌}
 use Rattle.format.specs.Reading.{size}
-use Rattle.vob24.specs.Leaves.{free, u16, u32}
-use Rattle.reader.proofs.Leaves.{Narrow, narrow-half, narrow-word}
+use Rattle.vob24.specs.Leaves.{free, u8, u16, u32}
+use Rattle.reader.specs.Leaves.{Narrow, narrow_byte, narrow_half, narrow_word}
 use Rattle.lists.specs.Runs.{width}
 
 -- The bytes and the words of an entry are those of its widths.
@@ -29,8 +29,11 @@ pub data Flat : Format → List ℕ → Type 0 where
   flat-more : {w : Width} {g : Format} {ws : List ℕ} → Narrow w → Flat g ws
       → Flat (leaf (fixed w free) ▸ g) (size w ∷ ws)
 
+pub flat_byte : Flat u8 (1 ∷ [])
+flat_byte = flat-one narrow_byte
+
 pub flat_half : Flat u16 (2 ∷ [])
-flat_half = flat-one narrow-half
+flat_half = flat-one narrow_half
 
 pub flat_word : Flat u32 (4 ∷ [])
-flat_word = flat-one narrow-word
+flat_word = flat-one narrow_word

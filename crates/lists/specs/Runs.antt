@@ -3,13 +3,9 @@ use Rattle.std.specs.Prelude.{ℕ, suc, zero, ◌+◌, ◌*◌, ◌≤◌, ◌<�
 use Rattle.std.proofs.lemmas.List.Edits.{sets}
 use Rattle.format.specs.Format.{Format, times}
 use Rattle.format.specs.Reading.{little, part}
-use Rattle.reader.specs.Contract.{Reader, ComesTo, Step}
+use Rattle.reader.specs.Contract.{ComesTo}
 use Rattle.reader.specs.declared.Cursor.{Cursor}
 use Rattle.lists.specs.declared.Rest.{Rest}
-
--- THE contract of a reader of n items at a cursor.
-abbrev pub ItemsReader : Format → ℕ → List ℕ → Cursor → List ℕ → Step → List ℕ → Type 0
-ItemsReader f n s c t q t' = Reader (times f n) s (Ok c) t q t'
 
 -- the cursor past so many bytes and words, at no charge
 abbrev pub advanced : Cursor → ℕ → ℕ → Cursor

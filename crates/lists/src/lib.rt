@@ -2,6 +2,7 @@
 // once, as a run.
 // Ports `read_vec` of serialize.rs, which is lent an entry's reader too. A run stops before an item that is refused, or
 // whose words do not all fit the tape; the rest is read item by item.
+// `as` stands between usize and u64, where Rust has no `From`.
 #![tactic(auto)]
 
 ghost use Rattle.std.proofs.lemmas.List.Edits.{sets};
@@ -9,17 +10,27 @@ ghost use Rattle.std.specs.Prelude.{ℕ, List, Bool, ◌≡◌, false, [], ◌�
 ghost use Rattle.format.specs.Format.{counted, times, Format};
 ghost use Rattle.format.specs.Reading.{little, part};
 ghost use Rattle.vob24.specs.Settings.{settings_of};
-ghost use Rattle.vob24.specs.Leaves.{u16, u32, slot_type};
+ghost use Rattle.vob24.specs.Leaves.{u8, u16, u32, slot_type};
 ghost use Rattle.vob24.specs.Grammar.{list};
+ghost use Rattle.vob24_data.specs.Sizes.{size_number};
 ghost use Rattle.reader.specs.Contract.{Ready, ReadyAt, Reader, NumberOf};
 ghost use Rattle.reader.specs.Accepted.{Accepted};
-ghost use Rattle.lists.specs.Runs.{advanced, Runs, ItemsReader, width, numbers_at, Copied, Fits, Low, CopiedLow};
-ghost use Rattle.lists.specs.Fixed.{Sized, sized_byte, sized_half, sized_word, Flat, flat_half, flat_word};
+ghost use Rattle.lists.specs.Runs.{advanced, Runs, width, numbers_at, Copied, Fits, Low, CopiedLow};
+ghost use Rattle.lists.specs.Records.{bare_of};
+ghost use Rattle.lists.specs.Fixed.{Sized, sized_byte, sized_half, sized_word, Flat, flat_byte, flat_half, flat_word};
 
-use reader::{Cursor, Read, Step};
-use vob24_data::Settings;
+use fields::{SlotType, U16, U32};
+use reader::{Cursor, ListAt, Read, Step};
+use vob24_data::{Settings, Size};
 
 // ---- lists of any entries
+
+// What a run leaves of a list: how many items, and the cursor before them.
+#[derive(Clone, Copy)]
+pub struct Rest {
+    pub items: u64,
+    pub at: Cursor,
+}
 
 // An entry of a list, by its format and its reader.
 pub trait Entry {
@@ -32,17 +43,26 @@ pub trait Entry {
         requires ready { Ready s.now r }
         requires accepted { Accepted (again self.now) (format self.now) s.now r }
         ensures { Reader (format self.now) s.now r tape.old result tape.new };
+
+    // As many of n entries as can be read at once; none, where no impl says how.
+    fn run(&self, s: &[u8], c: Cursor, n: u64, tape: &mut [u32]) -> Rest
+        requires { ReadyAt s.now c }
+        ensures { Runs (format self.now) s.now c tape.old n result tape.new }
+    {
+        Rest { items: n, at: c }
+    }
 }
 
-// n entries, one after the other.
+// n entries: a run, and the rest one after the other.
 pub fn entries<T: Entry>(s: &[u8], r: Step, n: u64, entry: &T, tape: &mut [u32]) -> Step
     requires ready { Ready s.now r }
     requires accepted { Accepted (T.again entry.now) (times (T.format entry.now) n) s.now r }
     ensures { Reader (times (T.format entry.now) n) s.now r tape.old result tape.new }
 {
-    let mut here = r?;
+    let rest = entry.run(s, r?, n, tape);
+    let mut here = rest.at;
     // No `for`: it keeps a count up and its end, and a short entry's loop has no register for both.
-    let mut k = n;
+    let mut k = rest.items;
     while 0 < k {
         here = entry.read(s, Ok(here), tape)?;
         k -= 1;
@@ -50,18 +70,18 @@ pub fn entries<T: Entry>(s: &[u8], r: Step, n: u64, entry: &T, tape: &mut [u32])
     Ok(here)
 }
 
-// The count of a list whose entries' size is numbered `size`, and its entries. Also returns the count.
+// The count of a list of entries, each of this size, and the entries. Also returns the count.
 pub fn number_list<T: Entry>(
     s: &[u8],
     set: &Settings,
     c: Cursor,
-    size: usize,
+    size: Size,
     entry: &T,
     tape: &mut [u32],
 ) -> Read<u64>
     requires ready { ReadyAt s.now c }
-    requires accepted { Accepted (T.again entry.now) (list (settings_of set.now) size (T.format entry.now)) s.now (Ok c) }
-    ensures { NumberOf (list (settings_of set.now) size (T.format entry.now)) counted s.now c tape.old result tape.new }
+    requires accepted { Accepted (T.again entry.now) (list (settings_of set.now) (size_number size) (T.format entry.now)) s.now (Ok c) }
+    ensures { NumberOf (list (settings_of set.now) (size_number size) (T.format entry.now)) counted s.now c tape.old result tape.new }
 {
     let (n, d) = fields::number_count(s, set, c, size, tape)?;
     let e = entries(s, Ok(d), n, entry, tape)?;
@@ -73,16 +93,37 @@ pub fn read_list<T: Entry>(
     s: &[u8],
     set: &Settings,
     r: Step,
-    size: usize,
+    size: Size,
     entry: &T,
     tape: &mut [u32],
 ) -> Step
     requires ready { Ready s.now r }
-    requires accepted { Accepted (T.again entry.now) (list (settings_of set.now) size (T.format entry.now)) s.now r }
-    ensures { Reader (list (settings_of set.now) size (T.format entry.now)) s.now r tape.old result tape.new }
+    requires accepted { Accepted (T.again entry.now) (list (settings_of set.now) (size_number size) (T.format entry.now)) s.now r }
+    ensures { Reader (list (settings_of set.now) (size_number size) (T.format entry.now)) s.now r tape.old result tape.new }
 {
     let (_, d) = number_list(s, set, r?, size, entry, tape)?;
     Ok(d)
+}
+
+// ---- the lists of a record
+
+// A kind, which holds no list itself, and its lists in file order; absent lists are empty.
+#[derive(Clone, Copy, PartialEq, Eq, Debug)]
+pub struct WithLists<K> {
+    pub kind: K,
+    pub first: ListAt,
+    pub second: ListAt,
+}
+
+// A kind that has no list.
+pub fn bare<K>(kind: K) -> WithLists<K>
+    ensures { result ≡ bare_of kind }
+{
+    WithLists {
+        kind,
+        first: ListAt { start: 0, count: 0 },
+        second: ListAt { start: 0, count: 0 },
+    }
 }
 
 // ---- runs
@@ -92,13 +133,6 @@ const SHORT: u64 = 16;
 
 // Block size: each block is copied right after its test, while it is in the cache.
 const PART: usize = 4096;
-
-// What a run leaves of a list: how many items, and the cursor before them.
-#[derive(Clone, Copy)]
-pub struct Rest {
-    pub items: u64,
-    pub at: Cursor,
-}
 
 // ---- how many items
 
@@ -139,34 +173,20 @@ pub fn remaining(c: Cursor, n: u64, k: usize, bytes: usize, words: usize) -> Res
 
 // ---- numbers
 
-pub fn wide(b: u8) -> u32
-    ensures { (result ≡ b) × (result < 256) }
-{
-    b as u32
-}
-
 pub fn half(s: &[u8], p: usize) -> u32
     requires { p + 2 ≤ length s.now }
     ensures { result ≡ little (part s.now p 2) }
 {
-    let p1 = p + 1;
-    wide(s[p]) + 256 * wide(s[p1])
-}
-
-fn word(s: &[u8], p: usize) -> u32
-    requires { p + 4 ≤ length s.now }
-    ensures { result ≡ little (part s.now p 4) }
-{
-    let p1 = p + 1;
-    let p2 = p + 2;
-    let p3 = p + 3;
-    wide(s[p]) + 256 * (wide(s[p1]) + 256 * (wide(s[p2]) + 256 * wide(s[p3])))
+    u32::from(u16::from_le_bytes([s[p], s[p + 1]]))
 }
 
 // ---- copies to the tape
 
-// Entries of a fixed width, by the widths of their numbers in bytes: their words can be copied many at once.
+// Entries of numbers that no rule refuses and no charge asks for, by their format and the widths of the numbers in
+// bytes: their words can be copied many at once.
 pub trait Fixed {
+    ghost form: { Self → Format };
+
     ghost widths: { Self → List ℕ };
 
     const BYTES: usize;
@@ -184,11 +204,15 @@ pub trait Fixed {
         ensures { tape.new ≡ sets tape.old at (numbers_at (widths self.now) s.now p) };
 
     ghost sized: { (x : Self) → Sized (widths x) BYTES WORDS };
+
+    ghost flat: { (x : Self) → Flat (form x) (widths x) };
 }
 
 struct Byte;
 
 impl Fixed for Byte {
+    ghost form = { λ _. u8 };
+
     ghost widths = { λ _. 1 ∷ [] };
 
     const BYTES: usize = 1;
@@ -201,8 +225,10 @@ impl Fixed for Byte {
 
     ghost sized = { λ _. sized_byte };
 
+    ghost flat = { λ _. flat_byte };
+
     fn put(&self, s: &[u8], p: usize, tape: &mut [u32], at: usize) {
-        tape[at] = wide(s[p]);
+        tape[at] = u32::from(s[p]);
     }
 }
 
@@ -287,35 +313,24 @@ fn slot_type_run(s: &[u8], c: Cursor, n: u64, tape: &mut [u32]) -> Rest
     remaining(c, n, k, k, k)
 }
 
-struct SlotType;
-
 impl Entry for SlotType {
     ghost format = { λ _. slot_type };
 
     ghost again = { λ _. false };
 
     fn read(&self, s: &[u8], r: Step, tape: &mut [u32]) -> Step {
-        fields::field_slot_type(s, r, tape)
+        fields::field::<SlotType>(s, r, tape)
+    }
+
+    fn run(&self, s: &[u8], c: Cursor, n: u64, tape: &mut [u32]) -> Rest {
+        slot_type_run(s, c, n, tape)
     }
 }
 
-pub fn slot_types(s: &[u8], c: Cursor, n: u64, tape: &mut [u32]) -> Step
-    requires { ReadyAt s.now c }
-    ensures { ItemsReader slot_type n s.now c tape.old result tape.new }
-{
-    let run = slot_type_run(s, c, n, tape);
-    entries(s, Ok(run.at), run.items, &SlotType, tape)
-}
-
-// Fixed entries that no rule refuses and no charge asks for.
-pub trait Run: Entry + Fixed {
-    ghost flat: { (x : Self) → Flat (Self.format x) (Self.widths x) };
-}
-
 // As many of n entries as are there and as the tape has room for.
-fn copied_run<T: Run>(s: &[u8], c: Cursor, n: u64, entry: &T, tape: &mut [u32]) -> Rest
+pub fn copied_run<T: Fixed>(s: &[u8], c: Cursor, n: u64, entry: &T, tape: &mut [u32]) -> Rest
     requires { ReadyAt s.now c }
-    ensures { Runs (T.format entry.now) s.now c tape.old n result tape.new }
+    ensures { Runs (T.form entry.now) s.now c tape.old n result tape.new }
 {
     let there = fewer(n, (s.len() - c.place) / T::BYTES);
     let k = fitting(there, T::WORDS, c.at, tape.len());
@@ -323,29 +338,23 @@ fn copied_run<T: Run>(s: &[u8], c: Cursor, n: u64, entry: &T, tape: &mut [u32]) 
     remaining(c, n, k, T::BYTES * k, T::WORDS * k)
 }
 
-// The n entries of a list, after its count: a run, and the rest one by one.
-pub fn run_entries<T: Run>(s: &[u8], c: Cursor, n: u64, entry: &T, tape: &mut [u32]) -> Step
-    requires ready { ReadyAt s.now c }
-    requires accepted { Accepted (T.again entry.now) (times (T.format entry.now) n) s.now (Ok c) }
-    ensures { ItemsReader (T.format entry.now) n s.now c tape.old result tape.new }
-{
-    let rest = copied_run(s, c, n, entry, tape);
-    entries(s, Ok(rest.at), rest.items, entry, tape)
-}
-
-struct U16;
-
 impl Entry for U16 {
     ghost format = { λ _. u16 };
 
     ghost again = { λ _. false };
 
     fn read(&self, s: &[u8], r: Step, tape: &mut [u32]) -> Step {
-        fields::field_u16(s, r, tape)
+        fields::field::<U16>(s, r, tape)
+    }
+
+    fn run(&self, s: &[u8], c: Cursor, n: u64, tape: &mut [u32]) -> Rest {
+        copied_run(s, c, n, self, tape)
     }
 }
 
 impl Fixed for U16 {
+    ghost form = { λ _. u16 };
+
     ghost widths = { λ _. 2 ∷ [] };
 
     const BYTES: usize = 2;
@@ -358,23 +367,12 @@ impl Fixed for U16 {
 
     ghost sized = { λ _. sized_half };
 
+    ghost flat = { λ _. flat_half };
+
     fn put(&self, s: &[u8], p: usize, tape: &mut [u32], at: usize) {
         tape[at] = half(s, p);
     }
 }
-
-impl Run for U16 {
-    ghost flat = { λ _. flat_half };
-}
-
-pub fn u16s(s: &[u8], c: Cursor, n: u64, tape: &mut [u32]) -> Step
-    requires { ReadyAt s.now c }
-    ensures { ItemsReader u16 n s.now c tape.old result tape.new }
-{
-    run_entries(s, c, n, &U16, tape)
-}
-
-struct U32;
 
 impl Entry for U32 {
     ghost format = { λ _. u32 };
@@ -382,11 +380,17 @@ impl Entry for U32 {
     ghost again = { λ _. false };
 
     fn read(&self, s: &[u8], r: Step, tape: &mut [u32]) -> Step {
-        fields::field_u32(s, r, tape)
+        fields::field::<U32>(s, r, tape)
+    }
+
+    fn run(&self, s: &[u8], c: Cursor, n: u64, tape: &mut [u32]) -> Rest {
+        copied_run(s, c, n, self, tape)
     }
 }
 
 impl Fixed for U32 {
+    ghost form = { λ _. u32 };
+
     ghost widths = { λ _. 4 ∷ [] };
 
     const BYTES: usize = 4;
@@ -399,18 +403,9 @@ impl Fixed for U32 {
 
     ghost sized = { λ _. sized_word };
 
-    fn put(&self, s: &[u8], p: usize, tape: &mut [u32], at: usize) {
-        tape[at] = word(s, p);
-    }
-}
-
-impl Run for U32 {
     ghost flat = { λ _. flat_word };
-}
 
-pub fn u32s(s: &[u8], c: Cursor, n: u64, tape: &mut [u32]) -> Step
-    requires { ReadyAt s.now c }
-    ensures { ItemsReader u32 n s.now c tape.old result tape.new }
-{
-    run_entries(s, c, n, &U32, tape)
+    fn put(&self, s: &[u8], p: usize, tape: &mut [u32], at: usize) {
+        tape[at] = reader::le4([s[p], s[p + 1], s[p + 2], s[p + 3]]);
+    }
 }

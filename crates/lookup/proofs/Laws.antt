@@ -1,5 +1,5 @@
 -- Where an artifact's parts stand, a name against the pack's bytes, and the invariant of the walk over the artifacts.
-use Rattle.std.proofs.Common.{ℕ, ◌+◌, ◌-◌, ◌≤◌, ◌<◌, ◌≡◌, refl, ap, sym, ◌∙◌, subst, List, [], ◌∷◌, Bool, true, false, ◌&&◌, Result, Ok, Err, arith, length, eqb, bytes_eq, slice_range}
+use Rattle.std.proofs.Common.{ℕ, ◌+◌, ◌-◌, ◌≤◌, ◌<◌, ◌≡◌, refl, ap, sym, ◌∙◌, subst, List, [], ◌∷◌, Bool, true, false, ◌&&◌, Ok, Err, arith, length, eqb, bytes_eq, slice_range}
 use Rattle.format.specs.Trace.{pick}
 use Rattle.format.specs.Format.{text, content, first, second}
 use Rattle.format.specs.Reading.{little, part, same}
@@ -8,12 +8,12 @@ use Rattle.vob24.specs.Refusals
 use Rattle.vob24.specs.Settings.{Settings, max_pack_bytes}
 use Rattle.vob24.specs.Grammar.{artifact}
 use Rattle.vob24.specs.Calls as vob
+use Rattle.reader.specs.Contract.{refusal}
+use Rattle.reader.specs.declared.kinds.Kind.TheVariants.{NoSuchArtifact}
 use Rattle.reader.specs.declared.Cursor.{Cursor}
-use Rattle.reader.specs.declared.Refusal.{Refusal}
-use Rattle.reader.specs.declared.Span.{Span}
 use Rattle.in_place.specs.Walk.{Stands, value_at, next_at, items_at, parts, passed, items_more, items-none, stand-more}
 use Rattle.in_place.specs.Contract.{Items, WordIs}
-use Rattle.lookup.specs.Look.{IsName, Looks, ArtifactsAt, LooksFrom}
+use Rattle.lookup.specs.Look.{IsName, Looks}
 
 -- the length word of the payload of an artifact at p
 abbrev payload_at : List ℕ → ℕ → ℕ
@@ -51,8 +51,8 @@ same-equal [] (y ∷ ys) = refl
 same-equal (x ∷ xs) [] = refl
 same-equal (x ∷ xs) (y ∷ ys) = rw (same-equal xs ys) (elim (eqb x y) as (λ d. pick d (bytes_eq xs ys) false ≡ (d && bytes_eq xs ys)) [ true ↦ refl | false ↦ refl ])
 
-pub name-equal : (s : List ℕ) (p n : ℕ) (name : List ℕ) → IsName s p n name (bytes_eq (slice_range s p (p + n)) name)
-name-equal s p n name = let e : p + n - p ≡ n = omega arith in record { is = rw e (sym (same-equal (part s p n) name)) }
+pub name-equal : {s : List ℕ} {p n : ℕ} {name : List ℕ} {q : Bool} → q ≡ bytes_eq (slice_range s p (p + n)) name → IsName s p n name q
+name-equal {s} {p} {n} {name} i = let e : p + n - p ≡ n = omega arith in record { is = i ∙ rw e (sym (same-equal (part s p n) name)) }
 
 -- ---- the walk
 
@@ -62,9 +62,6 @@ pub record Looking (set : Settings) (s : List ℕ) (from n : ℕ) (name : List �
   pub rest : vob.look_in name (items_at (artifact set) n s from) c.place c.left ≡ vob.look_in name (items_at (artifact set) (n - i) s at) c.place c.left
 
 module _ {set : Settings} {s : List ℕ} {from n : ℕ} {name : List ℕ} {c : Cursor} where
-  pub looking-start : Items (artifact set) n s from → Looking set s from n name c from 0
-  looking-start h = let e : n - 0 ≡ n = omega arith in record { items = rw e h; rest = rw e }
-
   module _ {at i : ℕ} (h : Looking set s from n name c at i) (l : i < n) where
     more : 0 < n - i
     more = omega arith
@@ -102,16 +99,6 @@ module _ {set : Settings} {s : List ℕ} {from n : ℕ} {name : List ℕ} {c : C
           rw (y.is, x.is) (record { items = record { small = h.items.small; all = rw (looking-here.next, d) at (stand-more (artifact set) (n - i) s at more h.items.all).1 }; rest = step' ∙ rw f })
 
   pub looking-done : {at i : ℕ} → Looking set s from n name c at i → n ≤ i
-      → Looks set s from n name c (Err (record { number = Refusals.no_such_artifact; context = 0; detail1 = 0; detail2 = 0; place = c.place; left = c.left }))
+      → Looks set s from n name c (Err (refusal NoSuchArtifact 0 0 0 c))
   unfolding vob.look_in
   looking-done {at} {i} h l = record { is = sym (h.rest ∙ rw (items-none (artifact set) (n - i) s at (omega arith))); room = record { fits = λ q j. let no : ⊥ = cc in absurd no } }
-
--- ---- the count before the artifacts
-
-module _ {set : Settings} {s : List ℕ} {p n : ℕ} (w : WordIs s p n) where
-  pub counted-items : ArtifactsAt set s p → Items (artifact set) n s (p + 4)
-  counted-items h = rw w.is h.items
-
-  pub looks-from : {name : List ℕ} {c : Cursor} {q : Result Span Refusal} → Looks set s (p + 4) n name c q
-      → LooksFrom set s p name c q
-  looks-from h = record { looks = rw w.is at h }

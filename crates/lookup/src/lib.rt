@@ -8,10 +8,10 @@ ghost use Rattle.vob24.specs.Grammar.{artifact};
 ghost use Rattle.in_place.specs.Contract.{Items};
 ghost use Rattle.lookup.specs.Look.{IsName, Looks, ArtifactsAt, LooksFrom};
 
-use reader::{Cursor, Refusal, Span, numbers};
+use reader::{Cursor, Kind, Refusal, Span};
 use vob24_data::Settings;
 
-// Are the n bytes at p this name?
+// Are the n bytes at p this name? A function of its own, as its contract says of the name what == says of slices.
 fn is_name(s: &[u8], p: usize, n: usize, name: &[u8]) -> bool
     requires { p + n ≤ length s.now }
     ensures { IsName s.now p n name.now result }
@@ -45,7 +45,7 @@ fn look(
         at = start + length;
     }
     Err(Refusal {
-        number: numbers::NO_SUCH_ARTIFACT,
+        kind: Kind::NoSuchArtifact,
         context: 0,
         detail1: 0,
         detail2: 0,

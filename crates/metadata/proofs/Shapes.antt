@@ -13,12 +13,11 @@ use Rattle.reader.specs.Contract.{NumberOf, Read}
 use Rattle.reader.specs.declared.Cursor.{Cursor}
 use Rattle.reader.specs.Recorded.{no_list, RecordOf, recorded}
 use Rattle.reader.specs.declared.ListAt.{ListAt}
-use Rattle.reader.proofs.Recording.{recorded_then, recorded_place, recorded_last, recorded_two, last_two, last_three, fixed-place, list-place, variant_at}
-use Rattle.select_case.proofs.Laws.{record_on}
-use Rattle.metadata.specs.Records.{two_layouts, elem_layout, map_get, slot_layout, iface_assert, call_iface, bare_of, one_of, two_of, elem_of, map_get_of, slot_of, assert_of, call_iface_of, metadata_records, metadata_of}
+use Rattle.reader.proofs.Recording.{recorded_then, recorded_place, recorded_last, recorded_two, last_two, last_three, fixed-place, list-place, variant_at, record_on}
+use Rattle.metadata.specs.Records.{two_layouts, elem_layout, map_get, slot_layout, iface_assert, call_iface, one_of, two_of, elem_of, map_get_of, slot_of, assert_of, call_iface_of, metadata_records, metadata_of, MetadataRecord}
+use Rattle.lists.specs.Records.{bare_of}
 use Rattle.metadata.specs.declared.Metadata.{Metadata}
 use Rattle.metadata.specs.declared.Metadata.TheVariants as kind
-use Rattle.metadata.specs.declared.MetadataRecord.{MetadataRecord}
 
 -- the n entries of a list whose count stands at p
 abbrev items_of : ℕ → ℕ → ListAt

@@ -1,22 +1,18 @@
 -- The next metadata of a list, by the byte that is its tag.
-use Rattle.std.specs.Prelude.{ℕ, ◌+◌, ◌≤◌, ◌≡◌, refl, List, length, Ok}
-use Rattle.std.proofs.Common.{ap, ◌∙◌, arith, get_or}
+use Rattle.std.specs.Prelude.{ℕ, ◌≡◌, refl, List, Ok}
+use Rattle.std.proofs.Common.{ap, ◌∙◌, get_or}
 use Rattle.format.specs.Format.{number, Rule, byte, fixed, leaf}
-use Rattle.format.specs.Reading.{little, part, trace}
+use Rattle.format.specs.Reading.{trace}
 use Rattle.format.proofs.TraceTheorems.{leaf-ends}
 use Rattle.vob24.specs.Settings.{Settings}
 use Rattle.vob24.specs.Grammar.{metadata, metadata_variants}
 use Rattle.fields.specs.Fields.{metadata_tagged}
 use Rattle.reader.specs.Contract.{Reader, NumberOf, Step, Read}
 use Rattle.reader.specs.declared.Cursor.{Cursor}
-use Rattle.reader.proofs.Gather.{read_take}
 use Rattle.reader.proofs.Laws.{takes-ends, got_of, got-ready, empty_then}
 use Rattle.reader.proofs.Parts.{choose_at}
+use Rattle.lists.proofs.Copying.{byte_at}
 use Rattle.metadata.specs.Records.{two_layouts}
-
-byte_at : (s : List ℕ) (p : ℕ) → p + 1 ≤ length s → little (part s p 1) ≡ get_or s p 0
-unfolding little
-byte_at s p h = rw (read_take 1 s p h) (omega arith)
 
 -- the tag that was read is that byte
 tag_is : {ρ : Rule} {k : ℕ} {s : List ℕ} {c d : Cursor} {q : Read ℕ} {n : ℕ} {t t₁ : List ℕ} → get_or s c.place 0 ≡ k

@@ -10,7 +10,8 @@ use Rattle.vob24.specs.Grammar as vob
 use Rattle.reader.specs.Recorded.{no_list, list_at}
 use Rattle.metadata.specs.declared.Metadata.{Metadata}
 use Rattle.metadata.specs.declared.Metadata.TheVariants as kind
-use Rattle.metadata.specs.declared.MetadataRecord.{MetadataRecord}
+use Rattle.lists.specs.Records.{bare_of}
+use Rattle.lists.specs.declared.WithLists.{WithLists}
 
 -- ---- the formats
 
@@ -41,10 +42,10 @@ iface_assert set = vob.assert_kind ▸ u32 ▸ (slots set)
 abbrev pub call_iface : Settings → Format
 call_iface set = u32 ▸ u32 ▸ (slots set) ▸ (slots set)
 
--- ---- the records: p is the place after the tag, v the value there
+abbrev pub MetadataRecord : Type 0
+MetadataRecord = WithLists Metadata
 
-abbrev pub bare_of : Metadata → MetadataRecord
-bare_of k = record { kind = k; first = no_list; second = no_list }
+-- ---- the records: p is the place after the tag, v the value there
 
 -- one list at p
 abbrev pub one_of : Metadata → ℕ → Value → MetadataRecord

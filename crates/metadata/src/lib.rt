@@ -1,6 +1,7 @@
 // The metadata of each instruction.
 // Ports InstructionMetadata of bytecode.rs and read_instruction_metadata_for_version of serialize.rs. A metadata is
 // answered as an enum without lists, in a record beside its lists' starts and counts.
+// `as` stands where a number is known to fit a narrower type: a `TryFrom` would have a case that no caller meets.
 #![tactic(auto)]
 
 ghost use Rattle.std.specs.Prelude.{Bool, ◌≡◌, true, false, ◌≤◌, length, get_or};
@@ -11,12 +12,13 @@ ghost use Rattle.vob24.specs.Grammar.{slot_types};
 ghost use Rattle.reader.specs.Contract.{ReadyAt, NumberOf};
 ghost use Rattle.reader.specs.Recorded.{RecordOf};
 ghost use Rattle.select_case.specs.Records.{select_list};
-ghost use Rattle.metadata.specs.Records.{metadata_format, metadata_list, two_layouts, elem_layout, map_get, slot_layout, iface_assert, call_iface, bare_of, one_of, two_of, elem_of, map_get_of, loop_end_of, slot_of, assert_of, call_iface_of, metadata_of};
+ghost use Rattle.metadata.specs.Records.{metadata_format, metadata_list, two_layouts, elem_layout, map_get, slot_layout, iface_assert, call_iface, one_of, two_of, elem_of, map_get_of, loop_end_of, slot_of, assert_of, call_iface_of, metadata_of};
 ghost use Rattle.metadata.specs.Contract.{ReaderAt};
 
-use lists::Entry;
-use reader::{Cursor, ListAt, Read, Step, sizes};
-use vob24_data::Settings;
+use fields::{AssertKind, MetadataTag, U16, U32};
+use lists::{Entry, WithLists};
+use reader::{Cursor, ListAt, Read, Step};
+use vob24_data::{Settings, Size};
 
 // The tags of the two commonest metadata, numbers as the file has them: an enum would be matched a second time.
 const NONE: u8 = 0;
@@ -60,25 +62,9 @@ pub enum Metadata {
 }
 
 // A metadata and its lists in file order; absent lists are empty.
-#[derive(Clone, Copy, PartialEq, Eq, Debug)]
-pub struct MetadataRecord {
-    pub kind: Metadata,
-    pub first: ListAt,
-    pub second: ListAt,
-}
+pub type MetadataRecord = WithLists<Metadata>;
 
 // ---- the parts of a metadata
-
-// A metadata that has no list.
-fn bare(kind: Metadata) -> MetadataRecord
-    ensures { result ≡ bare_of kind }
-{
-    MetadataRecord {
-        kind,
-        first: ListAt { start: 0, count: 0 },
-        second: ListAt { start: 0, count: 0 },
-    }
-}
 
 // ---- metadata by their shapes
 
@@ -135,8 +121,8 @@ fn elem_layout(s: &[u8], set: &Settings, c: Cursor, tape: &mut [u32]) -> Read<Me
     ensures { RecordOf (elem_layout (settings_of set.now)) elem_of s.now c
         tape.old result tape.new }
 {
-    let (bytes, d) = fields::number_u32(s, c, tape)?;
-    let (extend, e) = fields::number_bool(s, d, tape)?;
+    let (bytes, d) = fields::number::<U32>(s, c, tape)?;
+    let (extend, e) = fields::number::<fields::Bool>(s, d, tape)?;
     let kind = Metadata::ElemLayout {
         elem_bytes: bytes as u32,
         needs_sign_extend: extend == 1,
@@ -152,7 +138,7 @@ fn map_get(s: &[u8], set: &Settings, c: Cursor, tape: &mut [u32]) -> Read<Metada
 {
     let (m, d) = slots::number_slot_types(s, set, c, tape)?;
     let (n, e) = slots::number_slot_types(s, set, d, tape)?;
-    let (ok, f) = fields::number_bool(s, e, tape)?;
+    let (ok, f) = fields::number::<fields::Bool>(s, e, tape)?;
     Ok((
         MetadataRecord {
             kind: Metadata::MapGet { has_ok: ok == 1 },
@@ -168,8 +154,8 @@ fn loop_end(s: &[u8], c: Cursor, tape: &mut [u32]) -> Read<MetadataRecord>
     requires { ReadyAt s.now c }
     ensures { RecordOf u32 loop_end_of s.now c tape.old result tape.new }
 {
-    let (pc, d) = fields::number_u32(s, c, tape)?;
-    Ok((bare(Metadata::LoopEnd { end_pc: pc as u32 }), d))
+    let (pc, d) = fields::number::<U32>(s, c, tape)?;
+    Ok((lists::bare(Metadata::LoopEnd { end_pc: pc as u32 }), d))
 }
 
 // array_len, elem_layout
@@ -178,7 +164,7 @@ fn slot_layout(s: &[u8], set: &Settings, c: Cursor, tape: &mut [u32]) -> Read<Me
     ensures { RecordOf (slot_layout (settings_of set.now)) slot_of s.now c
         tape.old result tape.new }
 {
-    let (length, d) = fields::number_u16(s, c, tape)?;
+    let (length, d) = fields::number::<U16>(s, c, tape)?;
     let kind = Metadata::SlotLayout {
         array_len: length as u16,
     };
@@ -196,8 +182,8 @@ fn iface_assert_layout(
     ensures { RecordOf (iface_assert (settings_of set.now)) assert_of s.now c
         tape.old result tape.new }
 {
-    let (assert, d) = fields::number_assert_kind(s, c, tape)?;
-    let (target, e) = fields::number_u32(s, d, tape)?;
+    let (assert, d) = fields::number::<AssertKind>(s, c, tape)?;
+    let (target, e) = fields::number::<U32>(s, d, tape)?;
     let kind = Metadata::IfaceAssertLayout {
         assert_kind: assert as u8,
         target_id: target as u32,
@@ -211,8 +197,8 @@ fn call_iface_layout(s: &[u8], set: &Settings, c: Cursor, tape: &mut [u32]) -> R
     ensures { RecordOf (call_iface (settings_of set.now)) call_iface_of s.now c
         tape.old result tape.new }
 {
-    let (id, d) = fields::number_u32(s, c, tape)?;
-    let (method, e) = fields::number_u32(s, d, tape)?;
+    let (id, d) = fields::number::<U32>(s, c, tape)?;
+    let (method, e) = fields::number::<U32>(s, d, tape)?;
     let kind = Metadata::CallIfaceLayout {
         iface_meta_id: id as u32,
         method_idx: method as u32,
@@ -237,7 +223,7 @@ fn select_exec_layout(s: &[u8], set: &Settings, c: Cursor, tape: &mut [u32]) -> 
     ))
 }
 
-// The tag, and the metadata that it announces; the last arm is 18, as number_metadata_tag refuses all others.
+// The tag, and the metadata that it announces; the last arm is 18, as its leaf refuses all others.
 pub fn instruction_metadata(
     s: &[u8],
     set: &Settings,
@@ -248,9 +234,9 @@ pub fn instruction_metadata(
     ensures { RecordOf (metadata_format (settings_of set.now)) metadata_of s.now c
         tape.old result tape.new }
 {
-    let (tag, d) = fields::number_metadata_tag(s, c, tape)?;
+    let (tag, d) = fields::number::<MetadataTag>(s, c, tape)?;
     match tag {
-        0 => Ok((bare(Metadata::None), d)),
+        0 => Ok((lists::bare(Metadata::None), d)),
         1 => elem_layout(s, set, d, tape),
         2 => map_get(s, set, d, tape),
         3 => layouts(s, set, d, Metadata::MapSet, tape),
@@ -307,11 +293,11 @@ impl Entry for InstructionMetadata<'_> {
         let c = r?;
         let place = c.place;
         if is_tag(s, place, NONE) {
-            let (_, d) = fields::number_metadata_tag(s, c, tape)?;
+            let (_, d) = fields::number::<MetadataTag>(s, c, tape)?;
             return Ok(d);
         }
         if is_tag(s, place, CALL_LAYOUT) {
-            let (_, d) = fields::number_metadata_tag(s, c, tape)?;
+            let (_, d) = fields::number::<MetadataTag>(s, c, tape)?;
             return two_layouts(s, self.set, d, tape);
         }
         let (_, d) = instruction_metadata(s, self.set, c, tape)?;
@@ -334,7 +320,7 @@ pub fn number_instruction_metadata(
         s,
         set,
         c,
-        sizes::INSTRUCTION_METADATA,
+        Size::InstructionMetadata,
         &InstructionMetadata { set },
         tape,
     )

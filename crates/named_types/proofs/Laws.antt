@@ -6,7 +6,7 @@ use Rattle.format.specs.Format.{number, Ask, deny, chain}
 use Rattle.vob24.specs.Settings.{Settings}
 use Rattle.vob24.specs.Grammar.{methods, new_method, also_seen}
 use Rattle.fields.specs.Fields.{method_count}
-use Rattle.reader.specs.Contract.{Ready, ReadyAt, Reads, takes, refuses, skips, Reader, NumberOf, Asks, passes, denies, Step, Read}
+use Rattle.reader.specs.Contract.{Ready, ReadyAt, Reads, takes, refuses, Reader, NumberOf, Asks, passes, denies, Step, Read}
 use Rattle.reader.specs.declared.Cursor.{Cursor}
 use Rattle.reader.specs.declared.Refusal.{Refusal}
 use Rattle.reader.proofs.Laws.{at-step, number_then, takes-ends}
@@ -15,13 +15,15 @@ use Rattle.in_place.specs.declared.Item.TheVariants.{NamedMethod}
 use Rattle.in_place.specs.declared.Table.TheVariants.{Methods as method_table}
 use Rattle.in_place.specs.Walk.{next_at, last_at, stand, items-nil, stand-snoc, last_snoc}
 use Rattle.in_place.specs.Contract.{Items}
+use Rattle.in_place.proofs.Following.{was-taken}
 use Rattle.repeat_search.specs.Keys.{repeat_at, FirstRepeat}
 use Rattle.repeat_search.specs.Tables.{keys_at}
 use Rattle.unique_names.specs.Contract.{MethodBehind, MethodAsked}
 use Rattle.unique_names.proofs.Lists.{method-repeat, method-kept}
 use Rattle.unique_names.proofs.Methods.{Methods, methods-start, methods-more, methods-refused, methods-done, all_new}
 use Rattle.reader.specs.Accepted.{Accepted}
-use Rattle.reader.proofs.Accepting.{accepted-part, accepted-ends}
+use Rattle.reader.proofs.Accepting.{Known, accepted-part, accepted-ends}
+use Rattle.vob24_theorems.specs.RefusalNumbers.{methods-listed}
 use Rattle.named_types.specs.NamedTypes.{named_method, named_methods, new_methods, AllNew, MethodsRead}
 
 pub methods_then : (set : Settings) {s : List ℕ} {c d : Cursor} {q : Read ℕ} {n : ℕ} {r r₂ : Step} {t t₁ t₂ : List ℕ}
@@ -29,9 +31,6 @@ pub methods_then : (set : Settings) {s : List ℕ} {c d : Cursor} {q : Read ℕ}
     → Reader (chain new_method also_seen [] n) s (Ok d) t₁ r₂ t₂ → Reader (named_methods set) s r t r₂ t₂
 unfolding methods
 methods_then set y e h k = at-step y (number_then (chain new_method also_seen []) e h k)
-
-apart : {X : Type 0} {c : Cursor} {x : Refusal} → Ok c ≡ Err x → X
-apart e = let z : ◌≡◌ {A = ℕ} 0 1 = cc in absurd (omega arith)
 
 -- ---- THE invariant of the loop that reads them: if the i methods are all new, they have been judged
 pub record Unjudged (s t₀ : List ℕ) (r₀ : Step) (n first from : ℕ) (t : List ℕ) (r : Step) (i : ℕ) : Type 0 where
@@ -53,7 +52,7 @@ new-asked {s} {from} {i} {r} {r₁} h e = record { stays = λ x j. refl; asks = 
 -- a repeat is refused
 denied : {w : Wrong} {l : List Ask} {c : Cursor} {q : Step} → Asks (deny w ∷ l) c q → (x : Refusal) × (q ≡ Err x)
 unfolding trace_ask settle
-denied (passes e f) = let z : ◌≡◌ {A = ℕ} 0 1 = cc in absurd (omega arith)
+denied (passes e f) = absurd (cc)
 denied (denies {x = x} e) = (x, refl)
 
 old-asked : {s : List ℕ} {from i : ℕ} {r r₁ q : Step} → ((d : Cursor) → r₁ ≡ Ok d → (c : Cursor) × (r ≡ Ok c))
@@ -66,13 +65,6 @@ old-asked {s} {from} {i} {r} {r₁} {q} t h e a = go r₁ refl
     go : (z : Step) → r₁ ≡ z → (x : Refusal) × (q ≡ Err x)
     go (Ok d) j = let c = t d j in denied (rw (h c.0 c.1, method-repeat i s from, e) at (a.asks c.0 d c.1 j))
     go (Err x) j = (x, a.stays x j ∙ j)
-
--- what goes on was not refused before
-was-taken : {s : List ℕ} {r q : Step} {t t₁ : List ℕ} → Reads named_method s r t q t₁ → (d : Cursor) → q ≡ Ok d
-    → (c : Cursor) × (r ≡ Ok c)
-was-taken (takes {c = c} a) d e = (c, refl)
-was-taken (refuses {c = c} a) d e = (c, refl)
-was-taken skips d e = apart (sym e)
 
 pub unjudged-start : {s t₀ : List ℕ} {d : Cursor} {n first : ℕ} → ReadyAt s d
     → Unjudged s t₀ (Ok d) n first d.place t₀ (Ok d) 0
@@ -177,5 +169,6 @@ pub accepted-run : (set : Settings) {s : List ℕ} {b : Bool} {r : Step} {c d : 
     → r ≡ Ok c → p ≡ Ok (n, d) → NumberOf (method_count set) number s c t p t₁ → b ≡ true
     → Accepted b (named_methods set) s r → MethodsRead s d n n t₁ m q t₂ → Reader (named_methods set) s r t q t₂
 accepted-run set {s} {d = d} {n = n} y e h i g a =
-    let w = accepted-ends i (accepted-part (λ x k. methods_then set y e h k) g) in
+    let o : Known (new_methods n) s d = record { number = λ w p l k. let z = methods-listed set n s d.place d.left k in (z.least, omega (arith, z.most)) } in
+    let w = accepted-ends o i (accepted-part (λ x k. methods_then set y e h k) g) in
     methods_then set y e h (a.reads (record { new = λ k l. all_new s d.place n w.2 k (omega (arith, a.within)) }) (λ l. absurd (omega arith)))

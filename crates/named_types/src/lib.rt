@@ -1,5 +1,6 @@
 // The named-type section: each named type's methods; a method's name is compared right after its record.
 // Ports what Module::deserialize of serialize.rs reads into NamedTypeMeta and MethodInfo of bytecode.rs.
+// `as` stands between usize and u64, where Rust has no `From`.
 #![tactic(auto)]
 
 ghost use Rattle.vob24.specs.Settings.{settings_of};
@@ -7,20 +8,21 @@ ghost use Rattle.reader.specs.Contract.{Ready, ReadyAt, Reader};
 ghost use Rattle.reader.specs.Accepted.{Accepted};
 ghost use Rattle.named_types.specs.NamedTypes.{named_method, named_methods, named_format, named_list, MethodsRead};
 
+use fields::{Bool, U32, ValueMeta, ValueRttid};
 use in_place::{Item, Table};
 use lists::Entry;
-use reader::{Cursor, Step, sizes};
-use vob24_data::Settings;
+use reader::{Cursor, Step};
+use vob24_data::{Settings, Size};
 
 fn method(s: &[u8], r: Step, tape: &mut [u32]) -> Step
     requires { Ready s.now r }
     ensures { Reader named_method s.now r tape.old result tape.new }
 {
     let name = fields::field_member_name(s, r, tape);
-    let func_id = fields::field_u32(s, name, tape);
-    let is_pointer_receiver = fields::field_bool(s, func_id, tape);
-    let receiver_is_iface_boxed = fields::field_bool(s, is_pointer_receiver, tape);
-    fields::field_u32(s, receiver_is_iface_boxed, tape)
+    let func_id = fields::field::<U32>(s, name, tape);
+    let is_pointer_receiver = fields::field::<Bool>(s, func_id, tape);
+    let receiver_is_iface_boxed = fields::field::<Bool>(s, is_pointer_receiver, tape);
+    fields::field::<U32>(s, receiver_is_iface_boxed, tape)
 }
 
 // How many methods were read, and the answer past them. The count is needed where the next one is refused, too: a repeat
@@ -96,8 +98,8 @@ impl Entry for NamedType<'_> {
 
     fn read(&self, s: &[u8], r: Step, tape: &mut [u32]) -> Step {
         let name = fields::field_str(s, r, tape);
-        let underlying_meta = fields::field_value_meta(s, name, tape);
-        let underlying_rttid = fields::field_value_rttid(s, underlying_meta, tape);
+        let underlying_meta = fields::field::<ValueMeta>(s, name, tape);
+        let underlying_rttid = fields::field::<ValueRttid>(s, underlying_meta, tape);
         methods(s, self.set, underlying_rttid, self.again, tape)
     }
 }
@@ -111,7 +113,7 @@ pub fn named_types(s: &[u8], set: &Settings, r: Step, again: bool, tape: &mut [u
         s,
         set,
         r,
-        sizes::NAMED_TYPE_META,
+        Size::NamedTypeMeta,
         &NamedType { set, again },
         tape,
     )

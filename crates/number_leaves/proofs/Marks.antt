@@ -1,14 +1,12 @@
 -- The laws of magic and version: what each answer of their codes has to show.
 use Rattle.std.specs.Prelude.{Ok, Err}
 use Rattle.std.specs.Result.{IsErrAnd}
-use Rattle.std.specs.Array.{IsFirstChunk}
-use Prim.Native.Nat.{ℕ, ◌+◌, ◌≤◌, ◌<◌}
+use Prim.Native.Nat.{ℕ, ◌+◌, ◌≤◌}
 use mathlib.Core.Path.{◌≡◌, refl, ap, sym, ◌∙◌}
 use mathlib.Core.List.{List, [], ◌∷◌}
 use mathlib.Core.Bool.{Bool, true, false}
-use native.Mathlib.Omega.{arith}
 use lib.ListN.{length}
-use Rattle.format.specs.Trace.{Wrong, wrong, unexpected_eof, settle, pick}
+use Rattle.format.specs.Trace.{Wrong, wrong, refused, settle, pick}
 use Rattle.format.specs.Format.{mark}
 use Rattle.format.specs.Reading.{little, part, same, trace_leaf}
 use Rattle.format.specs.Layout.{digits}
@@ -16,25 +14,24 @@ use Rattle.format.proofs.TraceTheorems.{part_length}
 use Rattle.format.proofs.LayoutTheorems.{digits-little, same-eq}
 use Rattle.vob24.specs.Refusals.{invalid_magic, unsupported_version}
 use Rattle.vob24.specs.Leaves.{magic_mark, version_mark}
-use Rattle.reader.specs.Contract.{refusal, ReadyAt, Step, Read}
-use Rattle.reader.specs.Leaves.{past, Fetched, Fetches, Denied, Marks, marked, unmarked}
+use Rattle.reader.specs.Contract.{told, Step, Read}
+use Rattle.reader.specs.Leaves.{past, Short, Chunk, FetchesBytes, chunk, short_chunk, Fetched, Fetches, Denied, Marks, marked, unmarked}
 use Rattle.reader.specs.declared.Cursor.{Cursor}
 use Rattle.reader.specs.declared.Refusal.{Refusal}
 use Rattle.reader.proofs.Settles.{guard-yes, guard-no, field-yes, field-no}
 use Rattle.reader.proofs.Errors.{handed}
-use Rattle.reader.proofs.Leaves.{rest, rest-length, chunk-is, fetched, shorts}
+use Rattle.reader.proofs.Leaves.{fetched, shorts}
 
 -- any mark, by its bytes
 module _ {m : List ℕ} {y : ℕ → Wrong} {s : List ℕ} {c : Cursor} where
-  mark-few : length s < c.place + length m
-      → Denied (mark m y) s c (refusal (wrong unexpected_eof 0) c.place c.left)
+  mark-few : {x : Refusal} → Short (length m) s c x → Denied (mark m y) s c x
   unfolding trace_leaf
-  mark-few h = record { settles = field-no c.left (length m) s c.place _ h }
+  mark-few h = record { settles = field-no c.left (length m) s c.place _ h.room ∙ sym h.is }
 
-  mark-other : c.place + length m ≤ length s → same (part s c.place (length m)) m ≡ false
-      → Denied (mark m y) s c (refusal (y (little (part s c.place (length m)))) (c.place + length m) c.left)
+  mark-other : {x : Refusal} → c.place + length m ≤ length s → same (part s c.place (length m)) m ≡ false
+      → told x ≡ refused (y (little (part s c.place (length m)))) (c.place + length m) c.left → Denied (mark m y) s c x
   unfolding trace_leaf
-  mark-other h e = record { settles = field-yes c.left (length m) s c.place _ h ∙ guard-no c.left _ _ _ e }
+  mark-other h e i = record { settles = field-yes c.left (length m) s c.place _ h ∙ guard-no c.left _ _ _ e ∙ sym i }
 
   mark-same : c.place + length m ≤ length s → same (part s c.place (length m)) m ≡ true
       → Marks (mark m y) s c (Ok (past (length m) c))
@@ -44,23 +41,30 @@ module _ {m : List ℕ} {y : ℕ → Wrong} {s : List ℕ} {c : Cursor} where
 abbrev vob : List ℕ
 vob = 86 ∷ 79 ∷ 66 ∷ []
 
-module _ {s : List ℕ} {c : Cursor} (r : ReadyAt s c) where
-  pub magic-short : {x : Refusal} → length (rest s c) < 3 → x ≡ refusal (wrong unexpected_eof 0) c.place c.left → Marks magic_mark s c (Err x)
-  magic-short h e = rw e (unmarked (mark-few (omega (arith, r.within, rest-length s c))))
+module _ {s : List ℕ} {c : Cursor} {q : Read (List ℕ)} (h : FetchesBytes 3 s c q) where
+  pub magic-short : {r : Step} {x : Refusal} → q ≡ Err x → IsErrAnd r (λ y. y ≡ x) → Marks magic_mark s c r
+  magic-short {r} {x} e i = rw (handed r i) (go (rw e at h))
+    where
+      go : FetchesBytes 3 s c (Err x) → Marks magic_mark s c (Err x)
+      go (short_chunk a) = unmarked (mark-few a)
 
-  module _ {bs : List ℕ} (h : IsFirstChunk (rest s c) bs 3) where
-    inside : c.place + 3 ≤ length s
-    inside = omega (arith, r.within, rest-length s c, h.enough)
+  module _ {bs : List ℕ} {d : Cursor} (e : q ≡ Ok (bs, d)) where
+    chunked : Chunk 3 s c bs d
+    chunked = go (rw e at h)
+      where
+        go : FetchesBytes 3 s c (Ok (bs, d)) → Chunk 3 s c bs d
+        go (chunk a) = a
 
-    pub magic-got : bs ≡ vob → Marks magic_mark s c (Ok (past 3 c))
+    pub magic-got : bs ≡ vob → Marks magic_mark s c (Ok d)
     unfolding same pick
-    magic-got e = mark-same inside (rw (← chunk-is s c h, e) refl)
+    magic-got i = let a = chunked in rw a.next (mark-same a.room (rw (← a.is, i) refl))
 
-    pub magic-other : {x : Refusal} → (bs ≡ vob → ⊥) → x ≡ refusal (wrong invalid_magic 0) (c.place + 3) c.left → Marks magic_mark s c (Err x)
-    magic-other i e = rw e (unmarked (mark-other inside (go (same (part s c.place 3) vob) refl)))
+    pub magic-other : {x : Refusal} → (bs ≡ vob → ⊥) → told x ≡ refused (wrong invalid_magic 0) d.place d.left
+        → Marks magic_mark s c (Err x)
+    magic-other i j = let a = chunked in unmarked (mark-other a.room (go (same (part s c.place 3) vob) refl) (rw a.next at j))
       where
         go : (b : Bool) → same (part s c.place 3) vob ≡ b → b ≡ false
-        go true j = absurd (i (chunk-is s c h ∙ same-eq (part s c.place 3) vob (rw j tt)))
+        go true j = absurd (i (chunked.is ∙ same-eq (part s c.place 3) vob (rw j tt)))
         go false j = refl
 
 -- four bytes are those of 24 exactly where their number is
@@ -87,15 +91,14 @@ other-version {s} {c} {d} {n} f e = go (same (part s c.place 4) twenty_four) ref
 
 module _ {s : List ℕ} {c : Cursor} {q : Read ℕ} where
   pub version-short : {x : Refusal} {r : Step} → q ≡ Err x → IsErrAnd r (λ y. y ≡ x) → Fetches 4 s c q → Marks version_mark s c r
-  version-short {r = r} e i h = let k = shorts e h in rw (handed r i, k.is) (unmarked (mark-few k.room))
+  version-short {r = r} e i h = rw (handed r i) (unmarked (mark-few (shorts e h)))
 
   module _ {n : ℕ} {d : Cursor} (e : q ≡ Ok (n, d)) (h : Fetches 4 s c q) where
-    pub version-no : {x : Refusal} → (n ≡ 24 → ⊥) → x ≡ refusal (wrong unsupported_version n) d.place d.left
+    pub version-no : {x : Refusal} → (n ≡ 24 → ⊥) → told x ≡ refused (wrong unsupported_version n) d.place d.left
         → Marks version_mark s c (Err x)
     version-no i j =
         let f = fetched e h in
-        let k = mark-other {m = twenty_four} {y = λ n. wrong unsupported_version n} f.room (other-version f i) in
-        rw (j, f.next, f.is) (unmarked k)
+        unmarked (mark-other {m = twenty_four} {y = λ n. wrong unsupported_version n} f.room (other-version f i) (rw (f.next, f.is) at j))
 
     pub version-got : n ≡ 24 → Marks version_mark s c (Ok d)
     version-got i = let f = fetched e h in rw f.next (mark-same f.room (same_version f i))

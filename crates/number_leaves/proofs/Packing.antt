@@ -2,7 +2,7 @@
 use Rattle.std.specs.Prelude.{Ok, Err}
 use Rattle.std.specs.Result.{IsErrAnd}
 use Prim.Native.Nat.{ℕ, zero, suc, ◌+◌, ◌-◌, ◌*◌, ◌%◌, ◌^◌, ◌≤◌, ◌<◌}
-use mathlib.Core.Path.{◌≡◌, refl, ap, ◌∙◌}
+use mathlib.Core.Path.{◌≡◌, refl, sym, ap, ◌∙◌}
 use mathlib.Core.List.{List}
 use native.Mathlib.Omega.{arith}
 use native.Mathlib.Nat.{add_comm, add-mul, mul_assoc, mul_comm, lt_of_lt_of_le}
@@ -13,7 +13,7 @@ use Rattle.format.specs.Trace.{Wrong, wrong, unexpected_eof, invalid_source_inte
 use Rattle.format.specs.Format.{num, packed}
 use Rattle.format.specs.Reading.{packed_step, trace_packed, trace_leaf}
 use Rattle.format.specs.SettleTheorems.{then_s, settle-bind}
-use Rattle.reader.specs.Contract.{refusal, ReadyAt, Read}
+use Rattle.reader.specs.Contract.{told, ReadyAt, Read}
 use Rattle.reader.specs.Leaves.{Fetched, Short, Fetches, Answers, answered, denied}
 use Rattle.reader.specs.declared.Cursor.{Cursor}
 use Rattle.reader.specs.declared.Refusal.{Refusal}
@@ -129,23 +129,23 @@ step-short {s} {d} (suc k) m h = field-no d.left 1 s d.place _ h.room
 
 module _ {s : List ℕ} {c : Cursor} {v : ℕ} {d : Cursor} {i : ℕ} (p : Packing s c v d i) {q : Read ℕ} where
   pub packing-short : {p' : Read ℕ} {x : Refusal} → q ≡ Err x → IsErrAnd p' (λ y. y ≡ x) → Fetches 1 s d q → Answers packed s c p'
-  packing-short {p'} e j h = let k = shorts e h in rw (handed p' j, k.is) (denied (record { settles = p.refuses (step-short p.k (least i) k) }))
+  packing-short {p'} e j h = let k = shorts e h in rw (handed p' j) (denied (record { settles = p.refuses (step-short p.k (least i) k) ∙ sym k.is }))
 
   module _ {b : ℕ} {e : Cursor} (y : q ≡ Ok (b, e)) (h : Fetches 1 s d q) where
-    pub packing-over : {x : Refusal} → i ≡ 4 → 15 < b → x ≡ refusal (wrong invalid_source_integer 0) e.place e.left
+    pub packing-over : {x : Refusal} → i ≡ 4 → 15 < b → told x ≡ refused (wrong invalid_source_integer 0) e.place e.left
         → Answers packed s c (Err x)
     packing-over j g w =
         let z : p.k ≡ 0 = omega (arith, p.turn) in
         let o : settle d.left (trace_packed p.k (least i) s d.place) ≡ refused (wrong invalid_source_integer 0) e.place e.left = rw z (step-over (fetched y h) (least i) g) in
-        rw w (denied (record { settles = p.refuses o }))
+        denied (record { settles = p.refuses o ∙ sym w })
 
     module _ (r : Room i b) where
       fifth : p.k ≡ 0 → b ≤ 15
       fifth z = r.fifth (omega (arith, p.turn))
 
       pub packing-padded : {x : Refusal} → b < 128 → (i ≡ 0 → ⊥) → b ≡ 0
-          → x ≡ refusal (wrong invalid_source_integer 0) e.place e.left → Answers packed s c (Err x)
-      packing-padded g n z w = rw w (denied (record { settles = p.refuses (step-padded (fetched y h) p.k (least i) fifth g (one i n)) }))
+          → told x ≡ refused (wrong invalid_source_integer 0) e.place e.left → Answers packed s c (Err x)
+      packing-padded g n z w = denied (record { settles = p.refuses (step-padded (fetched y h) p.k (least i) fifth g (one i n)) ∙ sym w })
         where
           one : (i : ℕ) → (i ≡ 0 → ⊥) → b < least i
           one zero n = absurd (n refl)

@@ -19,7 +19,7 @@ use Rattle.in_place.specs.Contract.{Placed}
 use Rattle.alike_names.specs.Contract.{AlikeCall, AlikeIn}
 use Rattle.alike_names.specs.declared.AlikeNames.{AlikeNames}
 use Rattle.reader.proofs.Errors.{handed}
-use Rattle.reader.specs.Contract.{wrong_of, Ready, Reader, On, Step}
+use Rattle.reader.specs.Contract.{told, Ready, Reader, On, Step}
 use Rattle.reader.specs.declared.Cursor.{Cursor}
 use Rattle.reader.specs.declared.Refusal.{Refusal}
 use Rattle.reader.specs.declared.Span.{Span}
@@ -55,7 +55,7 @@ module _ (set : Settings) {s : List ℕ} {r : Step} where
   whole_of (denied i) e y = let no : ⊥ = cc in absurd no
 
   denied-of : {b : ℕ} {x : Refusal} {r' : Step} → Passed (pack set) (whole_trace set s) s 0 b r r' → r' ≡ Err x
-      → settle b (whole_trace set s) ≡ refused (wrong_of x) x.place x.left
+      → settle b (whole_trace set s) ≡ told x
   denied-of (denied {x = y} i) e = i ∙ cc
   denied-of (passed o i k m) e = let no : ⊥ = cc in absurd no
 

@@ -29,7 +29,12 @@ impl fmt::Display for Line {
             Err(r) => write!(
                 f,
                 "refused {} {} {} {} {} {}",
-                r.number, r.context, r.detail1, r.detail2, r.place, r.left
+                u64::from(r.kind),
+                r.context,
+                r.detail1,
+                r.detail2,
+                r.place,
+                r.left
             ),
         }
     }

@@ -45,7 +45,7 @@ impl<K: Display> Display for WithLists<K> {
 fn line<T: Display + Drop>(rt: &impl Print, read: Read<T>) -> io::Result<()> {
     match read {
         Ok((record, d)) => println!(rt; "{record}, place {}", d.place),
-        Err(x) => println!(rt; "refused {}", x.number),
+        Err(x) => println!(rt; "refused {}", u64::from(x.kind)),
     }
 }
 
@@ -63,7 +63,7 @@ impl Display for Shown<Option<u32>> {
 impl Display for Shown<RuntimeType> {
     fn fmt<W: fmt::Write>(&self, f: &mut fmt::Formatter<W>) -> fmt::Result {
         match self.0 {
-            RuntimeType::Basic(value_kind) => write!(f, "Basic {value_kind}"),
+            RuntimeType::Basic(value_kind) => write!(f, "Basic {}", value_kind as u8),
             RuntimeType::Named { id, struct_meta_id } => {
                 write!(f, "Named id {id} struct_meta_id {}", Shown(struct_meta_id))
             }
@@ -71,12 +71,12 @@ impl Display for Shown<RuntimeType> {
             RuntimeType::Array { len, elem } => write!(f, "Array len {len} elem {elem}"),
             RuntimeType::Slice(elem) => write!(f, "Slice {elem}"),
             RuntimeType::Map { key, val } => write!(f, "Map key {key} val {val}"),
-            RuntimeType::Chan { dir, elem } => write!(f, "Chan dir {dir} elem {elem}"),
+            RuntimeType::Chan { dir, elem } => write!(f, "Chan dir {} elem {elem}", dir as u8),
             RuntimeType::Func { variadic } => write!(f, "Func variadic {variadic}"),
             RuntimeType::Struct { meta_id } => write!(f, "Struct meta_id {meta_id}"),
             RuntimeType::Interface { meta_id } => write!(f, "Interface meta_id {meta_id}"),
             RuntimeType::Tuple => write!(f, "Tuple"),
-            RuntimeType::Port { dir, elem } => write!(f, "Port dir {dir} elem {elem}"),
+            RuntimeType::Port { dir, elem } => write!(f, "Port dir {} elem {elem}", dir as u8),
             RuntimeType::Island => write!(f, "Island"),
         }
     }
@@ -237,7 +237,7 @@ impl Display for Shown<Constant> {
             Constant::Bool(b) => write!(f, "Bool {b}"),
             Constant::Int(n) => write!(f, "Int {n}"),
             Constant::Float(x) => write!(f, "Float {}", Shown(x)),
-            Constant::Text { start, length } => write!(f, "Text start {start} length {length}"),
+            Constant::Text(span) => write!(f, "Text start {} length {}", span.start, span.length),
         }
     }
 }

@@ -97,7 +97,7 @@ module _ (set : Settings) {s : List ℕ} where
   -- what is refused stays so
   pub between-refused : {a b : ℕ} {q d : Read ℕ} {x : Refusal} {t : List ℕ} → q ≡ Err x → IsErrAnd d (λ y. y ≡ x)
       → Between set a b s q t d t
-  between-refused {d = d} e i = rw (handed d i, e) (record { comes = comes-not refl; on = λ n v p l o. let no : ◌≡◌ {A = ℕ} 0 1 = cc o.is in absurd (omega arith) })
+  between-refused {d = d} e i = rw (handed d i, e) (record { comes = comes-not refl; on = λ n v p l o. absurd (cc o.is) })
 
   module _ {i n : ℕ} {q d : Read ℕ} {c : Cursor} {t t' : List ℕ} (e : q ≡ Ok (n, c)) where
     -- the functions
@@ -149,7 +149,7 @@ module _ (set : Settings) {s : List ℕ} where
 
 place-taken : (q : Read ℕ) {c : Cursor} → step_of q ≡ Ok c → place_of q ≡ c.place
 place-taken (Ok (n, d)) {c} e = let i : d ≡ c = cc in rw i
-place-taken (Err x) e = let no : ◌≡◌ {A = ℕ} 0 1 = cc in absurd (omega arith)
+place-taken (Err x) e = absurd (cc)
 
 -- what was read there, whole or as the first part
 on-all : {f : Format} {s : List ℕ} {v : Value} {p l : ℕ} {r : Step} (o : On f s v p l r)
@@ -189,10 +189,6 @@ module _ (set : Settings) {s : List ℕ} {p l : ℕ} (q : Read ℕ) where
   section-reached n v vob.files o = first-at vob.files o
   section-reached n v vob.function_locations o = first-at vob.function_locations o
   section-reached n v vob.inline_sources o = let a = on-all o in rw (place-taken q o.is) (record { functions = n; stands = a.0; value = a.1 })
-
-pub start-ready : {f : Format} {s : List ℕ} {r r' : Step} {q : Read ℕ} {t t' : List ℕ} → Reader f s r t r' t'
-    → q ≡ with_number 0 r' → Ready s (step_of q)
-start-ready {r' = r} k e = rw (e, step-of 0 r) k.ready
 
 module _ (set : Settings) (to : Section) {s : List ℕ} {r r₁ r₂ : Step} {t t₁ t₂ t₃ t₄ : List ℕ} {i : ℕ} {start at last : Read ℕ} (a : Reader magic s r t r₁ t₁) (b : Reader version s r₁ t₁ r₂ t₂) (e : start ≡ with_number 0 r₂) where
   module _ (h : (i ≡ number_of (section_of to)) × (i ≤ 16)) (x : Between set 0 i s start t₂ at t₃) (y : Between set i 16 s at t₃ last t₄) where

@@ -11,7 +11,8 @@ ghost use Rattle.reach.specs.Reach.{Between, with_number, place_of, Reaches};
 use reader::{Read, Step};
 use vob24_data::{Section, Settings};
 
-// The numbers of the functions and of the inline sources, the last section, which goes by the number of functions.
+// The numbers of the functions and of the inline sources, the last section, which goes by the number of functions: numbers,
+// as the sections are gone through by a range of them.
 const FUNCTIONS: usize = 9;
 
 const LAST: usize = 16;

@@ -1,20 +1,20 @@
 -- The laws of what a second pass knows: what would refuse a part would refuse the whole.
 use Rattle.std.specs.Prelude.{Ok, Err}
-use Prim.Native.Nat.{ℕ, ◌<◌}
-use mathlib.Core.Path.{◌≡◌, refl, sym, ◌∙◌}
+use Prim.Native.Nat.{ℕ, ◌≤◌}
+use mathlib.Core.Path.{◌≡◌, refl, sym, ap, ◌∙◌}
 use mathlib.Core.List.{List, []}
 use mathlib.Core.Bool.{Bool, true, false}
 use native.Mathlib.Omega.{arith}
-use Rattle.format.specs.Trace.{Settled, refused, taken, settle, Ends}
-use Rattle.format.specs.Format.{Value, pair, first, second, number, Rule, count, Format, leaf, seq, times}
+use Rattle.format.specs.Trace.{Wrong, Settled, refused, taken, settle, Ends}
+use Rattle.format.specs.Format.{Value, pair, first, second, Format, seq}
 use Rattle.format.specs.Reading.{trace}
 use Rattle.format.specs.SettleTheorems.{then_s, settle-taken}
 use Rattle.format.proofs.TraceTheorems.{settle-seq}
-use Rattle.reader.specs.Contract.{refusal, Refuses, Reads, takes, refuses, skips, Reader, On, NumberOf, Step, Read}
+use Rattle.reader.specs.Contract.{told, Refuses, Reads, takes, refuses, skips, Reader, On, Step}
 use Rattle.reader.specs.declared.Cursor.{Cursor}
 use Rattle.reader.specs.declared.Refusal.{Refusal}
-use Rattle.reader.proofs.Laws.{at-refused, field_then, Turns}
-use Rattle.reader.proofs.Parts.{list-refused}
+use Rattle.reader.proofs.Laws.{at-refused, field_then}
+use Rattle.reader.proofs.Known.{kind-of}
 use Rattle.reader.specs.Accepted.{Goes, Accepted}
 
 -- a first pass knows nothing
@@ -44,25 +44,41 @@ module _ {b : Bool} {f : Format} {s : List ℕ} {r : Step} where
       go e (Ok c) k = record { cursor = c; is = refl; never = λ x h. denied a e (k x (record { reads = refuses h; ready = tt })).reads }
       go e (Err x) k = absurd (denied a e (k x (record { reads = skips; ready = tt })).reads)
 
--- what is accepted is taken
-pub accepted-on : {f : Format} {s : List ℕ} {r : Step} → Accepted true f s r
-    → (v : Value) × (q : ℕ) × (l : ℕ) × On f s v q l r
-accepted-on {f} {s} {r} g = let k = g.is refl in go k (settle k.cursor.left (trace f s k.cursor.place)) refl
+-- A reading whose refusals all have one of document 01's numbers, so that each is one of the code's.
+pub record Known (f : Format) (s : List ℕ) (c : Cursor) : Type 0 where
+  pub number : (w : Wrong) (p l : ℕ) → settle c.left (trace f s c.place) ≡ refused w p l
+      → (1 ≤ w.number) × (w.number ≤ 27)
+
+abbrev refused_with : Wrong → ℕ → ℕ → ℕ → Settled Value
+refused_with w p l n = refused (record { number = n; context = w.context; detail1 = w.detail1; detail2 = w.detail2 }) p l
+
+goes-taken : {f : Format} {s : List ℕ} {c : Cursor} → Known f s c → ((x : Refusal) → Refuses f s c x → ⊥)
+    → (v : Value) × (q : ℕ) × (l : ℕ) × (settle c.left (trace f s c.place) ≡ taken v q l)
+goes-taken {f} {s} {c} h n = go (settle c.left (trace f s c.place)) refl
   where
-    go : (k : Goes f s r) (z : Settled Value) → settle k.cursor.left (trace f s k.cursor.place) ≡ z
-        → (v : Value) × (q : ℕ) × (l : ℕ) × On f s v q l r
-    go k (refused w p l) e = absurd (k.never (refusal w p l) (record { settles = e }))
-    go k (taken v p l) e = (v, p, l, record { cursor = k.cursor; is = k.is; settles = e })
+    go : (z : Settled Value) → settle c.left (trace f s c.place) ≡ z
+        → (v : Value) × (q : ℕ) × (l : ℕ) × (settle c.left (trace f s c.place) ≡ taken v q l)
+    go (refused w p l) e =
+        let i = h.number w p l e in
+        let k = kind-of w.number i.0 i.1 in
+        let x : Refusal = record { kind = k.0; context = w.context; detail1 = w.detail1; detail2 = w.detail2; place = p; left = l } in
+        let same : told x ≡ refused w p l = ap (refused_with w p l) k.1 in
+        absurd (n x (record { settles = e ∙ sym same }))
+    go (taken v p l) e = (v, p, l, e)
+
+-- what is accepted is taken
+pub accepted-on : {f : Format} {s : List ℕ} {r : Step} → ((c : Cursor) → r ≡ Ok c → Known f s c) → Accepted true f s r
+    → (v : Value) × (q : ℕ) × (l : ℕ) × On f s v q l r
+accepted-on h g = let k = g.is refl in let t = goes-taken (h k.cursor k.is) k.never in (t.0, t.1, t.2, record { cursor = k.cursor; is = k.is; settles = t.3 })
 
 -- what is accepted comes to an end
-pub accepted-ends : {b : Bool} {f : Format} {s : List ℕ} {c : Cursor} → b ≡ true → Accepted b f s (Ok c)
-    → (v : Value) × (q : ℕ) × Ends (trace f s c.place) v q
-accepted-ends {b} {f} {s} {c} i g = let k = g.is i in let e : k.cursor ≡ c = cc k.is in go (rw e at k.never) (settle c.left (trace f s c.place)) refl
-  where
-    go : ((x : Refusal) → Refuses f s c x → ⊥) → (z : Settled Value) → settle c.left (trace f s c.place) ≡ z
-        → (v : Value) × (q : ℕ) × Ends (trace f s c.place) v q
-    go n (refused w p l) e = absurd (n (refusal w p l) (record { settles = e }))
-    go n (taken v p l) e = (v, p, ((settle-taken c.left (trace f s c.place) v p l).0 e).0)
+pub accepted-ends : {b : Bool} {f : Format} {s : List ℕ} {c : Cursor} → Known f s c → b ≡ true
+    → Accepted b f s (Ok c) → (v : Value) × (q : ℕ) × Ends (trace f s c.place) v q
+accepted-ends {b} {f} {s} {c} h i g =
+    let k = g.is i in
+    let e : k.cursor ≡ c = cc k.is in
+    let t = goes-taken h (rw e at k.never) in
+    (t.0, t.1, ((settle-taken c.left (trace f s c.place) t.0 t.1 t.2).0 t.3).0)
 
 pub accepted-at : {b : Bool} {f : Format} {s : List ℕ} {r : Step} {c : Cursor} → r ≡ Ok c → Accepted b f s r
     → Accepted b f s (Ok c)
@@ -76,13 +92,6 @@ module _ {b : Bool} {f g : Format} {s : List ℕ} {r : Step} where
   pub accepted-next : {r' : Step} {t t' : List ℕ} → Reader f s r t r' t' → Accepted b (seq f (λ _. g)) s r
       → Accepted b g s r'
   accepted-next h = accepted-part (λ x k. field_then h (λ _. k))
-
--- an item of a list
-pub accepted-item : {b : Bool} {ρ : Rule} {m k z : ℕ} {f : Format} {s : List ℕ} {c d : Cursor} {q : Read ℕ} {n : ℕ} {r r₂ : Step} {t t₁ t₂ : List ℕ} {j : ℕ}
-    → r ≡ Ok c → q ≡ Ok (n, d) → NumberOf (leaf (count ρ m k z)) number s c t q t₁ → 0 < j
-    → Turns f s t₁ (Ok d) n t₂ r₂ j
-    → Accepted b (seq (leaf (count ρ m k z)) (λ v. times f (number v))) s r → Accepted b f s r₂
-accepted-item y e h i l = accepted-part (λ x k. list-refused y e h i l k refl)
 
 -- ---- reading on in what a whole reading has taken
 

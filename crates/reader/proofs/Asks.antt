@@ -1,7 +1,7 @@
 -- The laws of questions: one after another, and after the part whose value they ask about.
 use Rattle.std.specs.Prelude.{Ok, Err}
 use Prim.Native.Nat.{ℕ, ◌-◌, ◌≤◌}
-use mathlib.Core.Path.{◌≡◌, refl, ◌∙◌}
+use mathlib.Core.Path.{◌≡◌, refl, sym, ◌∙◌}
 use mathlib.Core.List.{List, [], ◌∷◌, ◌++◌}
 use mathlib.Core.Bool.{Bool, true, false}
 use native.Mathlib.Omega.{arith}
@@ -13,7 +13,7 @@ use Rattle.format.specs.Reading.{trace, trace_ask, trace_leaf}
 use Rattle.format.specs.Record.{words, words_leaf}
 use Rattle.format.specs.SettleTheorems.{then_s}
 use Rattle.vob24.specs.Questions.{refuse_unless}
-use Rattle.reader.specs.Contract.{refusal, Ready, ReadyAt, Reads, takes, refuses, skips, Reader, Paid, Asks, passes, denies, Behind, Follows, Step}
+use Rattle.reader.specs.Contract.{told, Ready, ReadyAt, Reads, takes, refuses, skips, Reader, Paid, Asks, passes, denies, Behind, Follows, Step}
 use Rattle.reader.specs.declared.Cursor.{Cursor}
 use Rattle.reader.specs.declared.Refusal.{Refusal}
 use Rattle.reader.proofs.Laws.{takes-ends, then_reads, seq-refuses}
@@ -68,9 +68,10 @@ pub asks_none : {c : Cursor} → Asks [] c (Ok c)
 unfolding trace_ask settle
 asks_none = passes refl refl
 
-pub asks-deny : {w : Wrong} {l : List Ask} {c : Cursor} → Asks (deny w ∷ l) c (Err (refusal w c.place c.left))
+pub asks-deny : {w : Wrong} {l : List Ask} {c : Cursor} {x : Refusal} → told x ≡ refused w c.place c.left
+    → Asks (deny w ∷ l) c (Err x)
 unfolding trace_ask settle
-asks-deny = denies refl
+asks-deny e = denies (sym e)
 
 -- a charge, and the rest
 module _ {k n : ℕ} {l : List Ask} {c : Cursor} {p : Step} (h : Paid k n c p) where
@@ -130,7 +131,7 @@ module _ (a b : ℕ) (w : Wrong) {s : List ℕ} {d : Cursor} {t : List ℕ} (h :
   unfolding pick
   agree e = asked (rw (eq-eqb a b e) asks_none)
 
-  pub differ : {x : Refusal} → (a ≡ b → ⊥) → x ≡ refusal w d.place d.left
+  pub differ : {x : Refusal} → (a ≡ b → ⊥) → told x ≡ refused w d.place d.left
       → Reader (leaf (ask (refuse_unless (eqb a b) w))) s (Ok d) t (Err x) t
   unfolding pick
-  differ i e = rw e (asked (rw (ne_eqb a b i) asks-deny))
+  differ i e = asked (rw (ne_eqb a b i) (asks-deny e))

@@ -6,18 +6,16 @@ use mathlib.Core.Path.{◌≡◌, refl, ap, ◌∙◌}
 use mathlib.Core.List.{List, [], ◌∷◌}
 use mathlib.Core.Bool.{Bool}
 use native.Mathlib.Omega.{arith}
-use native.Mathlib.Nat.{add_assoc}
-use native.Mathlib.Numerals.{add-one}
 use lib.ListN.{length}
 use borrow.Author.Tests.{ne_eqb}
 use Rattle.format.specs.Trace.{Wrong, settle, taken, pick}
-use Rattle.format.specs.Format.{Value, none, num, text, number, Rule, Width, long, option, Leaf, fixed, mark, packed, string, payload, count, Format, leaf}
+use Rattle.format.specs.Format.{Value, none, num, text, number, Rule, Width, long, option, Leaf, fixed, mark, string, payload, Format, leaf}
 use Rattle.format.specs.Reading.{part, size, trace, trace_leaf}
 use Rattle.format.specs.Record.{shown, words, words_leaf}
 use Rattle.format.proofs.TraceTheorems.{part_length}
 use Rattle.vob24.specs.Leaves.{free}
 use Rattle.reader.specs.Contract.{ReadyAt, Takes, Refuses, takes, refuses, Reader, got, lost, NumberOf, got_span, lost_span, SpanOf, Wordy, Kept, WordyPair, KeptPair, Step, Read, span_at}
-use Rattle.reader.specs.Leaves.{Fetched, Fetches, Answered, Denied, Answers, answered, denied, Spanned, Spans, spanned, unspanned, Marks, marked, unmarked, Texts, written, unwritten}
+use Rattle.reader.specs.Leaves.{Fetched, Fetches, Answered, Denied, Answers, answered, denied, Spanned, Spans, spanned, Marks, marked, unmarked, Texts, written, unwritten, Narrow, narrow_byte, narrow_half, narrow_word, OneWord, one_fixed, one_packed, one_count}
 use Rattle.reader.specs.declared.Cursor.{Cursor}
 use Rattle.reader.specs.declared.Refusal.{Refusal}
 use Rattle.reader.specs.declared.Span.{Span}
@@ -25,17 +23,7 @@ use Rattle.reader.specs.declared.Text.{Text}
 use Rattle.reader.proofs.Laws.{takes-ready}
 use Rattle.reader.proofs.Settles.{guard-yes, field-yes}
 use Rattle.reader.proofs.Errors.{handed}
-use Rattle.reader.proofs.Leaves.{fetched, below, Narrow, narrow-byte, narrow-half, narrow-word, fixed-not, fixed-got}
-
--- `keep_pair`
-module _ {c d : Cursor} {a b : ℕ} {t t₁ : List ℕ} where
-  pub wordy-high : WordyPair c a b → Kept c a t d t₁ → Wordy d b
-  wordy-high h k = record { word = h.high; place = rw k.is (omega (arith, h.place)) }
-
-  pub kept_pair : {e : Cursor} {t₂ : List ℕ} → Kept c a t d t₁ → Kept d b t₁ e t₂ → KeptPair c a b t e t₂
-  kept_pair {e} {t₂} k m =
-      let i : e ≡ record { place = c.place; left = c.left; at = c.at + 1 + 1 } = m.is ∙ rw k.is in
-      record { is = i ∙ simp add_assoc; writes = m.writes ∙ rw (k.is, k.writes, add-one) }
+use Rattle.reader.proofs.Leaves.{fetched, below, fixed-not, fixed-got}
 
 -- ---- from the reading to the reader
 
@@ -65,19 +53,13 @@ denied-refuses h = record { settles = h.settles }
 
 -- ---- numbers of one word
 
--- the leaves that stand on the tape as one word
-pub data OneWord : Leaf → Type 0 where
-  one-fixed : {w : Width} {r : Rule} → Narrow w → OneWord (fixed w r)
-  one-packed : OneWord packed
-  one-count : {r : Rule} {m k z : ℕ} → OneWord (count r m k z)
-
 one_word : {l : Leaf} (n : ℕ) → OneWord l → words_leaf l (num n) ≡ n ∷ []
 unfolding words_leaf
-one_word n (one-fixed narrow-byte) = refl
-one_word n (one-fixed narrow-half) = refl
-one_word n (one-fixed narrow-word) = refl
-one_word n one-packed = refl
-one_word n one-count = refl
+one_word n (one_fixed narrow_byte) = refl
+one_word n (one_fixed narrow_half) = refl
+one_word n (one_fixed narrow_word) = refl
+one_word n one_packed = refl
+one_word n one_count = refl
 
 pub answered-takes : {l : Leaf} {s : List ℕ} {c : Cursor} {t t₁ : List ℕ} {n : ℕ} {d g : Cursor} → OneWord l
     → Answered l s c n d → Kept d n t g t₁ → Takes (leaf l) s c t (num n) g t₁
@@ -202,19 +184,6 @@ module _ {l : Leaf} {s : List ℕ} {c : Cursor} {p n : ℕ} {d : Cursor} where
         high = omega (arith, h.room, r.small);
         place = omega (arith, h.stays, r.small, r.within, r.behind);
       }
-
-module _ {l : Leaf} {s : List ℕ} {c : Cursor} {q : Read Span} where
-  pub spans-got : {p n : ℕ} {d : Cursor} → q ≡ Ok (span_at p n, d) → Spans l s c q → Spanned l s c p n d
-  spans-got {p} {n} {d} e h = go (rw e at h)
-    where
-      go : Spans l s c (Ok (span_at p n, d)) → Spanned l s c p n d
-      go (spanned a) = a
-
-  pub spans-not : {x : Refusal} → q ≡ Err x → Spans l s c q → Denied l s c x
-  spans-not {x} e h = go (rw e at h)
-    where
-      go : Spans l s c (Err x) → Denied l s c x
-      go (unspanned a) = a
 
 module _ {l : Leaf} {s : List ℕ} {c : Cursor} {q : Read Text} where
   texts-got : {p : Text} {d : Cursor} → q ≡ Ok (p, d) → Texts l s c q → Spanned l s c p.span.start p.span.length d

@@ -2,9 +2,8 @@
 use Rattle.std.specs.Prelude.{Ok, Err}
 use Rattle.std.specs.Result.{IsErrAnd}
 use Rattle.std.specs.Array.{IsFirstChunk}
-use Rattle.std.specs.Int.{w16, w32, from_le_bytes}
 use Prim.Native.Nat.{ℕ, ◌+◌, ◌-◌, ◌*◌, ◌^◌, ◌/◌, ◌%◌, ◌≤◌, ◌<◌}
-use mathlib.Core.Path.{◌≡◌, refl, ap, ◌∙◌}
+use mathlib.Core.Path.{◌≡◌, refl, sym, ap, ◌∙◌}
 use mathlib.Core.List.{List}
 use mathlib.Core.Bool.{true, false}
 use native.Mathlib.Omega.{arith}
@@ -18,22 +17,21 @@ use lib.Ieee as ieee
 use lib.ListN.{length, get_or, take, drop, length-drop}
 use lib.Seq.{take_all}
 use borrow.Author.Tests.{le-leb, lt-leb, le-ltb, lt-ltb, eq-eqb, ne_eqb}
-use Rattle.format.specs.Trace.{wrong, unexpected_eof, end, charge, settle, pick}
-use Rattle.format.specs.Format.{num, text, Rule, Width, byte, half, word, fixed, payload, count}
+use Rattle.format.specs.Trace.{wrong, refused, unexpected_eof, end, charge, settle, pick}
+use Rattle.format.specs.Format.{num, text, Rule, Width, word, fixed, payload, count}
 use Rattle.format.specs.Reading.{little, part, size, trace_leaf}
 use Rattle.format.proofs.TraceTheorems.{part_length}
 use Rattle.format.proofs.LayoutTheorems.{digits-little}
 use Rattle.vob24.specs.Refusals.{invalid_value_kind}
 use Rattle.vob24.specs.Leaves.{kind_ok, packed_ok, packed_word}
-use Rattle.reader.specs.Contract.{refusal, ReadyAt, Paid, Step, Read, span_at, bits_of}
-use Rattle.reader.specs.Leaves.{past, Fetched, Short, Fetches, there, short, FetchesSigned, signed, short_signed, FetchesFloat, float, short_float, Answered, Denied, Answers, answered, denied, entries_trace, bytes_trace, CountAt, Counted, enough, few, Spans, spanned, unspanned, Bought, bought, unbought}
+use Rattle.reader.specs.Contract.{told, ReadyAt, Paid, Step, Read, span_at, bits_of}
+use Rattle.reader.specs.Leaves.{Narrow, narrow_byte, narrow_half, narrow_word, past, FetchesBytes, chunk, short_chunk, Fetched, Short, Fetches, there, short, FetchesSigned, signed, short_signed, FetchesFloat, float, short_float, Answered, Denied, Answers, answered, denied, entries_trace, bytes_trace, CountAt, Counted, enough, few, Spans, spanned, unspanned, Bought, bought, unbought}
 use Rattle.reader.specs.declared.Cursor.{Cursor}
 use Rattle.reader.specs.declared.Refusal.{Refusal}
 use Rattle.reader.specs.declared.Span.{Span}
 use Rattle.reader.specs.declared.Bits.{Bits}
 use Rattle.reader.proofs.Errors.{handed}
 use Rattle.reader.proofs.Gather.{read_take, bytes_read}
-use Rattle.reader.proofs.Little.{chunk-length, little_1, little_2, little_4, little_8}
 use Rattle.reader.proofs.Settles.{guard-yes, guard-no, room-yes, room-no, field-yes, field-no, pay-yes, pay-no}
 use Rattle.reader.proofs.Paying.{paid-no, paid-yes, paid-spent, paid-bought}
 
@@ -59,42 +57,44 @@ below {k} {s} {c} {n} {d} h =
     rw h.is (rw e at b)
 
 -- what the code looks at: the pack from c on
-abbrev pub rest : List ℕ → Cursor → List ℕ
+abbrev rest : List ℕ → Cursor → List ℕ
 rest s c = take (length s - c.place) (drop c.place s)
 
 rest-is : (s : List ℕ) (c : Cursor) → rest s c ≡ drop c.place s
 rest-is s c = take_all (length s - c.place) (drop c.place s) (omega (arith, length-drop c.place s))
 
-pub rest-length : (s : List ℕ) (c : Cursor) → length (rest s c) ≡ length s - c.place
+rest-length : (s : List ℕ) (c : Cursor) → length (rest s c) ≡ length s - c.place
 rest-length s c = rw rest-is (length-drop c.place s)
 
-pub fetch-short : {k : ℕ} {s : List ℕ} {c : Cursor} {x : Refusal} → ReadyAt s c → length (rest s c) < k
-    → x ≡ refusal (wrong unexpected_eof 0) c.place c.left → Fetches k s c (Err x)
-fetch-short {s = s} {c} r h e = short (record { room = omega (arith, r.within, rest-length s c); is = e })
-
-pub chunk-is : {k : ℕ} (s : List ℕ) {bs : List ℕ} (c : Cursor) → IsFirstChunk (rest s c) bs k → bs ≡ part s c.place k
+chunk-is : {k : ℕ} (s : List ℕ) {bs : List ℕ} (c : Cursor) → IsFirstChunk (rest s c) bs k → bs ≡ part s c.place k
 chunk-is {k} s c h = h.same ∙ ap (take k) (rest-is s c)
 
-fetch-there : {k n : ℕ} {s bs : List ℕ} {c : Cursor} → ReadyAt s c → IsFirstChunk (rest s c) bs k → n ≡ little bs
-    → ((i : ℕ) → get_or s i 0 < 256) → Fetches k s c (Ok (n, past k c))
-fetch-there {k} {n} {s} {bs} {c} r h e b =
-    let i : c.place + k ≤ length s = omega (arith, r.within, rest-length s c, h.enough) in
-    let g = read_take k s c.place i in
-    there (record { room = i; is = e ∙ ap little (chunk-is s c h); bytes = rw g (bytes_read k s c.place b); next = refl })
+module _ {k : ℕ} {s : List ℕ} {c : Cursor} where
+  pub chunk-short : {x : Refusal} → ReadyAt s c → length (rest s c) < k → told x ≡ refused (wrong unexpected_eof 0) c.place c.left
+      → FetchesBytes k s c (Err x)
+  chunk-short r h e = short_chunk (record { room = omega (arith, r.within, rest-length s c); is = e })
 
--- the numbers of the first bytes
-module _ {n : ℕ} {s bs : List ℕ} {c : Cursor} (r : ReadyAt s c) where
-  pub fetch1 : IsFirstChunk (rest s c) bs 1 → n ≡ get_or bs 0 0 → ((i : ℕ) → get_or s i 0 < 256) → Fetches 1 s c (Ok (n, past 1 c))
-  fetch1 h e b = fetch-there r h (e ∙ little_1 bs (chunk-length h)) b
+  pub chunk-there : {bs : List ℕ} → ReadyAt s c → IsFirstChunk (rest s c) bs k → ((i : ℕ) → get_or s i 0 < 256)
+      → FetchesBytes k s c (Ok (bs, past k c))
+  chunk-there r h b =
+      let i : c.place + k ≤ length s = omega (arith, r.within, rest-length s c, h.enough) in
+      let g = read_take k s c.place i in
+      chunk (record { room = i; is = chunk-is s c h; bytes = rw g (bytes_read k s c.place b); next = refl })
 
-  pub fetch2 : IsFirstChunk (rest s c) bs 2 → n ≡ from_le_bytes w16 bs → ((i : ℕ) → get_or s i 0 < 256) → Fetches 2 s c (Ok (n, past 2 c))
-  fetch2 h e b = fetch-there r h (e ∙ little_2 bs (chunk-length h)) b
+  -- a number by what it makes of the bytes
+  module _ {q : Read (List ℕ)} (h : FetchesBytes k s c q) where
+    pub fetch-short : {r : Read ℕ} {x : Refusal} → q ≡ Err x → IsErrAnd r (λ y. y ≡ x) → Fetches k s c r
+    fetch-short {r} {x} e i = rw (handed r i) (go (rw e at h))
+      where
+        go : FetchesBytes k s c (Err x) → Fetches k s c (Err x)
+        go (short_chunk a) = short a
 
-  pub fetch4 : IsFirstChunk (rest s c) bs 4 → n ≡ from_le_bytes w32 bs → ((i : ℕ) → get_or s i 0 < 256) → Fetches 4 s c (Ok (n, past 4 c))
-  fetch4 h e b = fetch-there r h (e ∙ little_4 bs (chunk-length h)) b
-
-  pub fetch8 : IsFirstChunk (rest s c) bs 8 → n ≡ from_le_bytes w64 bs → ((i : ℕ) → get_or s i 0 < 256) → Fetches 8 s c (Ok (n, past 8 c))
-  fetch8 h e b = fetch-there r h (e ∙ little_8 bs (chunk-length h)) b
+    pub fetch-there : {bs : List ℕ} {d : Cursor} {n : ℕ} → q ≡ Ok (bs, d) → (length bs ≡ k → n ≡ little bs)
+        → Fetches k s c (Ok (n, d))
+    fetch-there {bs} {d} {n} e l = go (rw e at h)
+      where
+        go : FetchesBytes k s c (Ok (bs, d)) → Fetches k s c (Ok (n, d))
+        go (chunk a) = there (record { room = a.room; is = l (ap length a.is ∙ part_length s c.place k a.room) ∙ ap little a.is; bytes = a.bytes; next = a.next })
 
 -- the same eight bytes, signed and as a float
 module _ {s : List ℕ} {c : Cursor} {q : Read ℕ} where
@@ -121,30 +121,25 @@ past-ready r e h = let f = fetched e h in rw f.next (record { small = r.small; w
 
 -- ---- numbers held to a rule
 
--- the widths that a word of the tape holds
-pub data Narrow : Width → Type 0 where
-  narrow-byte : Narrow byte
-  narrow-half : Narrow half
-  narrow-word : Narrow word
-
 narrow_below : {w : Width} {n : ℕ} → Narrow w → n < 256 ^ size w → n < 4294967296
-narrow_below narrow-byte h = omega (arith, h)
-narrow_below narrow-half h = omega (arith, h)
-narrow_below narrow-word h = omega (arith, h)
+narrow_below narrow_byte h = omega (arith, h)
+narrow_below narrow_half h = omega (arith, h)
+narrow_below narrow_word h = omega (arith, h)
 
 module _ {w : Width} {r : Rule} {s : List ℕ} {c : Cursor} {q : Read ℕ} where
   pub fixed-not : {x : Refusal} → q ≡ Err x → Fetches (size w) s c q → Answers (fixed w r) s c q
   unfolding trace_leaf
-  fixed-not e h = let k = shorts e h in rw (e, k.is) (denied (record { settles = field-no c.left (size w) s c.place _ k.room }))
+  fixed-not e h = let k = shorts e h in rw e (denied (record { settles = field-no c.left (size w) s c.place _ k.room ∙ sym k.is }))
 
   pub fixed-short : {p : Read ℕ} {x : Refusal} → q ≡ Err x → IsErrAnd p (λ y. y ≡ x) → Fetches (size w) s c q
       → Answers (fixed w r) s c p
   fixed-short {p} e i h = rw (handed p i) (rw e at (fixed-not e h))
 
   module _ {n : ℕ} {d : Cursor} (e : q ≡ Ok (n, d)) (h : Fetches (size w) s c q) where
-    fixed-denied : r.test n ≡ false → Denied (fixed w r) s c (refusal (r.why n) d.place d.left)
+    fixed-denied : r.test n ≡ false → {x : Refusal} → told x ≡ refused (r.why n) d.place d.left
+        → Denied (fixed w r) s c x
     unfolding trace_leaf
-    fixed-denied i = let f = fetched e h in rw f.next (record { settles = field-yes c.left (size w) s c.place _ f.room ∙ rw (← f.is) (guard-no c.left _ _ _ i) })
+    fixed-denied i j = let f = fetched e h in record { settles = field-yes c.left (size w) s c.place _ f.room ∙ rw (← f.is) (guard-no c.left _ _ _ i) ∙ sym (rw f.next at j) }
 
     fixed-answered : Narrow w → r.test n ≡ true → Answered (fixed w r) s c n d
     unfolding trace_leaf settle
@@ -157,21 +152,21 @@ module _ {w : Width} {r : Rule} {s : List ℕ} {c : Cursor} {q : Read ℕ} where
           stays = refl;
         })
 
-    pub fixed_no : {x : Refusal} → r.test n ≡ false → x ≡ refusal (r.why n) d.place d.left
+    pub fixed_no : {x : Refusal} → r.test n ≡ false → told x ≡ refused (r.why n) d.place d.left
         → Answers (fixed w r) s c (Err x)
-    fixed_no i j = rw j (denied (fixed-denied i))
+    fixed_no i j = denied (fixed-denied i j)
 
     pub fixed-got : Narrow w → r.test n ≡ true → Answers (fixed w r) s c (Ok (n, d))
     fixed-got m i = answered (fixed-answered m i)
 
 -- packed words
 module _ {s : List ℕ} {c d : Cursor} {q : Read ℕ} {n : ℕ} {x : Refusal} (y : ℕ) (e : q ≡ Ok (n, d)) (h : Fetches 4 s c q) where
-  pub word-kind : 24 < n % 256 → x ≡ refusal (wrong invalid_value_kind (n % 256)) d.place d.left
+  pub word-kind : 24 < n % 256 → told x ≡ refused (wrong invalid_value_kind (n % 256)) d.place d.left
       → Answers (fixed word (packed_word y)) s c (Err x)
   unfolding pick
   word-kind b j = let i : kind_ok n ≡ false = lt-leb _ _ b in fixed_no e h (rw i) (j ∙ rw i)
 
-  pub word-id : n % 256 ≤ 24 → 0xffffff ≤ n / 256 → x ≡ refusal (wrong y n) d.place d.left
+  pub word-id : n % 256 ≤ 24 → 0xffffff ≤ n / 256 → told x ≡ refused (wrong y n) d.place d.left
       → Answers (fixed word (packed_word y)) s c (Err x)
   unfolding pick
   word-id b k j = let i : kind_ok n ≡ true = le-leb _ _ b in fixed_no e h (rw (i, le-ltb _ _ k)) (j ∙ rw i)
@@ -213,9 +208,9 @@ entries-there b n m k z s p r h = room-yes b _ s _ _ (omega arith)
 -- what follows the count
 module _ {s : List ℕ} {d : Cursor} {n m k z : ℕ} (r : ReadyAt s d) where
   pub counted-few : {x : Refusal} → length s - d.place < n * m
-      → x ≡ refusal (wrong unexpected_eof 0) d.place d.left → Counted s d n m k z (Err x)
+      → told x ≡ refused (wrong unexpected_eof 0) d.place d.left → Counted s d n m k z (Err x)
   unfolding entries_trace
-  counted-few h e = rw e (few (room-no d.left _ s _ _ (omega (arith, r.within))))
+  counted-few h e = few (room-no d.left _ s _ _ (omega (arith, r.within)) ∙ sym e)
 
   pub counted-got : {p : Step} {g : Cursor} → n * m ≤ length s - d.place → Paid k (n * z) d p → p ≡ Ok g
       → Counted s d n m k z (Ok (n, g))
@@ -239,16 +234,17 @@ module _ {s : List ℕ} {c : Cursor} {q : Read ℕ} {ρ : Rule} {m k z : ℕ} wh
   pub count-short : {p : Read ℕ} {x : Refusal} → q ≡ Err x → IsErrAnd p (λ y. y ≡ x) → Fetches 4 s c q
       → Answers (count ρ m k z) s c p
   unfolding trace_leaf
-  count-short {p} e i h = let j = shorts e h in rw (handed p i, j.is) (denied (record { settles = field-no c.left 4 s c.place _ j.room }))
+  count-short {p} e i h = let j = shorts e h in rw (handed p i) (denied (record { settles = field-no c.left 4 s c.place _ j.room ∙ sym j.is }))
 
   module _ {n : ℕ} {d : Cursor} (e : q ≡ Ok (n, d)) (h : Fetches 4 s c q) where
-    count-denied : ρ.test n ≡ false → Denied (count ρ m k z) s c (refusal (ρ.why n) d.place d.left)
+    count-denied : ρ.test n ≡ false → {x : Refusal} → told x ≡ refused (ρ.why n) d.place d.left
+        → Denied (count ρ m k z) s c x
     unfolding trace_leaf
-    count-denied i = let f = fetched e h in rw f.next (record { settles = field-yes c.left 4 s c.place _ f.room ∙ rw (← f.is) (guard-no c.left _ _ _ i) })
+    count-denied i j = let f = fetched e h in record { settles = field-yes c.left 4 s c.place _ f.room ∙ rw (← f.is) (guard-no c.left _ _ _ i) ∙ sym (rw f.next at j) }
 
-    pub count_no : {x : Refusal} → ρ.test n ≡ false → x ≡ refusal (ρ.why n) d.place d.left
+    pub count_no : {x : Refusal} → ρ.test n ≡ false → told x ≡ refused (ρ.why n) d.place d.left
         → Answers (count ρ m k z) s c (Err x)
-    count_no i j = rw j (denied (count-denied i))
+    count_no i j = denied (count-denied i j)
 
     pub count-then : {p : Read ℕ} → ρ.test n ≡ true → Counted s d n m k z p → Answers (count ρ m k z) s c p
     count-then i (few x) = denied (record { settles = count-leads ρ m k z (fetched e h) i ∙ x })
@@ -271,10 +267,10 @@ count_at r e h i j = count-below r e h i (omega arith)
 
 -- what follows the length
 module _ {s : List ℕ} {d : Cursor} {n k : ℕ} (r : ReadyAt s d) where
-  pub bytes-few : {x : Refusal} → length s - d.place < n → x ≡ refusal (wrong unexpected_eof 0) d.place d.left
+  pub bytes-few : {x : Refusal} → length s - d.place < n → told x ≡ refused (wrong unexpected_eof 0) d.place d.left
       → Bought s d n k (Err x)
   unfolding bytes_trace
-  bytes-few h e = rw e (unbought (field-no d.left _ s _ _ (omega (arith, r.within))))
+  bytes-few h e = unbought (field-no d.left _ s _ _ (omega (arith, r.within)) ∙ sym e)
 
   module _ {p : Step} (h : n ≤ length s - d.place) (y : Paid k n (record { place = d.place + n; left = d.left; at = d.at }) p) where
     inside : d.place + n ≤ length s
@@ -300,19 +296,20 @@ module _ {s : List ℕ} {c : Cursor} {q : Read ℕ} {ρ : Rule} {k : ℕ} where
   pub payload-short : {p : Read Span} {x : Refusal} → q ≡ Err x → IsErrAnd p (λ y. y ≡ x) → Fetches 4 s c q
       → Spans (payload ρ k) s c p
   unfolding trace_leaf
-  payload-short {p} e i h = let j = shorts e h in rw (handed p i, j.is) (unspanned (record { settles = field-no c.left 4 s c.place _ j.room }))
+  payload-short {p} e i h = let j = shorts e h in rw (handed p i) (unspanned (record { settles = field-no c.left 4 s c.place _ j.room ∙ sym j.is }))
 
   module _ {n : ℕ} {d : Cursor} (e : q ≡ Ok (n, d)) (h : Fetches 4 s c q) where
-    payload-denied : ρ.test n ≡ false → Denied (payload ρ k) s c (refusal (ρ.why n) d.place d.left)
+    payload-denied : ρ.test n ≡ false → {x : Refusal} → told x ≡ refused (ρ.why n) d.place d.left
+        → Denied (payload ρ k) s c x
     unfolding trace_leaf
-    payload-denied i = let f = fetched e h in rw f.next (record { settles = field-yes c.left 4 s c.place _ f.room ∙ rw (← f.is) (guard-no c.left _ _ _ i) })
+    payload-denied i j = let f = fetched e h in record { settles = field-yes c.left 4 s c.place _ f.room ∙ rw (← f.is) (guard-no c.left _ _ _ i) ∙ sym (rw f.next at j) }
 
-    pub payload-no : {x : Refusal} → ρ.test n ≡ false → x ≡ refusal (ρ.why n) d.place d.left
+    pub payload-no : {x : Refusal} → ρ.test n ≡ false → told x ≡ refused (ρ.why n) d.place d.left
         → Spans (payload ρ k) s c (Err x)
-    payload-no i j = rw j (unspanned (payload-denied i))
+    payload-no i j = unspanned (payload-denied i j)
 
     pub payload-then : {p : Read Span} → ρ.test n ≡ true → Bought s d n k p → Spans (payload ρ k) s c p
     payload-then i (unbought x) = unspanned (record { settles = payload-leads ρ k (fetched e h) i ∙ x })
     payload-then i (bought b x y) = let f = fetched e h in spanned (record { settles = payload-leads ρ k f i ∙ x; room = b; stays = y ∙ rw f.next })
 
-pub ruleset leaves = (lt-leb, le-leb, eq-eqb, ne_eqb, fetch-short, signed-got, signed-not, float_got, float-not, past-ready, narrow-byte, narrow-half, narrow-word, fixed-short, fixed_no, fixed-got, word-kind, word-id, packed-ok, tag-low, tag-gap, tag-above, tag-high, product-fits, counted-few, counted-got, counted-poor, count-short, count_no, count-then, count-size, count_at, bytes-few, bytes-poor, bytes-got, payload-short, payload-no, payload-then, paid-no, paid-yes)
+pub ruleset leaves = (lt-leb, le-leb, eq-eqb, ne_eqb, signed-got, signed-not, float_got, float-not, past-ready, narrow_byte, narrow_half, narrow_word, fixed-short, fixed_no, fixed-got, word-kind, word-id, packed-ok, tag-low, tag-gap, tag-above, tag-high, product-fits, counted-few, counted-got, counted-poor, count-short, count_no, count-then, count-size, count_at, bytes-few, bytes-poor, bytes-got, payload-short, payload-no, payload-then, paid-no, paid-yes)

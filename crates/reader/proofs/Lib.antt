@@ -12,3 +12,4 @@ pub mod Reading
 pub mod Recording
 pub mod Numbering
 pub mod Accepting
+pub mod Known

@@ -37,5 +37,3 @@ module _ {ρ : Rule} {z : ℕ} {s : List ℕ} {c d : Cursor} {q : Read ℕ} {n :
     where
       go : Reads (times f n) s (Ok d) t₁ (Err x) t₂ → NumberOf (list_of ρ z f) counted s c t p t₂
       go (refuses y) = let g = got_of e h in refused_number j (then-refuses g.takes (rw g.is at y))
-
-pub ruleset numbering = (numbered_not, numbered_items, numbered_refused)

@@ -181,6 +181,13 @@ list-place w ρ' {ρ} {z} {s} {c} {d} {q} {n} e h =
     let i = fixed-end w ρ' (number (first g.value)) s b.mid b.back in
     rw g.is (omega (arith, l.3, i))
 
+-- a law of a record and its step, as one of the answer
+pub record_on : {R : Type 0} (o : R) {f g : Format} {of of' : ℕ → Value → R} {s : List ℕ} {c d : Cursor} {t t₁ t₂ : List ℕ} {q : Read R}
+    → ((r : Step) (x : R) → Recorded g of' s d t₁ r x t₂ → Recorded f of s c t r x t₂) → RecordOf g of' s d t₁ q t₂
+    → RecordOf f of s c t q t₂
+record_on o k (recorded a) = recorded (k _ _ a)
+record_on o k (unrecorded a) = unrecorded (k _ o (record { reader = a; is = λ d v i j. apart i })).reader
+
 -- ---- a record by its tag
 
 -- a tag from k on that is not k
@@ -192,5 +199,3 @@ pub variant_at : {R : Type 0} {ρ : Rule} (fs : List Format) (rs : ℕ → Value
     → Recorded (get_or fs k empty) (λ p v. get_or (rs p v) k o) s d t₁ r x t₂
     → Recorded (choose ρ fs) (λ p v. get_or (rs (p + 1) (second v)) (number (first v)) o) s c t r x t₂
 variant_at fs rs o k e i h m = recorded_then e h (λ n. get_or fs n empty) (λ n p v. get_or (rs (p + 1) v) n o) (rw i (recorded_place (fixed-place e h) m))
-
-pub ruleset recording = (lost_here, lost_last, lost_then, recorded_not)

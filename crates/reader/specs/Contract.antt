@@ -1,11 +1,14 @@
 -- The contracts of readers: what their answers say of a format's trace.
 use Rattle.std.specs.Prelude.{ℕ, ◌+◌, ◌-◌, ◌≤◌, ◌<◌, ◌≡◌, List, [], ◌∷◌, length, set, leb, Result, Ok, Err}
 use Rattle.std.proofs.lemmas.List.Edits.{sets}
-use Rattle.format.specs.Trace.{Wrong, refused, taken, settle, pick, spent, Ends}
+use Rattle.format.specs.Trace.{Wrong, Settled, refused, taken, settle, pick, Ends}
 use Rattle.format.specs.Format.{Value, none, text, Ask, Format}
 use Rattle.format.specs.Reading.{part, trace_ask, trace}
 use Rattle.format.specs.Record.{words}
 use Rattle.vob24.specs.Settings.{max_pack_bytes}
+use Rattle.reader.specs.Numbers.{kind_number}
+use Rattle.reader.specs.declared.kinds.Kind.{Kind}
+use Rattle.reader.specs.declared.kinds.Kind.TheVariants.{AllocationBudgetExceeded}
 use Rattle.reader.specs.declared.Cursor.{Cursor}
 use Rattle.reader.specs.declared.Refusal.{Refusal}
 use Rattle.reader.specs.declared.Span.{Span}
@@ -20,11 +23,17 @@ Step = Result Cursor Refusal
 abbrev pub Read : Type 0 → Type 0
 Read X = Result (X × Cursor) Refusal
 
-abbrev pub refusal : Wrong → ℕ → ℕ → Refusal
-refusal w p b = record { number = w.number; context = w.context; detail1 = w.detail1; detail2 = w.detail2; place = p; left = b }
+-- The refusal at a cursor: its kind, context and details.
+abbrev pub refusal : Kind → ℕ → ℕ → ℕ → Cursor → Refusal
+refusal k x a b c = record { kind = k; context = x; detail1 = a; detail2 = b; place = c.place; left = c.left }
 
+-- Document 01's numbers of a refusal.
 abbrev pub wrong_of : Refusal → Wrong
-wrong_of x = record { number = x.number; context = x.context; detail1 = x.detail1; detail2 = x.detail2 }
+wrong_of x = record { number = kind_number x.kind; context = x.context; detail1 = x.detail1; detail2 = x.detail2 }
+
+-- What a refusal says of a reading.
+abbrev pub told : Refusal → Settled Value
+told x = refused (wrong_of x) x.place x.left
 
 abbrev pub span_at : ℕ → ℕ → Span
 span_at p n = record { start = p; length = n }
@@ -61,7 +70,7 @@ pub record Takes (f : Format) (s : List ℕ) (c : Cursor) (t : List ℕ) (v : Va
   pub writes : t' ≡ sets t c.at (words f v)
 
 pub record Refuses (f : Format) (s : List ℕ) (c : Cursor) (x : Refusal) : Type 0 where
-  pub settles : settle c.left (trace f s c.place) ≡ refused (wrong_of x) x.place x.left
+  pub settles : settle c.left (trace f s c.place) ≡ told x
 
 -- A reader of f, called with the answer so far: what is refused stays so.
 pub data Reads (f : Format) (s : List ℕ) : Step → List ℕ → Step → List ℕ → Type 0 where
@@ -128,7 +137,7 @@ pub record KeptPair (c : Cursor) (a b : ℕ) (t : List ℕ) (d : Cursor) (t' : L
 
 -- A charge at a cursor.
 abbrev pub paid : ℕ → ℕ → Cursor → Step
-paid k n c = pick (leb n c.left) (Ok (record { place = c.place; left = c.left - n; at = c.at })) (Err (refusal (spent k n c.left) c.place c.left))
+paid k n c = pick (leb n c.left) (Ok (record { place = c.place; left = c.left - n; at = c.at })) (Err (refusal AllocationBudgetExceeded k n c.left c))
 
 pub record Paid (k n : ℕ) (c : Cursor) (r : Step) : Type 0 where
   pub is : r ≡ paid k n c
@@ -137,7 +146,7 @@ pub record Paid (k n : ℕ) (c : Cursor) (r : Step) : Type 0 where
 pub data Asks (l : List Ask) (c : Cursor) : Step → Type 0 where
   passes : {d : Cursor} → settle c.left (trace_ask l c.place) ≡ taken none d.place d.left → d.at ≡ c.at
       → Asks l c (Ok d)
-  denies : {x : Refusal} → settle c.left (trace_ask l c.place) ≡ refused (wrong_of x) x.place x.left
+  denies : {x : Refusal} → settle c.left (trace_ask l c.place) ≡ told x
       → Asks l c (Err x)
 
 -- What a part that went from r to r₁ has left behind in the bytes.

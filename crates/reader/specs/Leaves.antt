@@ -5,11 +5,11 @@ use Rattle.std.specs.Float.Ieee.{of_bits}
 use Rattle.std.specs.Int.{w64}
 use Rattle.std.proofs.Common.{to_z}
 use Rattle.format.specs.Trace.{wrong, unexpected_eof, invalid_utf8, Trace, end, charge, settle, taken, refused}
-use Rattle.format.specs.Format.{Value, none, num, text, Leaf}
+use Rattle.format.specs.Format.{Value, none, num, text, Rule, Width, byte, half, word, Leaf, fixed, packed, count}
 use Rattle.format.specs.Reading.{little, part, room, field, trace_leaf}
 use Rattle.format.specs.Layout.{Bytes}
 use Rattle.vob24.specs.Utf8.{scan, ill_formed, characters}
-use Rattle.reader.specs.Contract.{refusal, wrong_of, ReadyAt, Step, Read, span_at, text_at, bits_of}
+use Rattle.reader.specs.Contract.{told, ReadyAt, Step, Read, span_at, text_at, bits_of}
 use Rattle.reader.specs.declared.Cursor.{Cursor}
 use Rattle.reader.specs.declared.Refusal.{Refusal}
 use Rattle.reader.specs.declared.Span.{Span}
@@ -20,6 +20,13 @@ use Rattle.reader.specs.declared.Bits.{Bits}
 abbrev pub past : ℕ → Cursor → Cursor
 past k c = record { place = c.place + k; left = c.left; at = c.at }
 
+-- The same k bytes as they are.
+pub record Chunk (k : ℕ) (s : List ℕ) (c : Cursor) (bs : List ℕ) (d : Cursor) : Type 0 where
+  pub room : c.place + k ≤ length s
+  pub is : bs ≡ part s c.place k
+  pub bytes : Bytes (part s c.place k)
+  pub next : d ≡ past k c
+
 pub record Fetched (k : ℕ) (s : List ℕ) (c : Cursor) (n : ℕ) (d : Cursor) : Type 0 where
   pub room : c.place + k ≤ length s
   pub is : n ≡ little (part s c.place k)
@@ -29,7 +36,11 @@ pub record Fetched (k : ℕ) (s : List ℕ) (c : Cursor) (n : ℕ) (d : Cursor) 
 -- Too few bytes: 2 at the field's start.
 pub record Short (k : ℕ) (s : List ℕ) (c : Cursor) (x : Refusal) : Type 0 where
   pub room : length s < c.place + k
-  pub is : x ≡ refusal (wrong unexpected_eof 0) c.place c.left
+  pub is : told x ≡ refused (wrong unexpected_eof 0) c.place c.left
+
+pub data FetchesBytes (k : ℕ) (s : List ℕ) (c : Cursor) : Read (List ℕ) → Type 0 where
+  chunk : {bs : List ℕ} {d : Cursor} → Chunk k s c bs d → FetchesBytes k s c (Ok (bs, d))
+  short_chunk : {x : Refusal} → Short k s c x → FetchesBytes k s c (Err x)
 
 pub data Fetches (k : ℕ) (s : List ℕ) (c : Cursor) : Read ℕ → Type 0 where
   there : {n : ℕ} {d : Cursor} → Fetched k s c n d → Fetches k s c (Ok (n, d))
@@ -53,7 +64,7 @@ pub record CountAt (s : List ℕ) (d : Cursor) (n m z : ℕ) : Type 0 where
 pub data Counted (s : List ℕ) (d : Cursor) (n m k z : ℕ) : Read ℕ → Type 0 where
   enough : {e : Cursor} → settle d.left (entries_trace s d.place n m k z) ≡ taken (num n) e.place e.left
       → e.at ≡ d.at → Counted s d n m k z (Ok (n, e))
-  few : {x : Refusal} → settle d.left (entries_trace s d.place n m k z) ≡ refused (wrong_of x) x.place x.left
+  few : {x : Refusal} → settle d.left (entries_trace s d.place n m k z) ≡ told x
       → Counted s d n m k z (Err x)
 
 -- Eight bytes as a signed number or as a float, and their bits.
@@ -74,7 +85,7 @@ pub record Answered (l : Leaf) (s : List ℕ) (c : Cursor) (n : ℕ) (d : Cursor
 
 -- The trace refuses.
 pub record Denied (l : Leaf) (s : List ℕ) (c : Cursor) (x : Refusal) : Type 0 where
-  pub settles : settle c.left (trace_leaf l s c.place) ≡ refused (wrong_of x) x.place x.left
+  pub settles : settle c.left (trace_leaf l s c.place) ≡ told x
 
 -- The contract of a leaf that answers a number.
 pub data Answers (l : Leaf) (s : List ℕ) (c : Cursor) : Read ℕ → Type 0 where
@@ -97,8 +108,20 @@ pub data Bought (s : List ℕ) (d : Cursor) (n k : ℕ) : Read Span → Type 0 w
   bought : {e : Cursor} → d.place + n ≤ length s
       → settle d.left (bytes_trace s d.place n k) ≡ taken (text d.place (part s d.place n)) e.place e.left
       → e.at ≡ d.at → Bought s d n k (Ok (span_at d.place n, e))
-  unbought : {x : Refusal} → settle d.left (bytes_trace s d.place n k) ≡ refused (wrong_of x) x.place x.left
+  unbought : {x : Refusal} → settle d.left (bytes_trace s d.place n k) ≡ told x
       → Bought s d n k (Err x)
+
+-- The widths that a word of the tape holds.
+pub data Narrow : Width → Type 0 where
+  narrow_byte : Narrow byte
+  narrow_half : Narrow half
+  narrow_word : Narrow word
+
+-- The leaves that stand on the tape as one word.
+pub data OneWord : Leaf → Type 0 where
+  one_fixed : {w : Width} {r : Rule} → Narrow w → OneWord (fixed w r)
+  one_packed : OneWord packed
+  one_count : {r : Rule} {m k z : ℕ} → OneWord (count r m k z)
 
 -- A mark of the file: passed or refused.
 pub data Marks (l : Leaf) (s : List ℕ) (c : Cursor) : Step → Type 0 where
@@ -117,4 +140,4 @@ pub data Checked (s : List ℕ) : Read Span → Read Text → Type 0 where
   formed : {p : Span} {k : ℕ} {d : Cursor} → scan (part s p.start p.length) ≡ characters k
       → Checked s (Ok (p, d)) (Ok (text_at p k, d))
   malformed : {p : Span} {d : Cursor} {x : Refusal} → scan (part s p.start p.length) ≡ ill_formed
-      → x ≡ refusal (wrong invalid_utf8 0) d.place d.left → Checked s (Ok (p, d)) (Err x)
+      → told x ≡ refused (wrong invalid_utf8 0) d.place d.left → Checked s (Ok (p, d)) (Err x)

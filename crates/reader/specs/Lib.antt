@@ -1,3 +1,4 @@
+pub mod Numbers
 pub mod Contract
 pub mod Leaves
 pub mod Recorded

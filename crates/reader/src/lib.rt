@@ -1,6 +1,9 @@
 // The types that readers pass on, the contract that they share and its laws, numbers of fixed width, and charges.
 // Ports `struct ByteReader` of serialize.rs and its plainest methods: place and budget go in by value, as a Cursor, and
-// come back in the answer. No leaf writes to the tape; the field readers of crate fields do, by `keep`.
+// come back in the answer. No leaf writes to the tape; the field readers of crate fields do, by `keep`. Pack, settings and
+// tape stay parameters: of a struct that is lent as a whole each contract would have to say too that the pack, the settings
+// and the loan of the tape stay, and a bare pack and one of code took more instructions (docs/DESIGN-PASS.md, 5).
+// `as` stands between usize and u64, where Rust has no `From`, and where a number is known to fit a narrower type.
 #![tactic(auto)]
 
 ghost use Rattle.std.specs.Prelude.{◌+◌, ◌<◌, ◌≡◌, set};
@@ -8,13 +11,15 @@ ghost use Rattle.std.specs.Float.{binary64};
 ghost use Rattle.std.specs.Float.Ieee.{of_bits};
 ghost use Rattle.std.specs.Int.{w64};
 ghost use Rattle.std.proofs.Common.{to_z};
-ghost use Rattle.format.specs.Trace.{wrong};
 ghost use Rattle.format.specs.Reading.{little};
-ghost use Rattle.reader.specs.Contract.{refusal, ReadyAt, Wordy, Kept, WordyPair, KeptPair, Paid};
-ghost use Rattle.reader.specs.Leaves.{past, Fetches, FetchesSigned, FetchesFloat};
+ghost use Rattle.format.specs.Trace.{wrong, refused};
+ghost use Rattle.reader.specs.Contract.{told, ReadyAt, Wordy, Kept, WordyPair, KeptPair, Paid};
+ghost use Rattle.reader.specs.Numbers.{kind_number, context_number};
+ghost use Rattle.reader.specs.Leaves.{past, FetchesBytes, Fetches, FetchesSigned, FetchesFloat};
 
-pub mod numbers;
-pub mod sizes;
+mod kinds;
+
+pub use kinds::{Context, Kind, Part};
 
 // Place in the pack, budget left, and words counted so far.
 #[derive(Clone, Copy, PartialEq, Eq, Debug)]
@@ -26,7 +31,7 @@ pub struct Cursor {
 
 #[derive(Clone, Copy, PartialEq, Eq, Debug)]
 pub struct Refusal {
-    pub number: u64,
+    pub kind: Kind,
     pub context: u64,
     pub detail1: u64,
     pub detail2: u64,
@@ -79,12 +84,12 @@ pub fn list_at(s: &[u8], c: Cursor, n: u64) -> ListAt
     }
 }
 
-// The refusal at a cursor, with its number and first detail only.
-pub fn refuse(c: Cursor, number: u64, detail1: u64) -> Refusal
-    ensures { result ≡ refusal (wrong number detail1) c.place c.left }
+// The refusal at a cursor, with its kind and first detail only.
+pub fn refuse(c: Cursor, kind: Kind, detail1: u64) -> Refusal
+    ensures { told result ≡ refused (wrong (kind_number kind) detail1) c.place c.left }
 {
     Refusal {
-        number,
+        kind,
         context: 0,
         detail1,
         detail2: 0,
@@ -141,26 +146,32 @@ pub fn past(n: usize, c: Cursor) -> Cursor
     }
 }
 
+// The next N bytes, and the cursor past them.
+pub fn fetch<const N: usize>(s: &[u8], c: Cursor) -> Read<[u8; N]>
+    requires { ReadyAt s.now c }
+    ensures { FetchesBytes N s.now c result }
+{
+    let rest = &s[c.place..];
+    let Some(bytes) = rest.first_chunk::<N>() else {
+        return Err(refuse(c, Kind::UnexpectedEof, 0));
+    };
+    Ok((*bytes, past(N, c)))
+}
+
 pub fn read_u8(s: &[u8], c: Cursor) -> Read<u64>
     requires { ReadyAt s.now c }
     ensures { Fetches 1 s.now c result }
 {
-    let rest = &s[c.place..];
-    let Some(bytes) = rest.first_chunk::<1>() else {
-        return Err(refuse(c, numbers::UNEXPECTED_EOF, 0));
-    };
-    Ok((u64::from(bytes[0]), past(1, c)))
+    let (bytes, d) = fetch::<1>(s, c)?;
+    Ok((u64::from(bytes[0]), d))
 }
 
 pub fn read_u16(s: &[u8], c: Cursor) -> Read<u64>
     requires { ReadyAt s.now c }
     ensures { Fetches 2 s.now c result }
 {
-    let rest = &s[c.place..];
-    let Some(bytes) = rest.first_chunk::<2>() else {
-        return Err(refuse(c, numbers::UNEXPECTED_EOF, 0));
-    };
-    Ok((u64::from(u16::from_le_bytes(*bytes)), past(2, c)))
+    let (bytes, d) = fetch::<2>(s, c)?;
+    Ok((u64::from(u16::from_le_bytes(bytes)), d))
 }
 
 // Also `read_i32`: a signed number is its bits.
@@ -168,22 +179,16 @@ pub fn read_u32(s: &[u8], c: Cursor) -> Read<u64>
     requires { ReadyAt s.now c }
     ensures { Fetches 4 s.now c result }
 {
-    let rest = &s[c.place..];
-    let Some(bytes) = rest.first_chunk::<4>() else {
-        return Err(refuse(c, numbers::UNEXPECTED_EOF, 0));
-    };
-    Ok((u64::from(u32::from_le_bytes(*bytes)), past(4, c)))
+    let (bytes, d) = fetch::<4>(s, c)?;
+    Ok((u64::from(u32::from_le_bytes(bytes)), d))
 }
 
 pub fn read_u64(s: &[u8], c: Cursor) -> Read<u64>
     requires { ReadyAt s.now c }
     ensures { Fetches 8 s.now c result }
 {
-    let rest = &s[c.place..];
-    let Some(bytes) = rest.first_chunk::<8>() else {
-        return Err(refuse(c, numbers::UNEXPECTED_EOF, 0));
-    };
-    Ok((u64::from_le_bytes(*bytes), past(8, c)))
+    let (bytes, d) = fetch::<8>(s, c)?;
+    Ok((u64::from_le_bytes(bytes), d))
 }
 
 // The f64 with these bits. The logic has one NaN, so every NaN's bits give 0.0 / 0.0 (docs/DIFFERENCES.md).
@@ -217,14 +222,14 @@ pub fn read_f64(s: &[u8], c: Cursor) -> Read<Bits<f64>>
 
 // ---- charges
 
-pub fn charge_allocation(c: Cursor, context: u64, requested: u64) -> Step
-    ensures { Paid context requested c result }
+pub fn charge_allocation(c: Cursor, context: Context, requested: u64) -> Step
+    ensures { Paid (context_number context) requested c result }
 {
     let left = c.left;
     if left < requested {
         return Err(Refusal {
-            number: numbers::ALLOCATION_BUDGET_EXCEEDED,
-            context,
+            kind: Kind::AllocationBudgetExceeded,
+            context: u64::from(context),
             detail1: requested,
             detail2: left,
             place: c.place,

@@ -4,7 +4,7 @@
 
 ghost use Rattle.std.specs.Prelude.{◌≤◌, length};
 
-use reader::{Cursor, Read, numbers};
+use reader::{Cursor, Kind, Read};
 use std::io;
 
 // More than any case here.
@@ -19,7 +19,7 @@ const START: Cursor = Cursor {
 fn line(rt: &impl Print, read: Read<u64>) -> io::Result<()> {
     match read {
         Ok((n, d)) => println!(rt; "taken {n} {}", d.place),
-        Err(x) => println!(rt; "refused {} {}", x.number, x.place),
+        Err(x) => println!(rt; "refused {} {}", u64::from(x.kind), x.place),
     }
 }
 
@@ -34,7 +34,7 @@ fn value_meta(rt: &impl Print, s: &[u8]) -> io::Result<()>
 {
     line(
         rt,
-        number_leaves::read_packed_word(s, START, numbers::INVALID_PACKED_VALUE_META),
+        number_leaves::read_packed_word(s, START, Kind::InvalidPackedValueMeta),
     )
 }
 

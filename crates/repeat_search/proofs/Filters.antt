@@ -87,7 +87,7 @@ module _ {Kind : List ℕ → List ℕ → Type 0} {hash : List ℕ → List ℕ
           → eqb (bit_and (get_or f (spot f (hash_of hash (keys i))) 0) (mask_of (hash_of hash (keys i)))) (mask_of (hash_of hash (keys i))) ≡ b
           → Has f (hash_of hash (keys i))
       go true e = record { bits = eqb-true _ _ e }
-      go false e = let x = filter-new c (λ w. eqb-false _ _ e w.bits) in let z : ◌≡◌ {A = ℕ} 0 1 = cc in absurd (omega arith)
+      go false e = let x = filter-new c (λ w. eqb-false _ _ e w.bits) in absurd (cc)
 
   pub filter_more : {g : List ℕ} → length g ≡ length f → ((k : ℕ) → Has f k → Has g k)
       → (kind_of Kind (keys i) → Has g (hash_of hash (keys i))) → Filter Kind hash keys (i + 1) g

@@ -236,5 +236,3 @@ module _ {seed : ℕ} {s : List ℕ} {p end : ℕ} where
     streaming-done z y =
         let e : end - at ≡ 0 = omega arith in
         record { is = y ∙ (sym (ap (ended seed) (l.leads ∙ ap (stream_hash seed h) (ap fold_bytes (ap (λ n. part s at n) e) ∙ fold-nil)))) }
-
-pub ruleset hashing = (short_none, short-three, short-words, lanes-joined, text-hash)

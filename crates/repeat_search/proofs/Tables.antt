@@ -1,18 +1,19 @@
 -- The keys of a table's items: what the values say of them, and what the code tells of the item at a place.
-use Rattle.std.proofs.Common.{ℕ, ◌+◌, suc, zero, ◌-◌, ◌≤◌, ◌<◌, ◌≡◌, refl, ap, sym, ◌∙◌, List, map, Bool, true, false, arith, length}
+use Rattle.std.proofs.Common.{ℕ, suc, zero, ◌≤◌, ◌<◌, ◌≡◌, refl, ap, sym, ◌∙◌, List, map, Bool, true, false, arith, length}
 use Rattle.format.specs.Trace.{pick}
 use Rattle.format.specs.Format.{Value, content, Format}
 use Rattle.format.specs.Reading.{same}
 use Rattle.format.proofs.TraceTheorems.{trace-within}
 use Rattle.vob24.specs.Questions.{among_identities}
+use Rattle.in_place.specs.declared.Item.{Item}
 use Rattle.in_place.specs.declared.Table.{Table}
 use Rattle.in_place.specs.Walk.{AllStand, value_at, next_at, items_at, last_at}
-use Rattle.in_place.specs.Items.{name_of}
+use Rattle.in_place.specs.Items.{format_of, name_of}
 use Rattle.in_place.specs.Tables.{item_of, format_in, package_of, key_name, key_of, key_text}
-use Rattle.in_place.specs.Contract.{TextAt, Placed, Past, Items, Seen}
+use Rattle.in_place.specs.Contract.{TextAt, Items, PastItems, Seen}
 use Rattle.in_place.proofs.Places.{item-name}
 use Rattle.in_place.proofs.Keys.{name-content, key-name}
-use Rattle.in_place.proofs.Walking.{Walking, walking-at, items-here, items-next}
+use Rattle.in_place.proofs.Walking.{Walking, walking-at}
 use Rattle.repeat_search.specs.Keys.{among, repeat_at}
 use Rattle.repeat_search.specs.Tables.{exempt, repeats, key_in, key_at, keys_at, ExemptIs, Standing}
 use Rattle.repeat_search.proofs.Keys.{repeat-exempt, repeat-asked}
@@ -75,20 +76,16 @@ stand-less f s (suc m) (suc n) p h a = (a.0, stand-less f s m n (next_at f s p) 
 pub items-less : {f : Format} {s : List ℕ} {m n p : ℕ} → m ≤ n → Items f n s p → Items f m s p
 items-less {f} {s} {m} {n} {p} h i = record { small = i.small; all = stand-less f s m n p h i.all }
 
--- ---- the loop of `past_items`: i items were passed
-pub record Leaving (t : Table) (s : List ℕ) (from n p i : ℕ) : Type 0 where
-  pub items : Items (format_in t) (n - i) s p
-  pub room : from < p → p ≤ length s
+-- ---- the place past the items
+last-within : (f : Format) (n : ℕ) (s : List ℕ) (p : ℕ) → p ≤ length s → AllStand f n s p → last_at f n s p ≤ length s
+unfolding AllStand last_at
+last-within f zero s p h a = h
+last-within f (suc n) s p h a = last-within f n s (next_at f s p) ((trace-within f s p a.0.ends).1 h) a.1
 
-module _ {t : Table} {s : List ℕ} {from n p i : ℕ} (l : Leaving t s from n p i) (h : i < n) where
-  pub leaving-here : Placed (format_in t) s p
-  leaving-here = items-here {k = n - i} (omega arith) l.items
-
-  pub leaving-more : {q : ℕ} → Past (format_in t) s p q → Leaving t s from n q (i + 1)
-  leaving-more w =
-      let x = leaving-here in
-      let k : n - i - 1 ≡ n - (i + 1) = omega arith in
-      record {
-        items = rw k at (items-next {k = n - i} (omega arith) l.items w);
-        room = λ _. rw w.is ((trace-within (format_in t) s p x.stands.ends).1 (omega (arith, (item-name (item_of t) x).room)));
-      }
+pub items-within : (i : Item) (n : ℕ) {s : List ℕ} {p q : ℕ} → Items (format_of i) n s p → PastItems (format_of i) n s p q → p < q
+    → q ≤ length s
+unfolding AllStand last_at
+items-within i zero h w l = absurd (omega (arith, w.is))
+items-within i (suc n) {s} {p} h w l =
+    let name = item-name i (record { small = h.small; stands = h.all.0 }) in
+    rw w.is (last-within (format_of i) (suc n) s p (omega (arith, name.room)) h.all)

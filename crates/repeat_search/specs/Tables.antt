@@ -1,5 +1,5 @@
 -- The keys of a table's items, where they stand in a pack.
-use Rattle.std.specs.Prelude.{ℕ, ◌≤◌, ◌<◌, List, [], ◌∷◌, map, Bool, false, ◌≡◌, length}
+use Rattle.std.specs.Prelude.{ℕ, List, [], ◌∷◌, map, Bool, false, ◌≡◌}
 use Rattle.format.specs.Trace.{pick}
 use Rattle.format.specs.Format.{Value, content}
 use Rattle.format.specs.Reading.{same}
@@ -115,7 +115,3 @@ Sought c l seed suspects = Chosen c (key_hash l.table seed) (tail_hash seed) sus
 pub record Standing (t : Table) (s : List ℕ) (from i p : ℕ) : Type 0 where
   pub after : After (format_in t) s from i p
   pub place : p ≡ last_at (format_in t) i s from
-
--- a place that a walk from another came to
-pub record Within (s : List ℕ) (from q : ℕ) : Type 0 where
-  pub room : from < q → q ≤ length s

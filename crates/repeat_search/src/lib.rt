@@ -1,6 +1,7 @@
 // The first item of a table that repeats one before it. A filter says which items are to be compared with all before
 // them.
 // Stands in for the HashMap and HashSet by which serialize.rs finds repeats.
+// `as` stands between usize and u64, where Rust has no `From`, and where a number is known to fit a narrower type.
 #![tactic(auto)]
 
 ghost use Rattle.std.specs.Prelude.{◌≡◌, ◌+◌, ◌≤◌, ◌<◌, length};
@@ -12,7 +13,7 @@ ghost use Rattle.repeat_search.specs.Keys.{repeat_at, FirstRepeat};
 ghost use Rattle.repeat_search.specs.Marks.{Marked, AllNew};
 ghost use Rattle.repeat_search.specs.Hashes.{mixed, folded, ended, second_seed, tail_hash, lows, PartAt, JoinIs, HashIs, Streams, TakenIn};
 ghost use Rattle.repeat_search.specs.Filters.{mask_of, Lacks, Entered, Outside, ClassedBy, Noted, Filter, Probed, PassedOr, Suspects, FirstOr};
-ghost use Rattle.repeat_search.specs.Tables.{keys_at, keys_of, key_hash, mark_in, Sought, ExemptIs, TextMark, MarkIs, TextHash, TextTail, EndedHash, FoldedHash, PackageHash, KeyHash, Standing, Listed, Within};
+ghost use Rattle.repeat_search.specs.Tables.{keys_at, keys_of, key_hash, mark_in, Sought, ExemptIs, TextMark, MarkIs, TextHash, TextTail, EndedHash, FoldedHash, PackageHash, KeyHash, Standing, Listed};
 ghost use Rattle.in_place.specs.Contract.{TextAt, WordIs, Placed, Items};
 
 use in_place::{Item, Table};
@@ -173,6 +174,7 @@ fn ended(seed: u32, h: u64) -> u64
     mix(seed, mix(seed, h, 0), 0)
 }
 
+// The hash is of words of 32 bits; `in_place` counts in usize.
 fn word(s: &[u8], p: usize) -> u32
     requires { p + 4 ≤ length s.now }
     ensures { WordIs s.now p result }
@@ -594,24 +596,12 @@ fn under_seed(s: &[u8], list: Listing, seed: u32) -> Result<usize, GaveUp>
     Ok(first)
 }
 
-// The place past the items.
-fn past_items(s: &[u8], list: Listing) -> usize
-    requires { Listed s.now list }
-    ensures { Within s.now list.from result }
-{
-    let mut p = list.from;
-    for _ in 0..list.n {
-        p = in_place::past_item(s, list.table, p);
-    }
-    p
-}
-
 // The next seed is a hash of the whole table, under a seed that no filter uses: names that collide under it cannot be
 // chosen without changing it.
 fn fresh_seed(s: &[u8], list: Listing, seed: u32) -> u32
     requires { Listed s.now list }
 {
-    let end = past_items(s, list);
+    let end = in_place::past_items(s, in_place::item_of(list.table), list.from, list.n);
     if end <= list.from {
         return seed;
     }
@@ -640,7 +630,7 @@ fn searched(s: &[u8], table: Table, from: usize, n: usize) -> usize
     scan(s, list)
 }
 
-// The first of the n items from `from` on that repeats one before it, or n.
+// The first of the n items from `from` on that repeats one before it, or n. A set of the library would need a heap.
 pub fn first_repeat(s: &[u8], table: Table, from: usize, n: usize) -> usize
     requires { Items (format_in table) n s.now from }
     ensures { FirstRepeat (keys_at table s.now from) n result }

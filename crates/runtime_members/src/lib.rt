@@ -9,10 +9,11 @@ ghost use Rattle.reader.specs.Contract.{ReadyAt, NumberOf};
 ghost use Rattle.reader.specs.Accepted.{Accepted};
 ghost use Rattle.runtime_members.specs.Formats.{field_format, new_fields, method_format, new_methods, new_count};
 
-use in_place::Item;
+use fields::{Bool, ValueRttid};
+use in_place::{Item, Table};
 use lists::Entry;
-use reader::{Cursor, Read, Step, sizes};
-use vob24_data::Settings;
+use reader::{Cursor, Read, Step};
+use vob24_data::{Settings, Size};
 
 // ---- fields of structs
 
@@ -26,9 +27,9 @@ impl Entry for Field {
     // name, typ, tag, embedded, pkg
     fn read(&self, s: &[u8], r: Step, tape: &mut [u32]) -> Step {
         let name = fields::field_member_name(s, r, tape);
-        let typ = fields::field_value_rttid(s, name, tape);
+        let typ = fields::field::<ValueRttid>(s, name, tape);
         let tag = fields::field_str(s, typ, tape);
-        let embedded = fields::field_bool(s, tag, tape);
+        let embedded = fields::field::<Bool>(s, tag, tape);
         fields::field_str(s, embedded, tape)
     }
 }
@@ -45,8 +46,8 @@ pub fn number_new_fields(
     ensures { NumberOf (new_fields (settings_of set.now)) new_count s.now c
         tape.old result tape.new }
 {
-    let (n, d) = lists::number_list(s, set, c, sizes::STRUCT_FIELD, &Field, tape)?;
-    let e = unique_names::field_set(s, set, Ok(c), Ok(d), again)?;
+    let (n, d) = lists::number_list(s, set, c, Size::StructField, &Field, tape)?;
+    let e = unique_names::asked(s, set, Table::Identities, Ok(c), Ok(d), again)?;
     Ok((n, e))
 }
 
@@ -62,11 +63,12 @@ impl Entry for Method {
     // name, sig
     fn read(&self, s: &[u8], r: Step, tape: &mut [u32]) -> Step {
         let name = fields::field_member_name(s, r, tape);
-        fields::field_value_rttid(s, name, tape)
+        fields::field::<ValueRttid>(s, name, tape)
     }
 }
 
-// An interface's methods, no two with the same name. Also returns their count.
+// An interface's methods, no two with the same name. Also returns their count. Beside `number_new_fields`: one function for
+// both would take size, entry and table as parameters, and require that they fit one another.
 pub fn number_new_methods(
     s: &[u8],
     set: &Settings,
@@ -78,7 +80,8 @@ pub fn number_new_methods(
     ensures { NumberOf (new_methods (settings_of set.now)) new_count s.now c
         tape.old result tape.new }
 {
-    let (n, d) = lists::number_list(s, set, c, sizes::INTERFACE_METHOD, &Method, tape)?;
-    let e = unique_names::method_set(s, set, Item::RuntimeMethod, Ok(c), Ok(d), again)?;
+    let (n, d) = lists::number_list(s, set, c, Size::InterfaceMethod, &Method, tape)?;
+    let table = Table::Methods(Item::RuntimeMethod);
+    let e = unique_names::asked(s, set, table, Ok(c), Ok(d), again)?;
     Ok((n, e))
 }

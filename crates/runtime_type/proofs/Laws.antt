@@ -16,8 +16,7 @@ use Rattle.reader.proofs.Errors.{handed}
 use Rattle.reader.proofs.Parts.{choose_at}
 use Rattle.reader.proofs.Recording.{record_lost, record_not, lost_here, lost_last, lost_then, list-place, variant_at}
 use Rattle.runtime_type.specs.declared.RuntimeType.{RuntimeType}
-use Rattle.runtime_type.specs.declared.RuntimeTypeRecord.{RuntimeTypeRecord}
-use Rattle.runtime_type.specs.Records.{optional_of, listed_at, two_of, past_rttids}
+use Rattle.runtime_type.specs.Records.{optional_of, listed_at, two_of, past_rttids, RuntimeTypeRecord}
 
 -- rttids take four bytes each
 pub rttids-place : (set : Settings) {s : List ℕ} {c d : Cursor} {q : Read ℕ} {n : ℕ} {t t₁ : List ℕ} → q ≡ Ok (n, d)

@@ -8,9 +8,12 @@ use Rattle.vob24.specs.Fields as of-value
 use Rattle.vob24.specs.Fields.{variant_of}
 use Rattle.vob24.specs.Grammar as vob
 use Rattle.reader.specs.Recorded.{no_list}
+use Rattle.runtime_type.specs.Numbered.{kind_at, dir_at}
+use Rattle.runtime_type.specs.declared.kinds.ChanDir.{ChanDir}
 use Rattle.runtime_type.specs.declared.RuntimeType.{RuntimeType}
 use Rattle.runtime_type.specs.declared.RuntimeType.TheVariants as kind
-use Rattle.runtime_type.specs.declared.RuntimeTypeRecord.{RuntimeTypeRecord}
+use Rattle.lists.specs.Records.{bare_of}
+use Rattle.lists.specs.declared.WithLists.{WithLists}
 
 -- ---- the formats
 
@@ -44,15 +47,15 @@ struct_format set = vob.runtime_struct set
 abbrev pub interface_format : Settings → Format
 interface_format set = vob.runtime_interface set
 
+abbrev pub RuntimeTypeRecord : Type 0
+RuntimeTypeRecord = WithLists RuntimeType
+
 -- ---- the records: p is the place after the tag, v the value there
 
 -- "An optional id is 0 for absent, else id plus 1."
 unfoldable pub optional_of : ℕ → Option ℕ
 optional_of zero = None
 optional_of (suc n) = Some n
-
-abbrev pub bare_of : RuntimeType → RuntimeTypeRecord
-bare_of k = record { kind = k; first = no_list; second = no_list }
 
 -- one list of n entries, whose count stands at p
 abbrev pub listed_at : RuntimeType → ℕ → ℕ → RuntimeTypeRecord
@@ -74,7 +77,7 @@ abbrev pub two_of : RuntimeType → ℕ → ℕ → ℕ → RuntimeTypeRecord
 two_of k p m n = two_listed k p m (past_rttids p m) n
 
 abbrev pub basic_of : ℕ → Value → RuntimeTypeRecord
-basic_of p v = bare_of (kind.Basic (number v))
+basic_of p v = bare_of (kind.Basic (kind_at (number v)))
 
 abbrev pub named_of : ℕ → Value → RuntimeTypeRecord
 named_of p v = let x = of-value.named_of v in bare_of (kind.Named (number x.id) (optional_of (number x.struct_meta_id)))
@@ -91,11 +94,11 @@ slice_of p v = bare_of (kind.Slice (number v))
 abbrev pub map_of : ℕ → Value → RuntimeTypeRecord
 map_of p v = let x = of-value.map_of v in bare_of (kind.Map (number x.key) (number x.val))
 
-abbrev pub directed_of : ℕ → Value → ℕ × ℕ
-directed_of p v = let x = of-value.chan_of v in (number x.dir, number x.elem)
+abbrev pub directed_of : ℕ → Value → ChanDir × ℕ
+directed_of p v = let x = of-value.chan_of v in (dir_at (number x.dir), number x.elem)
 
 abbrev pub chan_of : ℕ → Value → RuntimeTypeRecord
-chan_of p v = let x = of-value.chan_of v in bare_of (kind.Chan (number x.dir) (number x.elem))
+chan_of p v = let x = of-value.chan_of v in bare_of (kind.Chan (dir_at (number x.dir)) (number x.elem))
 
 abbrev pub func_of : ℕ → Value → RuntimeTypeRecord
 func_of p v = let x = of-value.func_of v in two_of (kind.Func (eqb (number x.variadic) 1)) (p + 1) (counted x.params) (counted x.results)
@@ -110,7 +113,7 @@ abbrev pub tuple_of : ℕ → Value → RuntimeTypeRecord
 tuple_of p v = one_of kind.Tuple p v
 
 abbrev pub port_of : ℕ → Value → RuntimeTypeRecord
-port_of p v = let x = of-value.chan_of v in bare_of (kind.Port (number x.dir) (number x.elem))
+port_of p v = let x = of-value.chan_of v in bare_of (kind.Port (dir_at (number x.dir)) (number x.elem))
 
 -- by the tag
 abbrev pub type_records : ℕ → Value → List RuntimeTypeRecord

@@ -1,6 +1,7 @@
 // Runtime types, and the section that lists them.
 // Ports RuntimeType of runtime_type.rs and read_runtime_type of serialize.rs. A runtime type is answered as an enum
 // without lists, held in a record beside its lists' starts and counts.
+// `as` stands where a number is known to fit a narrower type: a `TryFrom` would have a case that no caller meets.
 #![tactic(auto)]
 
 ghost use Rattle.vob24.specs.Settings.{settings_of};
@@ -10,17 +11,20 @@ ghost use Rattle.vob24.specs.Leaves.{value_kind, value_rttid};
 ghost use Rattle.reader.specs.Contract.{Ready, ReadyAt, Reader, NumberOf};
 ghost use Rattle.reader.specs.Accepted.{Accepted};
 ghost use Rattle.reader.specs.Recorded.{RecordOf};
-ghost use Rattle.runtime_type.specs.Records.{type_format, type_list, rttid_list, named_format, array_format, map_format, directed_format, func_format, struct_format, interface_format, optional_of, bare_of, basic_of, named_of, array_of, map_of, directed_of, func_of, struct_of, interface_of, tuple_of, runtime_type_of};
+ghost use Rattle.runtime_type.specs.Records.{type_format, type_list, rttid_list, named_format, array_format, map_format, directed_format, func_format, struct_format, interface_format, optional_of, basic_of, named_of, array_of, map_of, directed_of, func_of, struct_of, interface_of, tuple_of, runtime_type_of};
 
-use lists::Entry;
-use reader::{Cursor, ListAt, Read, Step, sizes};
-use vob24_data::Settings;
+mod kinds;
 
-// A runtime type, without its lists. Other types are named by rttids; a direction is 0 for both, 1 for send, 2 for
-// receive.
+use fields::{Direction, RuntimeTag, U32, ValueRttid};
+pub use kinds::{ChanDir, ValueKind};
+use lists::{Entry, WithLists};
+use reader::{Cursor, ListAt, Read, Step};
+use vob24_data::{Settings, Size};
+
+// A runtime type, without its lists. Other types are named by rttids.
 #[derive(Clone, Copy, PartialEq, Eq, Debug)]
 pub enum RuntimeType {
-    Basic(u8),
+    Basic(ValueKind),
     Named {
         id: u32,
         struct_meta_id: Option<u32>,
@@ -36,7 +40,7 @@ pub enum RuntimeType {
         val: u32,
     },
     Chan {
-        dir: u8,
+        dir: ChanDir,
         elem: u32,
     },
     Func {
@@ -50,7 +54,7 @@ pub enum RuntimeType {
     },
     Tuple,
     Port {
-        dir: u8,
+        dir: ChanDir,
         elem: u32,
     },
     Island,
@@ -58,12 +62,7 @@ pub enum RuntimeType {
 
 // A runtime type and its lists in file order: a function's parameters and results, a struct's fields, an interface's
 // methods, a tuple's types. Absent lists are empty.
-#[derive(Clone, Copy, PartialEq, Eq, Debug)]
-pub struct RuntimeTypeRecord {
-    pub kind: RuntimeType,
-    pub first: ListAt,
-    pub second: ListAt,
-}
+pub type RuntimeTypeRecord = WithLists<RuntimeType>;
 
 struct Rttid;
 
@@ -73,7 +72,7 @@ impl Entry for Rttid {
     ghost again = { λ _. false };
 
     fn read(&self, s: &[u8], r: Step, tape: &mut [u32]) -> Step {
-        fields::field_value_rttid(s, r, tape)
+        fields::field::<ValueRttid>(s, r, tape)
     }
 }
 
@@ -82,7 +81,7 @@ fn number_rttids(s: &[u8], set: &Settings, c: Cursor, tape: &mut [u32]) -> Read<
     requires { ReadyAt s.now c }
     ensures { NumberOf (rttid_list (settings_of set.now)) counted s.now c tape.old result tape.new }
 {
-    lists::number_list(s, set, c, sizes::VALUE_RTTID, &Rttid, tape)
+    lists::number_list(s, set, c, Size::ValueRttid, &Rttid, tape)
 }
 
 // ---- the records' parts
@@ -97,34 +96,23 @@ fn optional_id(raw: u64) -> Option<u32>
     Some((raw - 1) as u32)
 }
 
-// A type that has no list.
-fn bare(kind: RuntimeType) -> RuntimeTypeRecord
-    ensures { result ≡ bare_of kind }
-{
-    RuntimeTypeRecord {
-        kind,
-        first: ListAt { start: 0, count: 0 },
-        second: ListAt { start: 0, count: 0 },
-    }
-}
-
 // A type by its rttid.
 fn one_rttid(s: &[u8], c: Cursor, tape: &mut [u32]) -> Read<u32>
     requires { ReadyAt s.now c }
     ensures { NumberOf value_rttid number s.now c tape.old result tape.new }
 {
-    let (n, d) = fields::number_value_rttid(s, c, tape)?;
+    let (n, d) = fields::number::<ValueRttid>(s, c, tape)?;
     Ok((n as u32, d))
 }
 
 // A channel's or a port's direction, and its element.
-fn directed(s: &[u8], c: Cursor, tape: &mut [u32]) -> Read<(u8, u32)>
+fn directed(s: &[u8], c: Cursor, tape: &mut [u32]) -> Read<(ChanDir, u32)>
     requires { ReadyAt s.now c }
     ensures { RecordOf directed_format directed_of s.now c tape.old result tape.new }
 {
-    let (dir, d) = fields::number_direction(s, c, tape)?;
+    let (dir, d) = fields::number::<Direction>(s, c, tape)?;
     let (elem, e) = one_rttid(s, d, tape)?;
-    Ok(((dir as u8, elem), e))
+    Ok(((kinds::chan_dir(dir), elem), e))
 }
 
 // ---- the variants, after their tag
@@ -133,21 +121,21 @@ fn basic(s: &[u8], c: Cursor, tape: &mut [u32]) -> Read<RuntimeTypeRecord>
     requires { ReadyAt s.now c }
     ensures { RecordOf value_kind basic_of s.now c tape.old result tape.new }
 {
-    let (kind, d) = fields::number_value_kind(s, c, tape)?;
-    Ok((bare(RuntimeType::Basic(kind as u8)), d))
+    let (kind, d) = fields::number::<fields::ValueKind>(s, c, tape)?;
+    Ok((lists::bare(RuntimeType::Basic(kinds::value_kind(kind))), d))
 }
 
 fn named(s: &[u8], c: Cursor, tape: &mut [u32]) -> Read<RuntimeTypeRecord>
     requires { ReadyAt s.now c }
     ensures { RecordOf named_format named_of s.now c tape.old result tape.new }
 {
-    let (id, d) = fields::number_u32(s, c, tape)?;
+    let (id, d) = fields::number::<U32>(s, c, tape)?;
     let (raw, e) = fields::number_optional_id(s, d, tape)?;
     let kind = RuntimeType::Named {
         id: id as u32,
         struct_meta_id: optional_id(raw),
     };
-    Ok((bare(kind), e))
+    Ok((lists::bare(kind), e))
 }
 
 fn array(s: &[u8], c: Cursor, tape: &mut [u32]) -> Read<RuntimeTypeRecord>
@@ -156,7 +144,7 @@ fn array(s: &[u8], c: Cursor, tape: &mut [u32]) -> Read<RuntimeTypeRecord>
 {
     let (len, d) = fields::number_u64(s, c, tape)?;
     let (elem, e) = one_rttid(s, d, tape)?;
-    Ok((bare(RuntimeType::Array { len, elem }), e))
+    Ok((lists::bare(RuntimeType::Array { len, elem }), e))
 }
 
 fn map(s: &[u8], c: Cursor, tape: &mut [u32]) -> Read<RuntimeTypeRecord>
@@ -165,7 +153,7 @@ fn map(s: &[u8], c: Cursor, tape: &mut [u32]) -> Read<RuntimeTypeRecord>
 {
     let (key, d) = one_rttid(s, c, tape)?;
     let (val, e) = one_rttid(s, d, tape)?;
-    Ok((bare(RuntimeType::Map { key, val }), e))
+    Ok((lists::bare(RuntimeType::Map { key, val }), e))
 }
 
 // variadic, params, results
@@ -174,7 +162,7 @@ fn func(s: &[u8], set: &Settings, c: Cursor, tape: &mut [u32]) -> Read<RuntimeTy
     ensures { RecordOf (func_format (settings_of set.now)) func_of s.now c
         tape.old result tape.new }
 {
-    let (variadic, d) = fields::number_bool(s, c, tape)?;
+    let (variadic, d) = fields::number::<fields::Bool>(s, c, tape)?;
     let (params, e) = number_rttids(s, set, d, tape)?;
     let (results, f) = number_rttids(s, set, e, tape)?;
     Ok((
@@ -201,7 +189,7 @@ fn struct_type(
     ensures { RecordOf (struct_format (settings_of set.now)) struct_of s.now c
         tape.old result tape.new }
 {
-    let (id, d) = fields::number_u32(s, c, tape)?;
+    let (id, d) = fields::number::<U32>(s, c, tape)?;
     let (n, e) = runtime_members::number_new_fields(s, set, d, again, tape)?;
     Ok((
         RuntimeTypeRecord {
@@ -226,7 +214,7 @@ fn interface(
     ensures { RecordOf (interface_format (settings_of set.now)) interface_of s.now c
         tape.old result tape.new }
 {
-    let (id, d) = fields::number_u32(s, c, tape)?;
+    let (id, d) = fields::number::<U32>(s, c, tape)?;
     let (n, e) = runtime_members::number_new_methods(s, set, d, again, tape)?;
     Ok((
         RuntimeTypeRecord {
@@ -256,7 +244,7 @@ fn tuple(s: &[u8], set: &Settings, c: Cursor, tape: &mut [u32]) -> Read<RuntimeT
 
 // ---- the section
 
-// The tag, and the type that it announces; the last arm is 12, as number_runtime_tag refuses all others.
+// The tag, and the type that it announces; the last arm is 12, as its leaf refuses all others.
 pub fn runtime_type(
     s: &[u8],
     set: &Settings,
@@ -268,23 +256,23 @@ pub fn runtime_type(
     ensures { RecordOf (type_format (settings_of set.now)) runtime_type_of s.now c
         tape.old result tape.new }
 {
-    let (tag, d) = fields::number_runtime_tag(s, c, tape)?;
+    let (tag, d) = fields::number::<RuntimeTag>(s, c, tape)?;
     match tag {
         0 => basic(s, d, tape),
         1 => named(s, d, tape),
         2 => {
             let (elem, e) = one_rttid(s, d, tape)?;
-            Ok((bare(RuntimeType::Pointer(elem)), e))
+            Ok((lists::bare(RuntimeType::Pointer(elem)), e))
         }
         3 => array(s, d, tape),
         4 => {
             let (elem, e) = one_rttid(s, d, tape)?;
-            Ok((bare(RuntimeType::Slice(elem)), e))
+            Ok((lists::bare(RuntimeType::Slice(elem)), e))
         }
         5 => map(s, d, tape),
         6 => {
             let ((dir, elem), e) = directed(s, d, tape)?;
-            Ok((bare(RuntimeType::Chan { dir, elem }), e))
+            Ok((lists::bare(RuntimeType::Chan { dir, elem }), e))
         }
         7 => func(s, set, d, tape),
         8 => struct_type(s, set, d, again, tape),
@@ -292,9 +280,9 @@ pub fn runtime_type(
         10 => tuple(s, set, d, tape),
         11 => {
             let ((dir, elem), e) = directed(s, d, tape)?;
-            Ok((bare(RuntimeType::Port { dir, elem }), e))
+            Ok((lists::bare(RuntimeType::Port { dir, elem }), e))
         }
-        _ => Ok((bare(RuntimeType::Island), d)),
+        _ => Ok((lists::bare(RuntimeType::Island), d)),
     }
 }
 
@@ -321,5 +309,5 @@ pub fn runtime_types(s: &[u8], set: &Settings, r: Step, again: bool, tape: &mut 
     ensures { Reader (type_list (settings_of set.now)) s.now r tape.old result
         tape.new }
 {
-    lists::read_list(s, set, r, sizes::RUNTIME_TYPE, &Item { set, again }, tape)
+    lists::read_list(s, set, r, Size::RuntimeType, &Item { set, again }, tape)
 }

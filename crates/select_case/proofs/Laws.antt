@@ -9,17 +9,10 @@ use Rattle.reader.specs.declared.Cursor.{Cursor}
 use Rattle.reader.specs.Recorded.{Recorded, RecordOf, recorded, unrecorded}
 use Rattle.reader.proofs.Errors.{apart}
 use Rattle.reader.proofs.Parts.{tag-most-bare}
-use Rattle.reader.proofs.Recording.{variant_at}
+use Rattle.reader.proofs.Recording.{variant_at, record_on}
 use Rattle.select_case.specs.Records.{send_of, recv_of, select_of}
 use Rattle.select_case.specs.declared.SelectCase.{SelectCase}
 use Rattle.select_case.specs.declared.SelectCase.TheVariants.{Send}
-
--- a law of a record and its step, as one of the answer
-pub record_on : {R : Type 0} (o : R) {f g : Format} {of of' : ℕ → Value → R} {s : List ℕ} {c d : Cursor} {t t₁ t₂ : List ℕ} {q : Read R}
-    → ((r : Step) (x : R) → Recorded g of' s d t₁ r x t₂ → Recorded f of s c t r x t₂) → RecordOf g of' s d t₁ q t₂
-    → RecordOf f of s c t q t₂
-record_on o k (recorded a) = recorded (k _ _ a)
-record_on o k (unrecorded a) = unrecorded (k _ o (record { reader = a; is = λ d v i j. apart i })).reader
 
 -- ---- by the tag
 

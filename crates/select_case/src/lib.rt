@@ -1,5 +1,6 @@
 // The cases of a select, which are the list of their metadata's record (crate metadata, SelectExecLayout).
 // Ports SelectCaseLayout of bytecode.rs and its reading in serialize.rs, read_instruction_metadata_for_version.
+// `as` stands where a number is known to fit a narrower type: a `TryFrom` would have a case that no caller meets.
 #![tactic(auto)]
 
 ghost use Rattle.std.specs.Prelude.{false};
@@ -9,9 +10,10 @@ ghost use Rattle.reader.specs.Contract.{ReadyAt, NumberOf};
 ghost use Rattle.reader.specs.Recorded.{RecordOf};
 ghost use Rattle.select_case.specs.Records.{select_format, select_list, send_format, recv_format, send_of, recv_of, select_of};
 
+use fields::{Bool, SelectTag, U16};
 use lists::Entry;
-use reader::{Cursor, Read, Step, sizes};
-use vob24_data::Settings;
+use reader::{Cursor, Read, Step};
+use vob24_data::{Settings, Size};
 
 #[derive(Clone, Copy, PartialEq, Eq, Debug)]
 pub enum SelectCase {
@@ -33,9 +35,9 @@ fn send(s: &[u8], c: Cursor, tape: &mut [u32]) -> Read<SelectCase>
     requires { ReadyAt s.now c }
     ensures { RecordOf send_format send_of s.now c tape.old result tape.new }
 {
-    let (queue, d) = fields::number_u16(s, c, tape)?;
-    let (value, e) = fields::number_u16(s, d, tape)?;
-    let (slots, f) = fields::number_u16(s, e, tape)?;
+    let (queue, d) = fields::number::<U16>(s, c, tape)?;
+    let (value, e) = fields::number::<U16>(s, d, tape)?;
+    let (slots, f) = fields::number::<U16>(s, e, tape)?;
     Ok((
         SelectCase::Send {
             queue: queue as u16,
@@ -51,10 +53,10 @@ fn recv(s: &[u8], c: Cursor, tape: &mut [u32]) -> Read<SelectCase>
     requires { ReadyAt s.now c }
     ensures { RecordOf recv_format recv_of s.now c tape.old result tape.new }
 {
-    let (destination, d) = fields::number_u16(s, c, tape)?;
-    let (queue, e) = fields::number_u16(s, d, tape)?;
-    let (slots, f) = fields::number_u16(s, e, tape)?;
-    let (ok, g) = fields::number_bool(s, f, tape)?;
+    let (destination, d) = fields::number::<U16>(s, c, tape)?;
+    let (queue, e) = fields::number::<U16>(s, d, tape)?;
+    let (slots, f) = fields::number::<U16>(s, e, tape)?;
+    let (ok, g) = fields::number::<Bool>(s, f, tape)?;
     Ok((
         SelectCase::Recv {
             destination: destination as u16,
@@ -70,7 +72,7 @@ pub fn select_case(s: &[u8], c: Cursor, tape: &mut [u32]) -> Read<SelectCase>
     requires { ReadyAt s.now c }
     ensures { RecordOf select_format select_of s.now c tape.old result tape.new }
 {
-    let (tag, d) = fields::number_select_tag(s, c, tape)?;
+    let (tag, d) = fields::number::<SelectTag>(s, c, tape)?;
     if tag == 0 {
         return send(s, d, tape);
     }
@@ -96,5 +98,5 @@ pub fn number_select_cases(s: &[u8], set: &Settings, c: Cursor, tape: &mut [u32]
     ensures { NumberOf (select_list (settings_of set.now)) counted s.now c
         tape.old result tape.new }
 {
-    lists::number_list(s, set, c, sizes::SELECT_CASE_LAYOUT, &Case, tape)
+    lists::number_list(s, set, c, Size::SelectCaseLayout, &Case, tape)
 }

@@ -6,13 +6,12 @@ use Rattle.format.specs.Reading.{little, part}
 use Rattle.vob24.specs.Refusals.{vector, invalid_slot_type}
 use Rattle.vob24.specs.Leaves.{free, slot_type, list_of}
 use Rattle.reader.specs.Contract.{cursor_at, ReadyAt, NumberOf, Kept}
-use Rattle.reader.specs.Leaves.{Fetches, there, past}
+use Rattle.reader.specs.Leaves.{Fetches, there, past, one_count}
 use Rattle.reader.specs.declared.Cursor.{Cursor}
 use Rattle.reader.proofs.Laws.{turns-start, comes_then, turns-done}
 use Rattle.reader.proofs.Gather.{read_take, bytes_read}
 use Rattle.reader.proofs.Paying.{paid-yes}
 use Rattle.reader.proofs.Leaves.{past-ready, counted-got, count-then}
-use Rattle.reader.proofs.Keeping.{one-count}
 use Rattle.reader.proofs.Numbering.{numbered_items}
 use Rattle.fields.specs.Kept.{kept_number}
 use Rattle.fields.proofs.Keeps.{number-kept}
@@ -75,6 +74,6 @@ good-list {y} {z} {s} {c} {g} {t} {t'} {n} r e l h i =
     let d : Cursor = cursor_at (c.place + 4) (c.left - n * z) c.at in
     let a = count-then {m = 1} {k = vector} {z = z} refl f refl (counted-got {n = n} {m = 1} {k = vector} {z = z} (past-ready r refl f) (omega (arith, h.room)) (paid-yes (few-paid n z h.few (rw e at l))) refl) in
     let k : Kept d n t (cursor_at (c.place + 4) (c.left - n * z) (c.at + 1)) (set t c.at n) = record { is = refl; writes = refl } in
-    let m = number-kept r one-count a (kept_number k) in
+    let m = number-kept r one_count a (kept_number k) in
     let u = runs-low invalid_slot_type {n = n} m.ready (omega arith) h.room h.items.low h.items.copied refl in
     rw (i, e) (numbered_items refl m slot_type refl (comes_then u (turns-done (omega arith) (turns-start u.ready))))

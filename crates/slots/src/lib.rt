@@ -2,6 +2,7 @@
 // Ports `read_vec(read_slot_type)` of serialize.rs.
 // Most lists have one item or two: a list of at most four is tested whole, and then kept, without a loop. Where a test
 // fails, nothing is kept yet, and the answer is that of `number_any`, which reads any list and makes every refusal.
+// `as` stands between usize and u64, where Rust has no `From`.
 #![tactic(auto)]
 
 ghost use Rattle.format.specs.Format.{counted};
@@ -10,8 +11,9 @@ ghost use Rattle.vob24.specs.Grammar.{slot_types};
 ghost use Rattle.reader.specs.Contract.{cursor_at, Ready, ReadyAt, Reader, NumberOf};
 ghost use Rattle.slots.specs.Short.{Keeps};
 
-use reader::{Cursor, Read, Step, sizes};
-use vob24_data::Settings;
+use fields::SlotType;
+use reader::{Cursor, Read, Step};
+use vob24_data::{Settings, Size};
 
 // A list of any length.
 fn number_any(s: &[u8], set: &Settings, c: Cursor, tape: &mut [u32]) -> Read<u64>
@@ -19,9 +21,7 @@ fn number_any(s: &[u8], set: &Settings, c: Cursor, tape: &mut [u32]) -> Read<u64
     ensures { NumberOf (slot_types (settings_of set.now)) counted s.now c
         tape.old result tape.new }
 {
-    let (n, d) = fields::number_count(s, set, c, sizes::SLOT_TYPE, tape)?;
-    let e = lists::slot_types(s, d, n, tape)?;
-    Ok((n, e))
+    lists::number_list(s, set, c, Size::SlotType, &SlotType, tape)
 }
 
 // Keeps the words of a list of one to four valid slot types at `place`, and returns its count; 0 for any other list, as an
@@ -40,7 +40,7 @@ fn short(s: &[u8], place: usize, at: usize, tape: &mut [u32]) -> usize
     }
     if count == 1 {
         reader::put(tape, at, 1);
-        reader::put(tape, at + 1, lists::wide(first));
+        reader::put(tape, at + 1, u32::from(first));
         return 1;
     }
     let second = s[place + 5];
@@ -49,8 +49,8 @@ fn short(s: &[u8], place: usize, at: usize, tape: &mut [u32]) -> usize
     }
     if count == 2 {
         reader::put(tape, at, 2);
-        reader::put(tape, at + 1, lists::wide(first));
-        reader::put(tape, at + 2, lists::wide(second));
+        reader::put(tape, at + 1, u32::from(first));
+        reader::put(tape, at + 2, u32::from(second));
         return 2;
     }
     let third = s[place + 6];
@@ -59,9 +59,9 @@ fn short(s: &[u8], place: usize, at: usize, tape: &mut [u32]) -> usize
     }
     if count == 3 {
         reader::put(tape, at, 3);
-        reader::put(tape, at + 1, lists::wide(first));
-        reader::put(tape, at + 2, lists::wide(second));
-        reader::put(tape, at + 3, lists::wide(third));
+        reader::put(tape, at + 1, u32::from(first));
+        reader::put(tape, at + 2, u32::from(second));
+        reader::put(tape, at + 3, u32::from(third));
         return 3;
     }
     let fourth = s[place + 7];
@@ -70,10 +70,10 @@ fn short(s: &[u8], place: usize, at: usize, tape: &mut [u32]) -> usize
     }
     if count == 4 {
         reader::put(tape, at, 4);
-        reader::put(tape, at + 1, lists::wide(first));
-        reader::put(tape, at + 2, lists::wide(second));
-        reader::put(tape, at + 3, lists::wide(third));
-        reader::put(tape, at + 4, lists::wide(fourth));
+        reader::put(tape, at + 1, u32::from(first));
+        reader::put(tape, at + 2, u32::from(second));
+        reader::put(tape, at + 3, u32::from(third));
+        reader::put(tape, at + 4, u32::from(fourth));
         return 4;
     }
     0
@@ -86,7 +86,7 @@ pub fn number_slot_types(s: &[u8], set: &Settings, c: Cursor, tape: &mut [u32]) 
     ensures { NumberOf (slot_types (settings_of set.now)) counted s.now c
         tape.old result tape.new }
 {
-    let size = vob24_data::size(set, sizes::SLOT_TYPE);
+    let size = Size::SlotType.bytes(set);
     let left = c.left;
     if 4 * size <= left {
         let place = c.place;
@@ -116,7 +116,7 @@ pub fn slot_types(s: &[u8], set: &Settings, r: Step, tape: &mut [u32]) -> Step
         tape.new }
 {
     let c = r?;
-    let size = vob24_data::size(set, sizes::SLOT_TYPE);
+    let size = Size::SlotType.bytes(set);
     let left = c.left;
     if 4 * size <= left {
         let place = c.place;

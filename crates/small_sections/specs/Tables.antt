@@ -2,12 +2,9 @@
 use Rattle.format.specs.Format.{Format, number, seq, ◌▸◌, times}
 use Rattle.vob24.specs.Settings as of
 use Rattle.vob24.specs.Settings.{Settings}
-use Rattle.vob24.specs.Leaves.{u16, u32, optional}
+use Rattle.vob24.specs.Leaves.{u16, optional}
 use Rattle.vob24.specs.Grammar as vob
 use Rattle.fields.specs.Fields.{artifact_count}
-
-abbrev pub itab_methods : Settings → Format
-itab_methods set = vob.list set of.U32 u32
 
 abbrev pub itab_format : Settings → Format
 itab_format set = vob.itab set

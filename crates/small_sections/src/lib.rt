@@ -1,25 +1,16 @@
-// The tables of a module and its single ids: itabs, well-known ids, globals, entry, island init, artifacts.
+// The tables of a module: itabs, well-known ids, globals, artifacts.
 // Ports what Module::deserialize of serialize.rs reads into the records of bytecode.rs.
 #![tactic(auto)]
 
-ghost use Rattle.std.specs.Prelude.{Bool, false};
+ghost use Rattle.std.specs.Prelude.{false};
 ghost use Rattle.vob24.specs.Settings.{settings_of};
-ghost use Rattle.vob24.specs.Leaves.{u32};
 ghost use Rattle.reader.specs.Contract.{Ready, Reader};
-ghost use Rattle.small_sections.specs.Tables.{itab_methods, itab_format, itab_list, field_offsets, error_format, object_format, well_known, global_format, global_list, artifact_format, artifact_list};
+ghost use Rattle.small_sections.specs.Tables.{itab_format, itab_list, field_offsets, error_format, object_format, well_known, global_format, global_list, artifact_format, artifact_list};
 
+use fields::{Bool, U16, U32, ValueKind};
 use lists::Entry;
-use reader::{Step, sizes};
-use vob24_data::Settings;
-
-fn itab_methods(s: &[u8], set: &Settings, r: Step, tape: &mut [u32]) -> Step
-    requires { Ready s.now r }
-    ensures { Reader (itab_methods (settings_of set.now)) s.now r tape.old result
-        tape.new }
-{
-    let (n, d) = fields::number_count(s, set, r?, sizes::U32, tape)?;
-    lists::u32s(s, d, n, tape)
-}
+use reader::Step;
+use vob24_data::{Settings, Size};
 
 #[derive(Clone, Copy)]
 struct Itab<'a> {
@@ -32,8 +23,8 @@ impl Entry for Itab<'_> {
     ghost again = { λ _. false };
 
     fn read(&self, s: &[u8], r: Step, tape: &mut [u32]) -> Step {
-        let iface_meta_id = fields::field_u32(s, r, tape);
-        itab_methods(s, self.set, iface_meta_id, tape)
+        let iface_meta_id = fields::field::<U32>(s, r, tape);
+        lists::read_list(s, self.set, iface_meta_id, Size::U32, &U32, tape)
     }
 }
 
@@ -42,7 +33,7 @@ pub fn itabs(s: &[u8], set: &Settings, r: Step, tape: &mut [u32]) -> Step
     ensures { Reader (itab_list (settings_of set.now)) s.now r tape.old result
         tape.new }
 {
-    lists::read_list(s, set, r, sizes::ITAB, &Itab { set }, tape)
+    lists::read_list(s, set, r, Size::Itab, &Itab { set }, tape)
 }
 
 // ---- well-known ids
@@ -52,13 +43,13 @@ fn error_field_offsets(s: &[u8], r: Step, tape: &mut [u32]) -> Step
     requires { Ready s.now r }
     ensures { Reader field_offsets s.now r tape.old result tape.new }
 {
-    let (n, d) = fields::number_bool(s, r?, tape)?;
+    let (n, d) = fields::number::<Bool>(s, r?, tape)?;
     let here = Ok(d);
     if n == 0 {
         return here;
     }
-    let first = fields::field_u16(s, here, tape);
-    fields::field_u16(s, first, tape)
+    let first = fields::field::<U16>(s, here, tape);
+    fields::field::<U16>(s, first, tape)
 }
 
 fn error_types(s: &[u8], r: Step, tape: &mut [u32]) -> Step
@@ -91,7 +82,7 @@ pub fn well_known(s: &[u8], r: Step, tape: &mut [u32]) -> Step
     object_interfaces(s, errors, tape)
 }
 
-// ---- globals and single ids
+// ---- globals
 
 #[derive(Clone, Copy)]
 struct Global<'a> {
@@ -105,9 +96,9 @@ impl Entry for Global<'_> {
 
     fn read(&self, s: &[u8], r: Step, tape: &mut [u32]) -> Step {
         let name = fields::field_str(s, r, tape);
-        let slots = fields::field_u16(s, name, tape);
-        let value_kind = fields::field_value_kind(s, slots, tape);
-        let meta_id = fields::field_u32(s, value_kind, tape);
+        let slots = fields::field::<U16>(s, name, tape);
+        let value_kind = fields::field::<ValueKind>(s, slots, tape);
+        let meta_id = fields::field::<U32>(s, value_kind, tape);
         slots::slot_types(s, self.set, meta_id, tape)
     }
 }
@@ -117,21 +108,7 @@ pub fn globals(s: &[u8], set: &Settings, r: Step, tape: &mut [u32]) -> Step
     ensures { Reader (global_list (settings_of set.now)) s.now r tape.old result
         tape.new }
 {
-    lists::read_list(s, set, r, sizes::GLOBAL_DEF, &Global { set }, tape)
-}
-
-pub fn entry(s: &[u8], r: Step, tape: &mut [u32]) -> Step
-    requires { Ready s.now r }
-    ensures { Reader u32 s.now r tape.old result tape.new }
-{
-    fields::field_u32(s, r, tape)
-}
-
-pub fn island_init(s: &[u8], r: Step, tape: &mut [u32]) -> Step
-    requires { Ready s.now r }
-    ensures { Reader u32 s.now r tape.old result tape.new }
-{
-    fields::field_u32(s, r, tape)
+    lists::read_list(s, set, r, Size::GlobalDef, &Global { set }, tape)
 }
 
 // ---- artifacts
@@ -148,7 +125,7 @@ impl Entry for Artifact<'_> {
 
     fn read(&self, s: &[u8], r: Step, tape: &mut [u32]) -> Step {
         let name = fields::field_artifact_name(s, self.set, r, tape);
-        let version = fields::field_u32(s, name, tape);
+        let version = fields::field::<U32>(s, name, tape);
         fields::field_artifact_payload(s, self.set, version, tape)
     }
 }

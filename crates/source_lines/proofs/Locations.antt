@@ -8,11 +8,13 @@ use Rattle.vob24.specs.Settings.{Settings}
 use Rattle.vob24.specs.Fields.{location_of}
 use Rattle.vob24.specs.Grammar.{location}
 use Rattle.source.specs.Source as source
+use Rattle.reader.specs.Contract.{refusal}
+use Rattle.reader.specs.declared.kinds.Kind.TheVariants.{NoSuchFunction}
 use Rattle.reader.specs.declared.Cursor.{Cursor}
 use Rattle.in_place.specs.Walk.{value_at, next_at, items_at, last_at, items-none, items-length}
 use Rattle.in_place.specs.Contract.{WordIs, Placed, Past, Items}
 use Rattle.in_place.proofs.Walking.{items-here, items-next, items-cons, Walking, walking_here}
-use Rattle.source_lines.proofs.Lists.{list-stands}
+use Rattle.in_place.proofs.Lists.{list-stands}
 use Rattle.source_lines.specs.Packed.{Skips, LocationIs}
 use Rattle.source_lines.specs.Contract.{answer_of, location_list, best_of, BestIs, ListIs, FunctionsAt, LineFrom}
 use Rattle.source_lines.specs.declared.Best.{Best}
@@ -66,11 +68,6 @@ pub record Going (s : List ℕ) (p n a : ℕ) (b : Option Best) (at i : ℕ) : T
   pub rest : source.best a (pcs_at n s p) ≡ source.best_from a i (best_of b) (pcs_at (n - i) s at)
 
 module _ {s : List ℕ} {p n : ℕ} (a : ℕ) where
-  pub going_start : Items location n s p → Going s p n a None p 0
-  going_start h =
-      let e : n - 0 ≡ n = omega arith in
-      record { items = rw e h; rest = rw e }
-
   module _ {b : Option Best} {at i : ℕ} (l : Going s p n a b at i) where
     module _ (h : i < n) where
       pub going-here : Placed location s at
@@ -116,15 +113,12 @@ items-get f (suc n) s p zero h = refl
 items-get f (suc n) s p (suc k) h = items-get f n s (next_at f s p) k (omega arith)
 
 module _ (set : Settings) {s : List ℕ} {p n : ℕ} (h : FunctionsAt set s p) (w : WordIs s p n) where
-  pub functions-items : Items (location_list set) n s (p + 4)
-  functions-items = rw w.is h.lists
-
   lists_length : length (items_at (location_list set) n s (p + 4)) ≡ n
   lists_length = items-length (location_list set) n s (p + 4)
 
   module _ (f a : ℕ) (c : Cursor) where
     pub line-past : n ≤ f
-        → LineFrom set s p f a c (Err (record { number = source.no_such_function; context = 0; detail1 = f; detail2 = n; place = c.place; left = c.left }))
+        → LineFrom set s p f a c (Err (refusal NoSuchFunction 0 f n c))
     unfolding pick
     line-past l = record { is = rw (← w.is, le-ltb f (length (items_at (location_list set) n s (p + 4))) (omega (arith, lists_length)), lists_length) }
 

@@ -10,7 +10,7 @@ use Rattle.vob24.specs.Settings.{max_pack_bytes}
 use Rattle.vob24.specs.Leaves.{source_u32}
 use Rattle.vob24.specs.Fields.{location_of}
 use Rattle.vob24.specs.Grammar.{location}
-use Rattle.reader.specs.Contract.{cursor_at, ReadyAt, Read}
+use Rattle.reader.specs.Contract.{cursor_at, Read}
 use Rattle.reader.specs.Leaves.{Answers, answered, denied}
 use Rattle.reader.proofs.Gather.{read_take}
 use Rattle.reader.specs.declared.Cursor.{Cursor}
@@ -129,9 +129,6 @@ module _ {s : List ℕ} {p : ℕ} (h : Placed source_u32 s p) where
       let x : Skips s 1 p (p + 1) = ends {k = 0} {p = p} {q = p + 1} packed-room l done in
       record { value = e ∙ sym (number_short h.stands l); next = skips-one x (number-skips h.stands done) }
 
-  pub packed-ready : ReadyAt s (cursor_at p 0 0)
-  packed-ready = record { small = h.small; within = omega (arith, packed-room); behind = omega arith }
-
   module _ {q : Read ℕ} (a : Answers packed s (cursor_at p 0 0) q) where
     pub packed-got : {n : ℕ} {d : Cursor} → q ≡ Ok (n, d) → PackedIs s p (record { value = n; next = d.place })
     unfolding trace
@@ -151,8 +148,7 @@ module _ {s : List ℕ} {p : ℕ} (h : Placed source_u32 s p) where
         go (denied y) =
             let f : total (trace source_u32 s p) ≡ 0 = free-bind _ _ (packed-free 4 0 s p) (λ n q. refl) in
             let i = (settle-taken 0 (trace source_u32 s p) (value_at source_u32 s p) (next_at source_u32 s p) 0).1 (h.stands.ends, omega arith, omega arith) in
-            let no : ◌≡◌ {A = ℕ} 0 1 = cc y.settles in
-            absurd (omega arith)
+            absurd (cc y.settles)
 
 -- ---- the loops of `past_numbers`
 
@@ -200,9 +196,6 @@ pub record Inside (s : List ℕ) (p at : ℕ) : Type 0 where
   pub rest : Skips s 1 at end
 
 module _ {s : List ℕ} {p : ℕ} where
-  pub inside-start : NumbersAt 1 s p → Inside s p p
-  inside-start h = record { small = h.small; end = h.end; whole = h.skips; rest = h.skips }
-
   module _ {at : ℕ} (l : Inside s p at) where
     pub inside-here : (at < length s) × (length s ≤ max_pack_bytes)
     inside-here = ((skips-byte l.rest (omega arith)).0, l.small)
@@ -232,9 +225,6 @@ pub endings-more : (s : List ℕ) (p k : ℕ) {n m : ℕ} → n ≡ endings s p 
     → n + m ≡ endings s p (k + 1)
 unfolding endings
 endings-more s p k e f = rw (add-one k, e, f)
-
-pub endings-block : (s : List ℕ) (p : ℕ) {k n : ℕ} → n ≡ endings s p k → n ≤ k → k ≡ 32 → (n ≡ endings s p 32) × (n ≤ 32)
-endings-block s p e h i = (rw i at e, omega arith)
 
 -- ---- locations
 

@@ -1,6 +1,7 @@
 // Which source line was that: the entry of a function's debug locations that an address belongs to, found where the
 // locations stand in a pack that was read. The Rust's DebugInfo::span_at is a binary search; here entries need not be
 // sorted.
+// `as` stands between usize and u64, where Rust has no `From`.
 #![tactic(auto)]
 
 ghost use Rattle.std.specs.Prelude.{◌≡◌, ◌<◌};
@@ -11,13 +12,10 @@ ghost use Rattle.in_place.specs.Contract.{Placed, Past, Items};
 ghost use Rattle.source_lines.specs.Contract.{location_list, best_of, BestIs, ListIs, FunctionsAt, LineFrom};
 
 use packed::{location_at, past_numbers};
-use reader::{Cursor, Refusal};
+use reader::{Cursor, Kind, Refusal};
 use vob24_data::Settings;
 
 mod packed;
-
-// A number past the debug list. It goes to reader's numbers with the request.
-const NO_SUCH_FUNCTION: u64 = 28;
 
 // The best entry so far, by its number from 0, with its address.
 #[derive(Clone, Copy)]
@@ -93,7 +91,7 @@ pub fn line_from(
     let n = in_place::word_at(s, at);
     if n as u64 <= function {
         return Err(Refusal {
-            number: NO_SUCH_FUNCTION,
+            kind: Kind::NoSuchFunction,
             context: 0,
             detail1: function,
             detail2: n as u64,
@@ -103,6 +101,6 @@ pub fn line_from(
     }
     let list = list_at(s, set, at + 4, n, function as usize);
     let count = in_place::word_at(s, list);
-    let best = best_of(s, list + 4, count, address as u64);
+    let best = best_of(s, list + 4, count, u64::from(address));
     Ok(best.map(|b| b.entry))
 }

@@ -17,12 +17,6 @@ pub(crate) struct Packed {
     pub(crate) next: usize,
 }
 
-fn wide(n: u8) -> u64
-    ensures { result ≡ n }
-{
-    n as u64
-}
-
 // 1 for a byte that ends a packed number.
 fn ends(b: u8) -> u8
     ensures { (result ≡ ending b) × (result ≤ 1) }
@@ -57,7 +51,8 @@ fn past_number(s: &[u8], p: usize) -> usize
     at + 1
 }
 
-// The place past n packed numbers. Where more are to come than a block has bytes, the block is all theirs.
+// The place past n packed numbers. Where more are to come than a block has bytes, the block is all theirs; how many end in
+// it is found, so that no range counts the blocks.
 pub(crate) fn past_numbers(s: &[u8], p: usize, n: usize) -> usize
     requires { NumbersAt n s.now p }
     ensures { Skips s.now n p result }
@@ -65,7 +60,7 @@ pub(crate) fn past_numbers(s: &[u8], p: usize, n: usize) -> usize
     let mut at = p;
     let mut k = n;
     while BLOCK < k {
-        k -= ends_in(s, at) as usize;
+        k -= usize::from(ends_in(s, at));
         at += BLOCK;
     }
     for _ in 0..k {
@@ -82,7 +77,7 @@ fn packed_at(s: &[u8], p: usize) -> Packed
     let first = s[p];
     if first < 128 {
         return Packed {
-            value: wide(first),
+            value: u64::from(first),
             next: p + 1,
         };
     }

@@ -1,3 +1,4 @@
+// `as` stands between usize and u64, where Rust has no `From`, and where a number is known to fit a narrower type.
 ghost use Rattle.std.specs.Prelude.{◌+◌, ◌<◌, ◌≤◌};
 ghost use Rattle.stored_answers.specs.declared.header.TheConstants.{PACK_BYTES, NAME_BYTES, TAPE_WORDS};
 

@@ -13,7 +13,7 @@ pub use tally::Tally;
 // What an unwritten tape holds: the multiples of this number modulo 2^32.
 const STEP: u32 = 2_654_435_769;
 
-// Fills a tape, so that it shows what a call writes.
+// Fills a tape, each word by its place, so that it shows what a call writes; the slices' `fill` would write one value.
 pub fn fill(tape: &mut [u32]) {
     for (word, k) in tape.iter_mut().zip(1u32..) {
         *word = STEP.wrapping_mul(k);
@@ -22,12 +22,12 @@ pub fn fill(tape: &mut [u32]) {
 
 // The first place from `from` on at which a tape is no longer as `fill` left it, or its length.
 fn first_written(tape: &[u32], from: usize) -> usize {
-    for (i, (word, k)) in tape.iter().zip(1u32..).enumerate().skip(from) {
-        if *word != STEP.wrapping_mul(k) {
-            return i;
-        }
-    }
-    tape.len()
+    tape.iter()
+        .zip(1u32..)
+        .enumerate()
+        .skip(from)
+        .find(|(_, (word, k))| **word != STEP.wrapping_mul(*k))
+        .map_or(tape.len(), |(i, _)| i)
 }
 
 fn sum_of(words: &[u32]) -> u32 {

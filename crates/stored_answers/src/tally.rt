@@ -1,3 +1,4 @@
+// `as` stands between usize and u64, where Rust has no `From`.
 use crate::header::{Header, Kind, UnknownKind};
 use crate::records::Record;
 use calls::Taken;
@@ -104,7 +105,7 @@ impl<'a, P: Print> Tally<'a, P> {
             1,
             0,
             &[
-                ("number", r.number),
+                ("number", u64::from(r.kind)),
                 ("c", r.context),
                 ("d1", r.detail1),
                 ("d2", r.detail2),

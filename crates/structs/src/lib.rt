@@ -8,9 +8,11 @@ ghost use Rattle.reader.specs.Contract.{Ready, Reader};
 ghost use Rattle.reader.specs.Accepted.{Accepted};
 ghost use Rattle.structs.specs.Structs.{field_format, struct_format, struct_list};
 
+use fields::{Bool, U16, ValueRttid};
+use in_place::Table;
 use lists::Entry;
-use reader::{Step, sizes};
-use vob24_data::Settings;
+use reader::Step;
+use vob24_data::{Settings, Size};
 
 struct Field;
 
@@ -21,10 +23,10 @@ impl Entry for Field {
 
     fn read(&self, s: &[u8], r: Step, tape: &mut [u32]) -> Step {
         let name = fields::field_member_name(s, r, tape);
-        let offset = fields::field_u16(s, name, tape);
-        let slot_count = fields::field_u16(s, offset, tape);
-        let type_info = fields::field_value_rttid(s, slot_count, tape);
-        let embedded = fields::field_bool(s, type_info, tape);
+        let offset = fields::field::<U16>(s, name, tape);
+        let slot_count = fields::field::<U16>(s, offset, tape);
+        let type_info = fields::field::<ValueRttid>(s, slot_count, tape);
+        let embedded = fields::field::<Bool>(s, type_info, tape);
         fields::field_optional_str(s, embedded, tape)
     }
 }
@@ -44,8 +46,8 @@ impl Entry for Structure<'_> {
     fn read(&self, s: &[u8], r: Step, tape: &mut [u32]) -> Step {
         let set = self.set;
         let slot_types = slots::slot_types(s, set, r, tape);
-        let fields = lists::read_list(s, set, slot_types, sizes::FIELD_META, &Field, tape);
-        unique_names::field_index(s, set, slot_types, fields, self.again)
+        let fields = lists::read_list(s, set, slot_types, Size::FieldMeta, &Field, tape);
+        unique_names::asked(s, set, Table::Fields, slot_types, fields, self.again)
     }
 }
 
@@ -54,12 +56,5 @@ pub fn structs(s: &[u8], set: &Settings, r: Step, again: bool, tape: &mut [u32])
     ensures { Reader (struct_list (settings_of set.now)) s.now r tape.old result
         tape.new }
 {
-    lists::read_list(
-        s,
-        set,
-        r,
-        sizes::STRUCT_META,
-        &Structure { set, again },
-        tape,
-    )
+    lists::read_list(s, set, r, Size::StructMeta, &Structure { set, again }, tape)
 }

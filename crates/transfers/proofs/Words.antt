@@ -1,14 +1,16 @@
 -- The laws of transfer words.
 use Rattle.std.proofs.Common.{Ok, Err, ℕ, ◌+◌, ◌/◌, ◌%◌, ◌≤◌, ◌<◌, ◌≡◌, refl, ap, sym, ◌∙◌, List, [], ◌∷◌, ◌++◌, map, append_assoc, Bool, true, false, arith, leb, ltb, length, length-append, le-leb}
 use borrow.Author.Tests.{lt-leb}
-use Rattle.format.specs.Trace.{Wrong, pick}
+use Rattle.format.specs.Trace.{Wrong, refused, pick}
 use Rattle.format.specs.Format.{Value, number, first, second}
 use Rattle.format.specs.Reading.{little, part}
 use Rattle.vob24.specs.Leaves.{packed_ok}
 use Rattle.vob24.specs.Questions.{refuse_unless, function_wrong, transfer_words}
 use Rattle.vob24.specs.Grammar.{transfer, transferred}
-use Rattle.reader.specs.Contract.{refusal, Asks, Step}
+use Rattle.reader.specs.Contract.{refusal, told, Asks, Step}
 use Rattle.reader.specs.declared.Cursor.{Cursor}
+use Rattle.reader.specs.declared.Refusal.{Refusal}
+use Rattle.reader.specs.declared.kinds.Kind.TheVariants.{InvalidFunctionMetadata}
 use Rattle.reader.proofs.Asks.{asks-then, asks-not, asks_none, asks-deny}
 use Rattle.in_place.specs.Walk.{Stands, value_at, next_at, items_at, items-length, parts}
 use Rattle.in_place.specs.Contract.{over, WordIs, Placed, Past}
@@ -52,9 +54,9 @@ transfer-past h = record { is = sym (transfer-stands h.stands).next }
 
 -- ---- the answers of `transfer`
 module _ (w : Wrong) {b : Bool} {c : Cursor} where
-  unless-no : {q : Step} → b ≡ false → q ≡ Err (refusal w c.place c.left) → Asks (refuse_unless b w) c q
+  unless-no : {x : Refusal} {q : Step} → b ≡ false → q ≡ Err x → told x ≡ refused w c.place c.left → Asks (refuse_unless b w) c q
   unfolding pick
-  unless-no e i = rw (e, i) asks-deny
+  unless-no e i k = rw (e, i) (asks-deny k)
 
   unless-yes : b ≡ true → Asks (refuse_unless b w) c (Ok c)
   unfolding pick
@@ -65,20 +67,20 @@ module _ {s : List ℕ} {p : ℕ} (h : Placed transfer s p) {m : ℕ} (j : WordI
   meta-is = (transfer-stands h.stands).meta ∙ sym j.is
 
   pub transfer-meta : (context i : ℕ) {c : Cursor} {q : Step} → a ≡ false
-      → q ≡ Err (refusal (function_wrong context i m) c.place c.left)
+      → q ≡ Err (refusal InvalidFunctionMetadata context i m c)
       → Asks (transfer_asks context i (value_at transfer s p)) c q
   unfolding transfer_asks
-  transfer-meta context i {c} e r = rw (r, meta-is) (asks-not _ (unless-no (function_wrong context i m) {c = c} (sym k ∙ e) refl))
+  transfer-meta context i {c} e r = rw (r, meta-is) (asks-not _ (unless-no (function_wrong context i m) {c = c} (sym k ∙ e) refl refl))
 
   module _ (e : a ≡ true) {n : ℕ} (g : WordIs s (p + 4) n) {b : Bool} (f : b ≡ packed_ok n) where
     rttid-is : (transferred (value_at transfer s p)).1 ≡ n
     rttid-is = (transfer-stands h.stands).rttid ∙ sym g.is
 
     pub transfer-rttid : (context i : ℕ) {c : Cursor} {q : Step} → b ≡ false
-        → q ≡ Err (refusal (function_wrong (context + 1) i n) c.place c.left)
+        → q ≡ Err (refusal InvalidFunctionMetadata (context + 1) i n c)
         → Asks (transfer_asks context i (value_at transfer s p)) c q
     unfolding transfer_asks
-    transfer-rttid context i o r = rw (meta-is, rttid-is) (asks-then _ (unless-yes _ (sym k ∙ e)) (unless-no _ (sym f ∙ o) r))
+    transfer-rttid context i o r = rw (meta-is, rttid-is) (asks-then _ (unless-yes _ (sym k ∙ e)) (unless-no _ (sym f ∙ o) r refl))
 
     pub transfer-ok : (context i : ℕ) {c : Cursor} → b ≡ true
         → Asks (transfer_asks context i (value_at transfer s p)) c (Ok c)

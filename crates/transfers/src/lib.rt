@@ -1,17 +1,19 @@
 // Questions on the transfer words of a function (20): is each a kind and an id?
 // Ports the checks of transfer types of serialize.rs.
+// `as` stands between usize and u64, where Rust has no `From`.
 #![tactic(auto)]
 
 ghost use Rattle.std.specs.Prelude.{◌≡◌, ◌<◌, [], map, Err};
 ghost use Rattle.vob24.specs.Leaves.{packed_ok};
-ghost use Rattle.vob24.specs.Questions.{function_wrong, transfer_words};
+ghost use Rattle.vob24.specs.Questions.{transfer_words};
+ghost use Rattle.reader.specs.declared.kinds.Kind.TheVariants.{InvalidFunctionMetadata};
 ghost use Rattle.vob24.specs.Grammar.{transfer as transfer_format, transferred};
 ghost use Rattle.reader.specs.Contract.{refusal, Asks};
 ghost use Rattle.in_place.specs.Walk.{value_at, items_at};
 ghost use Rattle.in_place.specs.Contract.{over, Items, ListBehind, ListAsked};
 ghost use Rattle.transfers.specs.Words.{transfer_asks, transfer_over, TransferAt};
 
-use reader::{Cursor, Refusal, Step, numbers};
+use reader::{Cursor, Kind, Refusal, Step};
 
 // Is it a kind in the low byte, and an id above it?
 fn packed_ok(word: usize) -> bool
@@ -21,10 +23,10 @@ fn packed_ok(word: usize) -> bool
 }
 
 fn bad_word(c: Cursor, context: u64, i: usize, word: usize) -> Step
-    ensures { result ≡ Err (refusal (function_wrong context i word) c.place c.left) }
+    ensures { result ≡ Err (refusal InvalidFunctionMetadata context i word c) }
 {
     Err(Refusal {
-        number: numbers::INVALID_FUNCTION_METADATA,
+        kind: Kind::InvalidFunctionMetadata,
         context,
         detail1: i as u64,
         detail2: word as u64,

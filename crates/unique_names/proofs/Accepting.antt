@@ -1,12 +1,18 @@
 -- What a second pass knows of questions on names: none is refused, so no item of a table repeats another.
-use Rattle.std.proofs.Common.{Ok, Err, ℕ, suc, zero, ◌+◌, ◌≤◌, ◌<◌, ◌≡◌, refl, sym, ◌∙◌, List, [], ◌∷◌, Bool, true, false, not, arith, T, leb, leb→le}
+use Rattle.std.proofs.Common.{Ok, Err, ℕ, suc, zero, ◌+◌, ◌≤◌, ◌<◌, ◌≡◌, refl, sym, ◌∙◌, List, [], ◌∷◌, Bool, true, false, not, arith, T, leb, leb→le, length}
 use lib.Dec.{nleb→lt}
-use Rattle.format.specs.Format.{Value, Ask, pay, deny, Format}
-use Rattle.reader.specs.Contract.{refusal, paid, Reader, Asks, Step}
+use Rattle.format.specs.Trace.{pick}
+use Rattle.format.specs.Format.{Value, content, Ask, pay, Format}
+use Rattle.vob24.specs.Refusals.{struct_field_key}
+use Rattle.vob24.specs.Questions.{blank}
+use Rattle.reader.specs.Contract.{paid, Reader, Asks, Step}
 use Rattle.reader.specs.declared.Cursor.{Cursor}
 use Rattle.reader.specs.declared.Refusal.{Refusal}
-use Rattle.reader.proofs.Asks.{asks-then, asks-not, asks_none, asks-deny, asks-poor, asks-paid}
+use Rattle.reader.proofs.Asks.{asks-then, asks-not, asks_none, asks-poor, asks-paid}
+use Rattle.in_place.specs.declared.Item.TheVariants.{StructField}
 use Rattle.in_place.specs.declared.Table.{Table}
+use Rattle.in_place.specs.declared.Table.TheVariants.{Fields, Methods, Identities, Alike}
+use Rattle.in_place.specs.Items.{name_of}
 use Rattle.in_place.specs.Walk.{value_at, items_at, last_at, items-snoc, items-nil, last_snoc}
 use Rattle.in_place.specs.Tables.{format_in}
 use Rattle.in_place.specs.Contract.{over, ListAsked}
@@ -16,19 +22,28 @@ use Rattle.repeat_search.specs.Tables.{keys_at}
 use Rattle.repeat_search.proofs.Tables.{repeats-at}
 use Rattle.reader.specs.Accepted.{Accepted, AsksAccepted}
 use Rattle.reader.proofs.Accepting.{denied}
-use Rattle.unique_names.specs.Asking.{charges, wrong_in, table_asks}
+use Rattle.unique_names.specs.Asking.{charges, table_asks}
 use Rattle.unique_names.specs.Contract.{ListAccepted}
-use Rattle.unique_names.proofs.Asking.{refuse-yes, refuse-no}
+use Rattle.unique_names.proofs.Asking.{refuse-yes, refuse-no, told-in}
 
--- questions are answered one way or the other
-answered : (l : List Ask) (c : Cursor) → (q : Step) × Asks l c q
-answered [] c = (Ok c, asks_none)
-answered (pay k n ∷ l) c = go (answered l) (paid k n c) refl
+-- a charge is paid or refused
+paid-either : (k n : ℕ) (c : Cursor) → (q : Step) × Asks (pay k n ∷ []) c q
+paid-either k n c = go (paid k n c) refl
   where
-    go : ((d : Cursor) → (q : Step) × Asks l d q) → (y : Step) → paid k n c ≡ y → (q : Step) × Asks (pay k n ∷ l) c q
-    go a (Ok d) e = let r = a d in (r.0, asks-paid (record { is = refl }) e r.1)
-    go a (Err x) e = (paid k n c, asks-poor (record { is = refl }) e)
-answered (deny w ∷ l) c = (Err (refusal w c.place c.left), asks-deny)
+    go : (y : Step) → paid k n c ≡ y → (q : Step) × Asks (pay k n ∷ []) c q
+    go (Ok d) e = (Ok d, asks-paid (record { is = refl }) e asks_none)
+    go (Err x) e = (paid k n c, asks-poor (record { is = refl }) e)
+
+answered : (t : Table) (v : Value) (c : Cursor) → (q : Step) × Asks (charges t v) c q
+unfolding pick
+answered Fields v c = go (blank (name_of StructField v))
+  where
+    go : (b : Bool) → (q : Step) × Asks (pick b [] (pay struct_field_key (length (content (name_of StructField v))) ∷ [])) c q
+    go true = (Ok c, asks_none)
+    go false = paid-either _ _ c
+answered (Methods i) v c = (Ok c, asks_none)
+answered Identities v c = (Ok c, asks_none)
+answered (Alike i) v c = (Ok c, asks_none)
 
 -- item k, of the m items after the first i
 refused-at : (t : Table) (s : List ℕ) (from k m i : ℕ) (c : Cursor) → i ≤ k → k < i + m
@@ -37,7 +52,7 @@ refused-at : (t : Table) (s : List ℕ) (from k m i : ℕ) (c : Cursor) → i �
 unfolding over items_at table_asks
 refused-at t s from k zero i c h j e = absurd (omega arith)
 refused-at t s from k (suc m) i c h j e =
-    let a = answered (charges t (value_at (format_in t) s (last_at (format_in t) i s from))) c in
+    let a = answered t (value_at (format_in t) s (last_at (format_in t) i s from)) c in
     go (λ d. refused-at t s from k m (suc i) d) a.0 a.1 (repeat_at (keys_at t s from) i) refl (leb (suc i) k) (leb→le _ _) (nleb→lt _ _)
   where
     go : ((d : Cursor) → suc i ≤ k → k < suc i + m → repeat_at (keys_at t s from) k ≡ true → (x : Refusal) × Asks (over (table_asks t) (items_at (format_in t) (suc i) s from) (items_at (format_in t) m s (last_at (format_in t) (suc i) s from))) d (Err x))
@@ -45,12 +60,12 @@ refused-at t s from k (suc m) i c h j e =
         → repeat_at (keys_at t s from) i ≡ b → (z : Bool) → (T z → suc i ≤ k) → (T (not z) → k < suc i)
         → (x : Refusal) × Asks (over (table_asks t) (items_at (format_in t) i s from) (items_at (format_in t) (suc m) s (last_at (format_in t) i s from))) c (Err x)
     go r (Err x) a b y z u w = (x, asks-not _ (asks-not _ a))
-    go r (Ok d) a true y z u w = (refusal (wrong_in t (value_at (format_in t) s (last_at (format_in t) i s from))) d.place d.left, asks-not _ (asks-then _ a (refuse-yes _ (sym (repeats-at t s from i) ∙ y) refl)))
+    go r (Ok d) a true y z u w = let x = told-in t (value_at (format_in t) s (last_at (format_in t) i s from)) d in (x.0, asks-not _ (asks-then _ a (refuse-yes _ (sym (repeats-at t s from i) ∙ y) refl x.1)))
     go r (Ok d) a false y true u w =
         let n = r d (u tt) (omega arith) e in
         let o = rw (items-snoc (format_in t) i s from) at (rw (last_snoc (format_in t) i s from) at n.1) in
         (n.0, asks-then _ (asks-then _ a (refuse-no _ (sym (repeats-at t s from i) ∙ y))) o)
-    go r (Ok d) a false y false u w = let x : k ≡ i = omega (arith, w tt) in let no : ◌≡◌ {A = ℕ} 0 1 = cc in absurd (omega arith)
+    go r (Ok d) a false y false u w = let x : k ≡ i = omega (arith, w tt) in absurd (cc)
 
 pub none-repeats : (t : Table) (s : List ℕ) (from n : ℕ) {b : Bool} {c : Cursor} → b ≡ true
     → AsksAccepted b (over (table_asks t) [] (items_at (format_in t) n s from)) c → FirstRepeat (keys_at t s from) n n

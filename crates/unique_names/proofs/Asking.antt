@@ -1,12 +1,15 @@
 -- The laws of the questions on the items of a table: one item's answers, and the loop over them.
 use Rattle.std.proofs.Common.{Ok, Err, ℕ, ◌+◌, ◌≤◌, ◌<◌, ◌≡◌, refl, ap, sym, ◌∙◌, List, [], ◌∷◌, Bool, true, false, arith, length}
-use Rattle.format.specs.Trace.{Wrong, pick}
-use Rattle.format.specs.Format.{start, content, pay}
+use Rattle.format.specs.Trace.{Wrong, refused, pick}
+use Rattle.format.specs.Format.{Value, start, content, pay}
 use Rattle.format.specs.Reading.{same}
 use Rattle.vob24.specs.Refusals as refusals
 use Rattle.vob24.specs.Questions.{refuse_if, repeat}
 use Rattle.vob24.specs.Grammar.{struct_field, identity}
-use Rattle.reader.specs.Contract.{refusal, Paid, Asks, Step}
+use Rattle.reader.specs.Numbers.{kind_number}
+use Rattle.reader.specs.Contract.{refusal, told, Paid, Asks, Step}
+use Rattle.reader.specs.declared.kinds.Kind.{Kind}
+use Rattle.reader.specs.declared.kinds.Kind.TheVariants.{DuplicateStructField, DuplicateInterfaceMethod, DuplicateRuntimeStructField}
 use Rattle.reader.specs.declared.Cursor.{Cursor}
 use Rattle.reader.specs.declared.Refusal.{Refusal}
 use Rattle.reader.proofs.Asks.{asks-then, asks-not, asks_none, asks-deny, asks-poor, asks-paid}
@@ -29,9 +32,10 @@ use Rattle.unique_names.specs.Asking.{wrong_in, table_asks}
 use Rattle.unique_names.specs.Contract.{Charged, Repeated, RepeatTold}
 
 module _ (w : Wrong) {b : Bool} {c : Cursor} where
-  pub refuse-yes : {q : Step} → b ≡ true → q ≡ Err (refusal w c.place c.left) → Asks (refuse_if b w) c q
+  pub refuse-yes : {x : Refusal} {q : Step} → b ≡ true → q ≡ Err x → told x ≡ refused w c.place c.left
+      → Asks (refuse_if b w) c q
   unfolding pick
-  refuse-yes e i = rw (e, i) asks-deny
+  refuse-yes e i k = rw (e, i) (asks-deny k)
 
   pub refuse-no : b ≡ false → Asks (refuse_if b w) c (Ok c)
   unfolding pick
@@ -39,33 +43,36 @@ module _ (w : Wrong) {b : Bool} {c : Cursor} where
 
 -- the answers of `refuse_repeat`
 module _ (i : Item) {s : List ℕ} {p : ℕ} (h : Placed (format_of i) s p) where
-  pub repeat-told : {c : Cursor} {e k : ℕ} {q : Step} → Repeated s p c e k q
-      → q ≡ Err (refusal (repeat e k (name_of i (value_at (format_of i) s p))) c.place c.left)
-  repeat-told {c} {e} {k} r =
-      let x : repeat e k (name_of i (value_at (format_of i) s p)) ≡ record { number = e; context = k; detail1 = p + 4; detail2 = length (text_at s p) } = rw (name-stands i h.stands).value in
-      r.is ∙ ap (λ (w : Wrong). Err (refusal w c.place c.left)) (sym x)
+  pub repeat-told : (kind : Kind) (k : ℕ) (c : Cursor)
+      → told (refusal kind k (p + 4) (length (text_at s p)) c) ≡ refused (repeat (kind_number kind) k (name_of i (value_at (format_of i) s p))) c.place c.left
+  repeat-told kind k c = rw (name-stands i h.stands).value
 
 module _ {t : Table} {s : List ℕ} {p : ℕ} (h : Placed (format_in t) s p) {c : Cursor} {q : Step} where
-  pub told-field : t ≡ Fields → Repeated s p c refusals.duplicate_struct_field 0 q → RepeatTold t s p c q
-  told-field e r = rw e (record { is = repeat-told StructField (rw e at h) r })
+  pub told-field : t ≡ Fields → Repeated s p c DuplicateStructField 0 q → RepeatTold t s p c q
+  told-field e r = rw e (record { refusal = _; is = r.is; tells = repeat-told StructField (rw e at h) DuplicateStructField 0 c })
 
-  pub told-method : {i : Item} → t ≡ Methods i → Repeated s p c refusals.duplicate_interface_method 0 q
-      → RepeatTold t s p c q
-  told-method {i} e r = rw e (record { is = repeat-told i (rw e at h) r })
+  pub told-method : {i : Item} → t ≡ Methods i → Repeated s p c DuplicateInterfaceMethod 0 q → RepeatTold t s p c q
+  told-method {i} e r = rw e (record { refusal = _; is = r.is; tells = repeat-told i (rw e at h) DuplicateInterfaceMethod 0 c })
 
-  pub told-alike : {i : Item} → t ≡ Alike i → Repeated s p c refusals.duplicate_interface_method 0 q
-      → RepeatTold t s p c q
-  told-alike {i} e r = rw e (record { is = repeat-told i (rw e at h) r })
+  pub told-alike : {i : Item} → t ≡ Alike i → Repeated s p c DuplicateInterfaceMethod 0 q → RepeatTold t s p c q
+  told-alike {i} e r = rw e (record { refusal = _; is = r.is; tells = repeat-told i (rw e at h) DuplicateInterfaceMethod 0 c })
 
   pub told-identity : {x : ℕ} → t ≡ Identities → PackageIs s p x
-      → Repeated s p c refusals.duplicate_runtime_struct_field (x + 4) q → RepeatTold t s p c q
-  told-identity {x} e g r = rw e (record { is = go (rw e at h) })
+      → Repeated s p c DuplicateRuntimeStructField (x + 4) q → RepeatTold t s p c q
+  told-identity {x} e g r = rw e (record { refusal = _; is = r.is; tells = go (rw e at h) })
     where
       go : Placed (format_in Identities) s p
-          → q ≡ Err (refusal (wrong_in Identities (value_at (format_in Identities) s p)) c.place c.left)
+          → told (refusal DuplicateRuntimeStructField (x + 4) (p + 4) (length (text_at s p)) c) ≡ refused (wrong_in Identities (value_at (format_in Identities) s p)) c.place c.left
       go h =
           let y : start (identity (value_at (format_in Identities) s p)).0 ≡ x + 4 = ap start (runtime-stands h.stands).value ∙ rw g.is in
-          repeat-told RuntimeField h (rw (← y) at r)
+          rw y (repeat-told RuntimeField h DuplicateRuntimeStructField (x + 4) c)
+
+-- the refusal of an item, as the code has it
+pub told-in : (t : Table) (v : Value) (c : Cursor) → (x : Refusal) × (told x ≡ refused (wrong_in t v) c.place c.left)
+told-in Fields v c = (refusal DuplicateStructField 0 (start (name_of StructField v)) (length (content (name_of StructField v))) c, refl)
+told-in (Methods i) v c = (refusal DuplicateInterfaceMethod 0 (start (name_of i v)) (length (content (name_of i v))) c, refl)
+told-in Identities v c = (refusal DuplicateRuntimeStructField (start (identity v).0) (start (identity v).1) (length (content (identity v).1)) c, refl)
+told-in (Alike i) v c = (refusal DuplicateInterfaceMethod 0 (start (name_of i v)) (length (content (name_of i v))) c, refl)
 
 -- the answers of `charge_field` and `charge_key`
 paid-asks : {k n : ℕ} {c : Cursor} {y : Step} → Paid k n c y → Asks (pay k n ∷ []) c y
@@ -89,9 +96,6 @@ module _ {s : List ℕ} {p : ℕ} (h : Placed struct_field s p) {b : Bool} (w : 
   charge-one e k g = record { asks = rw (blank-is, e, name-content StructField h.stands, text-length (item-name StructField h) k) (paid-asks g) }
 
 module _ {t : Table} {s : List ℕ} {p : ℕ} {c : Cursor} where
-  pub charge-field : {q : Step} → t ≡ Fields → Charged Fields s p c q → Charged t s p c q
-  charge-field e a = rw e a
-
   pub charge-method : {i : Item} → t ≡ Methods i → Charged t s p c (Ok c)
   charge-method e = rw e (record { asks = asks_none })
 
@@ -135,7 +139,7 @@ module _ {t : Table} {s : List ℕ} {from n first : ℕ} {c₀ : Cursor} where
           unfolding table_asks
           judging-repeat k r =
               let z : repeat_at (keys_at t s from) i ≡ true = rw k (f.found (omega arith)) in
-              rw r.is (asking-not h l.asked (asks-then _ (rw e at a.asks) (refuse-yes _ (repeats-is z) refl)) refl)
+              rw r.is (asking-not h l.asked (asks-then _ (rw e at a.asks) (refuse-yes _ (repeats-is z) refl r.tells)) refl)
 
           pub judging-more : {z : ℕ} → (i ≡ first → ⊥) → Past (format_in t) s p z
               → Judging t s from n first c₀ z (i + 1) d
@@ -143,5 +147,3 @@ module _ {t : Table} {s : List ℕ} {from n first : ℕ} {c₀ : Cursor} where
           judging-more {z} k w =
               let j : i < first = omega (arith, l.below) in
               record { asked = asking-more h l.asked (asks-then _ (rw e at a.asks) (refuse-no _ (repeats-is (f.new i j)))) refl w; below = omega arith }
-
-pub ruleset answering = (told-field, told-method, told-identity, told-alike, charge-none, charge-one, charge-field, charge-method, charge-identity, charge-alike)

@@ -4,12 +4,14 @@ use Rattle.std.specs.Result.{IsErrAnd}
 use Rattle.format.specs.Trace.{pick}
 use Rattle.format.specs.Format.{content}
 use Rattle.format.specs.Reading.{same}
-use Rattle.vob24.specs.Refusals as refusals
 use Rattle.vob24.specs.Settings as of
 use Rattle.vob24.specs.Settings.{Settings, size_of}
 use Rattle.vob24.specs.Questions.{among}
 use Rattle.vob24.specs.Grammar.{struct_field, method, method_name, runtime_field, identity}
+use Rattle.reader.specs.Numbers.{context_number}
 use Rattle.reader.specs.Contract.{Paid, Asks, Step}
+use Rattle.reader.specs.declared.kinds.Kind.TheVariants.{DuplicateNamedMethod}
+use Rattle.reader.specs.declared.kinds.Context.TheVariants.{StructFieldIndex, InterfaceMethodSet, RuntimeStructFieldSet}
 use Rattle.reader.specs.declared.Cursor.{Cursor}
 use Rattle.reader.specs.declared.Refusal.{Refusal}
 use Rattle.reader.proofs.Errors.{handed}
@@ -36,23 +38,23 @@ use Rattle.unique_names.proofs.Orders.{names-map, map-length, contents-snoc, pla
 -- ---- the answers of `table_charge`
 module _ {set : Settings} {t : Table} {s : List ℕ} {from n : ℕ} where
   pub charge-fields : {m b z : ℕ} → t ≡ Fields → Tallied s from n m b → z ≡ size_of set of.StringUsize
-      → ChargedFor set t s from n (record { context = refusals.struct_field_index; size = m * z; keys = b })
+      → ChargedFor set t s from n (record { context = StructFieldIndex; size = m * z; keys = b })
   charge-fields e a j = rw e (record { asks = rw (a.named.is, j, keys-over (items_at struct_field n s from)); cost = a.cost })
 
   pub charge-methods : {i : Item} {z : ℕ} → t ≡ Methods i → z ≡ size_of set of.Str
-      → ChargedFor set t s from n (record { context = refusals.interface_method_set; size = n * (2 * z); keys = 0 })
+      → ChargedFor set t s from n (record { context = InterfaceMethodSet; size = n * (2 * z); keys = 0 })
   charge-methods {i} e j = rw e (record { asks = rw (j, names-map i (items_at (format_of i) n s from), map-length (name_of i) (items_at (format_of i) n s from), items-length (format_of i) n s from, names-over i (items_at (format_of i) n s from)); cost = free-cost (Methods i) (λ v. refl) })
 
   pub charge-names : {i : Item} {z : ℕ} → t ≡ Alike i → z ≡ size_of set of.Str
-      → ChargedFor set t s from n (record { context = refusals.interface_method_set; size = n * (2 * z); keys = 0 })
+      → ChargedFor set t s from n (record { context = InterfaceMethodSet; size = n * (2 * z); keys = 0 })
   charge-names {i} e j = rw e (record { asks = rw (j, items-length (format_of i) n s from); cost = free-cost (Alike i) (λ v. refl) })
 
   pub charge-identities : {z : ℕ} → t ≡ Identities → z ≡ size_of set of.StrStr
-      → ChargedFor set t s from n (record { context = refusals.runtime_struct_field_set; size = n * (2 * z); keys = 0 })
+      → ChargedFor set t s from n (record { context = RuntimeStructFieldSet; size = n * (2 * z); keys = 0 })
   charge-identities e j = rw e (record { asks = rw (j, map-length identity (items_at runtime_field n s from), items-length runtime_field n s from, identities-over (items_at runtime_field n s from)); cost = free-cost Identities (λ v. refl) })
 
   -- the charge, and then the items
-  module _ {q : Charge} (a : ChargedFor set t s from n q) {c : Cursor} {y : Step} (p : Paid q.context q.size c y) where
+  module _ {q : Charge} (a : ChargedFor set t s from n q) {c : Cursor} {y : Step} (p : Paid (context_number q.context) q.size c y) where
     pub charge-poor : {x : Refusal} → y ≡ Err x → Asks (list_asks t set (items_at (format_in t) n s from)) c y
     charge-poor e = rw a.asks (asks-poor p e)
 
@@ -105,9 +107,9 @@ module _ {s : List ℕ} {from n : ℕ} {r r₁ : Step} where
         method-among : among (content (method_name (value_at method s c.place))) (seen_at n s from) ≡ z
         method-among = seen-methods _ n s from ∙ sym (plain-keys (key_of (Methods NamedMethod)) (λ v. refl) (value_at method s c.place) (items_at method n s from)) ∙ sym w.is
 
-        pub method-again : {q : Step} → z ≡ true → Repeated s c.place d refusals.duplicate_named_method 0 q
+        pub method-again : {q : Step} → z ≡ true → Repeated s c.place d DuplicateNamedMethod 0 q
             → MethodAsked s from n r r₁ q
-        method-again e t = method-asked (refuse-yes _ (method-among ∙ e) (repeat-told NamedMethod method-at.here t))
+        method-again e t = method-asked (refuse-yes _ (method-among ∙ e) t.is (repeat-told NamedMethod method-at.here DuplicateNamedMethod 0 d))
 
         pub method-new : z ≡ false → MethodAsked s from n r r₁ (Ok d)
         method-new e = method-asked (refuse-no _ (method-among ∙ e))

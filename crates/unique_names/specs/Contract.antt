@@ -1,11 +1,14 @@
 -- The contracts of names.
 use Rattle.std.specs.Prelude.{ℕ, ◌+◌, ◌≤◌, ◌≡◌, List, [], ◌∷◌, map, Bool, length, Ok, Err}
+use Rattle.format.specs.Trace.{refused}
 use Rattle.format.specs.Format.{Value, Ask, pay, Format}
 use Rattle.format.specs.Reading.{little, part}
 use Rattle.vob24.specs.Settings.{Settings}
 use Rattle.vob24.specs.Questions.{named}
 use Rattle.vob24.specs.Grammar.{method}
-use Rattle.reader.specs.Contract.{refusal, Ready, Asks, Step}
+use Rattle.reader.specs.Numbers.{context_number}
+use Rattle.reader.specs.Contract.{refusal, told, Ready, Asks, Step}
+use Rattle.reader.specs.declared.kinds.Kind.{Kind}
 use Rattle.reader.specs.declared.Cursor.{Cursor}
 use Rattle.reader.specs.declared.Refusal.{Refusal}
 use Rattle.in_place.specs.declared.Item.{Item}
@@ -30,12 +33,14 @@ pub record Charged (t : Table) (s : List ℕ) (p : ℕ) (c : Cursor) (q : Step) 
   pub asks : Asks (charges t (value_at (format_in t) s p)) c q
 
 -- The refusal, at c, of the text at p: its start and its length.
-pub record Repeated (s : List ℕ) (p : ℕ) (c : Cursor) (number context : ℕ) (q : Step) : Type 0 where
-  pub is : q ≡ Err (refusal (record { number = number; context = context; detail1 = p + 4; detail2 = length (text_at s p) }) c.place c.left)
+pub record Repeated (s : List ℕ) (p : ℕ) (c : Cursor) (kind : Kind) (context : ℕ) (q : Step) : Type 0 where
+  pub is : q ≡ Err (refusal kind context (p + 4) (length (text_at s p)) c)
 
 -- The refusal, at c, of the item at p, which repeats another.
 pub record RepeatTold (t : Table) (s : List ℕ) (p : ℕ) (c : Cursor) (q : Step) : Type 0 where
-  pub is : q ≡ Err (refusal (wrong_in t (value_at (format_in t) s p)) c.place c.left)
+  pub refusal : Refusal
+  pub is : q ≡ Err refusal
+  pub tells : told refusal ≡ refused (wrong_in t (value_at (format_in t) s p)) c.place c.left
 
 -- How many of n items have a name other than "_".
 pub record Named (i : Item) (s : List ℕ) (from n q : ℕ) : Type 0 where
@@ -48,7 +53,7 @@ pub record Cost (t : Table) (s : List ℕ) (from n q : ℕ) : Type 0 where
 
 -- The charge of a table of n items, and what their keys cost.
 pub record ChargedFor (set : Settings) (t : Table) (s : List ℕ) (from n : ℕ) (q : Charge) : Type 0 where
-  pub asks : list_asks t set (items_at (format_in t) n s from) ≡ pay q.context q.size ∷ over (table_asks t) [] (items_at (format_in t) n s from)
+  pub asks : list_asks t set (items_at (format_in t) n s from) ≡ pay (context_number q.context) q.size ∷ over (table_asks t) [] (items_at (format_in t) n s from)
   pub cost : Cost t s from n q.keys
 
 -- The fields' names other than "_": how many, and their bytes.

@@ -1,15 +1,14 @@
 // Questions on the names of a list that was read: is each new among those before it, and what does its key cost?
 // Ports build_struct_field_index, validate_unique_interface_method_names, insert_named_method, and the check of runtime
 // struct fields of serialize.rs.
+// `as` stands between usize and u64, where Rust has no `From`.
 #![tactic(auto)]
 
-ghost use Rattle.std.specs.Prelude.{◌≡◌, ◌≤◌, ◌<◌, [], map};
-ghost use Rattle.format.specs.Trace.{pick};
+ghost use Rattle.std.specs.Prelude.{◌<◌, []};
 ghost use Rattle.vob24.specs.Settings.{settings_of};
-ghost use Rattle.vob24.specs.Grammar.{struct_field, field_name, field_index, method_set, runtime_field, identity, field_set};
+ghost use Rattle.vob24.specs.Grammar.{struct_field};
 ghost use Rattle.reader.specs.Contract.{Asks};
 ghost use Rattle.in_place.specs.Walk.{items_at};
-ghost use Rattle.in_place.specs.Items.{format_of, names_of};
 ghost use Rattle.in_place.specs.Tables.{format_in};
 ghost use Rattle.in_place.specs.Contract.{over, TextAt, Placed, Items, ListBehind, ListAsked};
 ghost use Rattle.reader.specs.Accepted.{AsksAccepted};
@@ -19,19 +18,19 @@ ghost use Rattle.unique_names.specs.Asking.{table_asks, list_asks};
 ghost use Rattle.unique_names.specs.Contract.{ListAccepted, Charged, ChargedFor, Repeated, RepeatTold, Cost, Tallied, MethodBehind, MethodAsked};
 
 use in_place::{Item, Table};
-use reader::{Cursor, Refusal, Step, numbers, sizes};
-use vob24_data::Settings;
+use reader::{Context, Cursor, Kind, Refusal, Step};
+use vob24_data::{Settings, Size};
 
 // ---- the charge and the refusal of an item
 
 // The refusal of a repeat: where it starts, and its length.
-fn repeated(s: &[u8], p: usize, c: Cursor, number: u64, context: u64) -> Step
+fn repeated(s: &[u8], p: usize, c: Cursor, kind: Kind, context: u64) -> Step
     requires { TextAt s.now p }
-    ensures { Repeated s.now p c number context result }
+    ensures { Repeated s.now p c kind context result }
 {
     let len = in_place::word_at(s, p);
     Err(Refusal {
-        number,
+        kind,
         context,
         detail1: (p + 4) as u64,
         detail2: len as u64,
@@ -46,9 +45,9 @@ fn refuse_repeat(s: &[u8], table: Table, p: usize, c: Cursor) -> Step
     ensures { RepeatTold table s.now p c result }
 {
     match table {
-        Table::Fields => repeated(s, p, c, numbers::DUPLICATE_STRUCT_FIELD, 0),
+        Table::Fields => repeated(s, p, c, Kind::DuplicateStructField, 0),
         Table::Methods(_) | Table::Alike(_) => {
-            repeated(s, p, c, numbers::DUPLICATE_INTERFACE_METHOD, 0)
+            repeated(s, p, c, Kind::DuplicateInterfaceMethod, 0)
         }
         Table::Identities => {
             let package = in_place::package_at(s, p);
@@ -56,7 +55,7 @@ fn refuse_repeat(s: &[u8], table: Table, p: usize, c: Cursor) -> Step
                 s,
                 p,
                 c,
-                numbers::DUPLICATE_RUNTIME_STRUCT_FIELD,
+                Kind::DuplicateRuntimeStructField,
                 (package + 4) as u64,
             )
         }
@@ -72,7 +71,7 @@ fn charge_field(s: &[u8], p: usize, c: Cursor) -> Step
         return Ok(c);
     }
     let len = in_place::word_at(s, p);
-    reader::charge_allocation(c, numbers::STRUCT_FIELD_KEY, len as u64)
+    reader::charge_allocation(c, Context::StructFieldKey, len as u64)
 }
 
 fn charge_key(s: &[u8], table: Table, p: usize, c: Cursor) -> Step
@@ -154,12 +153,6 @@ fn distinct(
 
 // ---- 16: the names of a struct's fields
 
-fn unless(b: bool, n: u64) -> u64
-    ensures { (result ≡ pick b 0 n) × (result ≤ n) }
-{
-    if b { 0 } else { n }
-}
-
 // How many of n fields have a name other than "_", and how many bytes these names have.
 #[derive(Clone, Copy)]
 struct Tally {
@@ -175,9 +168,10 @@ fn named(s: &[u8], from: usize, n: usize) -> Tally
     let mut names: u64 = 0;
     let mut bytes: u64 = 0;
     for _ in 0..n {
-        let b = in_place::blank(s, at);
-        names += unless(b, 1);
-        bytes += unless(b, in_place::word_at(s, at) as u64);
+        if !in_place::blank(s, at) {
+            names += 1;
+            bytes += in_place::word_at(s, at) as u64;
+        }
         at = in_place::past(s, Item::StructField, at);
     }
     Tally { names, bytes }
@@ -188,7 +182,7 @@ fn named(s: &[u8], from: usize, n: usize) -> Tally
 // The charge of a table, and what its items' keys cost.
 #[derive(Clone, Copy)]
 struct Charge {
-    context: u64,
+    context: Context,
     size: u64,
     keys: u64,
 }
@@ -202,27 +196,29 @@ fn table_charge(s: &[u8], set: &Settings, table: Table, from: usize, n: usize) -
         Table::Fields => {
             let tally = named(s, from, n);
             Charge {
-                context: numbers::STRUCT_FIELD_INDEX,
-                size: tally.names * vob24_data::size(set, sizes::STRING_USIZE),
+                context: Context::StructFieldIndex,
+                size: tally.names * Size::StringUsize.bytes(set),
                 keys: tally.bytes,
             }
         }
         Table::Methods(_) | Table::Alike(_) => Charge {
-            context: numbers::INTERFACE_METHOD_SET,
-            size: (n as u64) * (2 * vob24_data::size(set, sizes::STR)),
+            context: Context::InterfaceMethodSet,
+            size: (n as u64) * (2 * Size::Str.bytes(set)),
             keys: 0,
         },
         Table::Identities => Charge {
-            context: numbers::RUNTIME_STRUCT_FIELD_SET,
-            size: (n as u64) * (2 * vob24_data::size(set, sizes::STR_STR)),
+            context: Context::RuntimeStructFieldSet,
+            size: (n as u64) * (2 * Size::StrStr.bytes(set)),
             keys: 0,
         },
     }
 }
 
-// The questions on a table whose list was read at r, asked at r1.
+// The questions on a table whose list was read at r, asked at r1: the index of a struct's fields, the set of an interface's
+// methods, the set of a runtime struct's fields, where "_" is charged too. Inlined for speed, as measured: docs/CHANGES.md,
+// "The design pass".
 #[inline(always)]
-fn asked(s: &[u8], set: &Settings, table: Table, r: Step, r1: Step, again: bool) -> Step
+pub fn asked(s: &[u8], set: &Settings, table: Table, r: Step, r1: Step, again: bool) -> Step
     requires { (ListBehind (format_in table) s.now r r1)
         × (ListAccepted again (format_in table) (λ vs. list_asks table (settings_of set.now) vs) s.now r r1) }
     ensures { ListAsked (format_in table) (λ vs. list_asks table (settings_of set.now) vs) s.now r r1 result }
@@ -236,37 +232,6 @@ fn asked(s: &[u8], set: &Settings, table: Table, r: Step, r1: Step, again: bool)
     distinct(s, table, from, n, charge.keys, again, e)
 }
 
-// The index of a struct's fields whose list was read at r, asked at r1.
-pub fn field_index(s: &[u8], set: &Settings, r: Step, r1: Step, again: bool) -> Step
-    requires { (ListBehind struct_field s.now r r1)
-        × (ListAccepted again struct_field (λ vs. field_index (settings_of set.now) (map field_name vs)) s.now r r1) }
-    ensures { ListAsked struct_field (λ vs. field_index (settings_of set.now) (map field_name vs))
-        s.now r r1 result }
-{
-    asked(s, set, Table::Fields, r, r1, again)
-}
-
-// The set of an interface's methods.
-pub fn method_set(s: &[u8], set: &Settings, item: Item, r: Step, r1: Step, again: bool) -> Step
-    requires { (ListBehind (format_of item) s.now r r1)
-        × (ListAccepted again (format_of item) (λ vs. method_set (settings_of set.now) (names_of item vs)) s.now r
-        r1) }
-    ensures { ListAsked (format_of item) (λ vs. method_set (settings_of set.now) (names_of item vs))
-        s.now r r1 result }
-{
-    asked(s, set, Table::Methods(item), r, r1, again)
-}
-
-// The set of a runtime struct's fields; "_" is charged too.
-pub fn field_set(s: &[u8], set: &Settings, r: Step, r1: Step, again: bool) -> Step
-    requires { (ListBehind runtime_field s.now r r1)
-        × (ListAccepted again runtime_field (λ vs. field_set (settings_of set.now) (map identity vs)) s.now r r1) }
-    ensures { ListAsked runtime_field (λ vs. field_set (settings_of set.now) (map identity vs))
-        s.now r r1 result }
-{
-    asked(s, set, Table::Identities, r, r1, again)
-}
-
 // ---- 18: the methods of a named type
 
 // The method that was read from r to r1, after n others from `from` on.
@@ -278,7 +243,7 @@ pub fn new_method(s: &[u8], from: usize, n: usize, r: Step, r1: Step) -> Step
     let c = r?;
     let place = c.place;
     if in_place::seen(s, Table::Methods(Item::NamedMethod), from, n, place) {
-        return repeated(s, place, d, numbers::DUPLICATE_NAMED_METHOD, 0);
+        return repeated(s, place, d, Kind::DuplicateNamedMethod, 0);
     }
     Ok(d)
 }

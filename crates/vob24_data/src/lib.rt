@@ -2,7 +2,7 @@
 // charge reads. Ports the `size_of` terms and the limits of serialize.rs.
 #![tactic(auto)]
 
-ghost use Rattle.std.specs.Prelude.{◌≡◌, ◌≤◌, ◌<◌, get_or};
+ghost use Rattle.std.specs.Prelude.{◌+◌, ◌*◌, ◌≡◌, ◌≤◌, ◌<◌, get_or};
 ghost use Rattle.vob24.specs.Settings.{settings, settings_of, size_of};
 ghost use Rattle.vob24.specs.Grammar.{inline_sources};
 ghost use Rattle.vob24_data.specs.Sections.{section_of, functions_of, number_of};
@@ -95,8 +95,58 @@ pub const MEASURED: [u16; 39] = [
     12, 56, 24, 20, 28, 32, 8, 144, 64, 128, 0, 256, 0, 2,
 ];
 
+// The sizes: the entries' types in order of first use along the reading, and ExternDef.
+#[derive(Clone, Copy, PartialEq, Eq, Debug)]
+pub enum Size {
+    StructMeta = 1,
+    SlotType = 2,
+    FieldMeta = 3,
+    StringUsize = 4,
+    InterfaceMeta = 5,
+    String = 6,
+    InterfaceMethodMeta = 7,
+    Str = 8,
+    NamedTypeMeta = 9,
+    StringMethodInfo = 10,
+    Usize = 11,
+    Itab = 12,
+    U32 = 13,
+    RuntimeType = 14,
+    ValueRttid = 15,
+    StructField = 16,
+    StrStr = 17,
+    InterfaceMethod = 18,
+    Constant = 19,
+    GlobalDef = 20,
+    FunctionDef = 21,
+    U16 = 22,
+    Instruction = 23,
+    InstructionMetadata = 24,
+    SelectCaseLayout = 25,
+    TransferType = 26,
+    ModuleArtifact = 27,
+    FuncDebugInfo = 28,
+    DebugLoc = 29,
+    InlineSourceFrame = 30,
+    InlineFunctionSources = 31,
+    InlineSourceEntry = 32,
+    ExternDef = 33,
+}
+
+impl Size {
+    ghost use Rattle.std.specs.Prelude.{◌≡◌, ◌<◌};
+    ghost use Rattle.vob24.specs.Settings.{settings_of, size_of};
+    ghost use Rattle.vob24_data.specs.Sizes.{size_number};
+
+    pub fn bytes(self, set: &Settings) -> u64
+        ensures { (result ≡ size_of (settings_of set.now) (size_number self)) × (result < 65536) }
+    {
+        size_at(set, self as usize)
+    }
+}
+
 // The size numbered i from 1 on; 0 where there is none.
-pub fn size(set: &Settings, i: usize) -> u64
+fn size_at(set: &Settings, i: usize) -> u64
     ensures { (result ≡ size_of (settings_of set.now) i) × (result < 65536) }
 {
     match i {
@@ -109,10 +159,17 @@ pub fn size(set: &Settings, i: usize) -> u64
 pub fn measured_size(i: usize) -> u64
     ensures { (result ≡ size_of settings i) × (result ≤ 4096) }
 {
-    size(&MEASURED, i)
+    size_at(&MEASURED, i)
 }
 
 // ---- the limits
+
+// A limit of two entries, low first.
+fn joined(low: u16, high: u16) -> u64
+    ensures { result ≡ low + 65536 * high }
+{
+    u64::from(low) + 65536 * u64::from(high)
+}
 
 #[tactic(auto, unfolding(vob24::specs::Settings::settings_of))]
 pub fn artifacts(set: &Settings) -> u64
@@ -132,13 +189,18 @@ pub fn artifact_name_bytes(set: &Settings) -> u64
 pub fn artifact_payload_bytes(set: &Settings) -> u64
     ensures { result ≡ (settings_of set.now).artifact_payload_bytes }
 {
-    u64::from(set[limits::ARTIFACT_PAYLOAD_BYTES])
-        + 65536 * u64::from(set[limits::ARTIFACT_PAYLOAD_BYTES_HIGH])
+    joined(
+        set[limits::ARTIFACT_PAYLOAD_BYTES],
+        set[limits::ARTIFACT_PAYLOAD_BYTES_HIGH],
+    )
 }
 
 #[tactic(auto, unfolding(vob24::specs::Settings::settings_of))]
 pub fn inline_records(set: &Settings) -> u64
     ensures { result ≡ (settings_of set.now).inline_records }
 {
-    u64::from(set[limits::INLINE_RECORDS]) + 65536 * u64::from(set[limits::INLINE_RECORDS_HIGH])
+    joined(
+        set[limits::INLINE_RECORDS],
+        set[limits::INLINE_RECORDS_HIGH],
+    )
 }

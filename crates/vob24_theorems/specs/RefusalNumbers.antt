@@ -290,9 +290,13 @@ module _ (set : Settings) where
   sound-section n function_locations = search sound depth 20
   sound-section n inline_sources = sound-inline_sources n
 
+  sound-sections : Sound (g.sections set)
+  unfolding g.sections g.after_functions
+  sound-sections = search (sound-section, sound) depth 40
+
   sound-pack : Sound (g.pack set)
-  unfolding g.pack g.sections g.after_functions
-  sound-pack = search (sound-section, sound) depth 40
+  unfolding g.pack
+  sound-pack = search (sound-sections, sound) depth 40
 
 -- Under a budget: 5 is listed too.
 data Settles : Settled Value → Type 0 where
@@ -363,6 +367,15 @@ module _ (set : Settings) where
   pub whole-listed : (s : List ℕ) (b : ℕ) {w : Wrong} {p l : ℕ} → settle b (vob.whole_trace set s) ≡ of.refused w p l
       → Listed w
   whole-listed s b = refusal-listed (settles (whole s) b)
+
+  -- The same of all sections, and of a named type's methods.
+  pub sections-listed : (s : List ℕ) (p b : ℕ) {w : Wrong} {q l : ℕ}
+      → settle b (trace (g.sections set) s p) ≡ of.refused w q l → Listed w
+  sections-listed s p b = refusal-listed (settles (numbered-trace (sound-sections set) s p) b)
+
+  pub methods-listed : (n : ℕ) (s : List ℕ) (p b : ℕ) {w : Wrong} {q l : ℕ}
+      → settle b (trace (chain g.new_method g.also_seen [] n) s p) ≡ of.refused w q l → Listed w
+  methods-listed n s p b = refusal-listed (settles (numbered-trace (sound-chain g.new_method g.also_seen (sound-new_method set) n []) s p) b)
 
   pub section-listed : (n : ℕ) (x : Section) (s : List ℕ) (p b : ℕ) {w : Wrong} {q l : ℕ}
       → settle b (vob.section_trace set n x s p) ≡ of.refused w q l → Listed w

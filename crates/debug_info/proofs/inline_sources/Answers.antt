@@ -1,6 +1,5 @@
-use Rattle.reader.proofs.Reading.{reading}
-use Rattle.std.proofs.Common.{rules}
+use Rattle.reader.proofs.Laws.{field_then}
 use Rattle.debug_info.proofs.inline_sources.Goals as goal
 
 pub returns : goal.returns
-returns c = search (rules, reading)
+returns c = field_then c.inline_frames-frames.ensures (λ _. c.inline_functions.ensures)

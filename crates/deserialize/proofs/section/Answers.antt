@@ -67,11 +67,11 @@ returns-in-Externs c = section-at (settings_of c.args.set.now) Externs c.in-Exte
 
 pub returns-in-Entry : goal.returns-in-Entry
 unfolding section
-returns-in-Entry c = section-at (settings_of c.args.set.now) Entry c.in-Entry.is c.entry.ensures
+returns-in-Entry c = section-at (settings_of c.args.set.now) Entry c.in-Entry.is c.field.ensures
 
 pub returns-in-IslandInit : goal.returns-in-IslandInit
 unfolding section
-returns-in-IslandInit c = section-at (settings_of c.args.set.now) IslandInit c.in-IslandInit.is c.island_init.ensures
+returns-in-IslandInit c = section-at (settings_of c.args.set.now) IslandInit c.in-IslandInit.is c.field-in-IslandInit.ensures
 
 pub returns-in-Artifacts : goal.returns-in-Artifacts
 unfolding section

@@ -5,17 +5,17 @@ use Rattle.fields.proofs.field_optional_str.Goals as goal
 pub returns-in_err-r : goal.returns-in_err-r
 returns-in_err-r c = up-refused c.in_err-r.was c.from_residual.ensures.1
 
-pub number_bool-requires : goal.number_bool-requires
-number_bool-requires c = ready_at c.in_ok-r.was c.requires
+pub number-requires : goal.number-requires
+number-requires c = ready_at c.in_ok-r.was c.requires
 
 pub returns-in_err-n : goal.returns-in_err-n
-returns-in_err-n c = part_not c.in_ok-r.was c.in_err-n.was c.from_residual-in_err-n.ensures.1 c.number_bool.ensures
+returns-in_err-n c = part_not c.in_ok-r.was c.in_err-n.was c.from_residual-in_err-n.ensures.1 c.number.ensures
 
 pub returns-then-n-eq0 : goal.returns-then-n-eq0
-returns-then-n-eq0 c = optional-none c.in_ok-r.was c.in_ok-n.was c.if-n-eq0.true c.number_bool.ensures
+returns-then-n-eq0 c = optional-none c.in_ok-r.was c.in_ok-n.was c.if-n-eq0.true c.number.ensures
 
 pub field_str-requires : goal.field_str-requires
-field_str-requires c = got-ready c.in_ok-n.was c.number_bool.ensures
+field_str-requires c = got-ready c.in_ok-n.was c.number.ensures
 
 pub returns : goal.returns
-returns c = optional-some c.in_ok-r.was c.in_ok-n.was c.if-n-eq0.false c.number_bool.ensures c.field_str.ensures
+returns c = optional-some c.in_ok-r.was c.in_ok-n.was c.if-n-eq0.false c.number.ensures c.field_str.ensures

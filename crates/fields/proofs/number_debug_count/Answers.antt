@@ -1,4 +1,4 @@
-use Rattle.reader.proofs.Keeping.{one-count}
+use Rattle.reader.specs.Leaves.{one_count}
 use Rattle.fields.proofs.Keeps.{number-wordy, number-kept}
 use Rattle.fields.proofs.number_debug_count.Goals as goal
 
@@ -6,4 +6,4 @@ pub kept-requires : goal.kept-requires
 kept-requires c = number-wordy c.requires c.read_debug_count.ensures
 
 pub returns : goal.returns
-returns c = number-kept c.requires one-count c.read_debug_count.ensures c.kept.ensures
+returns c = number-kept c.requires one_count c.read_debug_count.ensures c.kept.ensures

@@ -18,9 +18,9 @@ returns-then-not-ends c =
 pub returns-then-entry-eq0 : goal.returns-then-entry-eq0
 unfolding folds
 returns-then-entry-eq0 c =
-    entry-is _ _ _ c.requires.0 c.requires.1 c.if-end-at.false (sym c.opens.ensures ∙ c.if-not-opens.false) (sym c.ends.ensures ∙ c.if-not-ends.false) ∙ c.if-entry-eq0.true
+    (rw (← c.from.ensures, ← c.from-2.ensures) at (entry-is _ _ _ c.requires.0 c.requires.1 c.if-end-at.false (sym c.opens.ensures ∙ c.if-not-opens.false) (sym c.ends.ensures ∙ c.if-not-ends.false))) ∙ c.if-entry-eq0.true
 
 pub returns : goal.returns
 unfolding folds
 returns c =
-    letter-is (entry-is _ _ _ c.requires.0 c.requires.1 c.if-end-at.false (sym c.opens.ensures ∙ c.if-not-opens.false) (sym c.ends.ensures ∙ c.if-not-ends.false)) refl c.if-entry-eq0.false
+    letter-is (rw (← c.from.ensures, ← c.from-2.ensures) at (entry-is _ _ _ c.requires.0 c.requires.1 c.if-end-at.false (sym c.opens.ensures ∙ c.if-not-opens.false) (sym c.ends.ensures ∙ c.if-not-ends.false))) refl c.if-entry-eq0.false

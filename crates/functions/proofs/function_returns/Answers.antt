@@ -4,4 +4,4 @@ use Rattle.functions.proofs.function_returns.Goals as goal
 
 pub returns : goal.returns
 unfolding function_returns
-returns c = field_then c.field_u16-ret_slots.ensures λ _. field_then c.slot_types-ret_slot_types.ensures λ _. field_then c.field_u16-recv_slots.ensures λ _. field_then c.field_u16-gcref_count.ensures λ _. field_then c.field_u16-gcref_start.ensures λ _. c.heap_ret_slots.ensures
+returns c = field_then c.field-ret_slots.ensures λ _. field_then c.slot_types-ret_slot_types.ensures λ _. field_then c.field-recv_slots.ensures λ _. field_then c.field-gcref_count.ensures λ _. field_then c.field-gcref_start.ensures λ _. c.read_list.ensures

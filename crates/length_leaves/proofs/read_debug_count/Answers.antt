@@ -10,7 +10,7 @@ pub returns-then-most-n : goal.returns-then-most-n
 returns-then-most-n c = count_no c.in_ok-n.was c.read_u32.ensures (lt-leb _ _ c.if-most-n.true) c.over.ensures
 
 pub counted-requires : goal.counted-requires
-counted-requires c = count_at c.requires c.in_ok-n.was c.read_u32.ensures (omega arith) c.size.ensures.1
+counted-requires c = count_at c.requires c.in_ok-n.was c.read_u32.ensures (omega arith) c.bytes.ensures.1
 
 pub returns : goal.returns
-returns c = count-size c.in_ok-n.was c.read_u32.ensures (le-leb _ _ c.if-most-n.false) c.size.ensures.0 c.counted.ensures
+returns c = count-size c.in_ok-n.was c.read_u32.ensures (le-leb _ _ c.if-most-n.false) c.bytes.ensures.0 c.counted.ensures

@@ -1,6 +1,5 @@
-use Rattle.std.proofs.Common.{rules}
 use Rattle.lookup.proofs.Laws.{name-equal}
 use Rattle.lookup.proofs.is_name.Goals as goal
 
 pub returns : goal.returns
-returns c = search (rules, name-equal)
+returns c = name-equal c.eq.ensures

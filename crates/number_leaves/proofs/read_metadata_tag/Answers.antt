@@ -1,5 +1,6 @@
+use Rattle.reader.specs.Leaves.{narrow_byte}
 use Rattle.std.proofs.Common.{arith}
-use Rattle.reader.proofs.Leaves.{fixed-short, fixed_no, fixed-got, narrow-byte, tag-low, tag-gap, tag-above, tag-high}
+use Rattle.reader.proofs.Leaves.{fixed-short, fixed_no, fixed-got, tag-low, tag-gap, tag-above, tag-high}
 use Rattle.number_leaves.proofs.read_metadata_tag.Goals as goal
 use Rattle.number_leaves.proofs.read_metadata_tag.Goals.{in_default-via-then-n-lt9, in_default-via-else-n-lt9+else-n-lt19}
 
@@ -14,7 +15,7 @@ returns-in_default c =
     ]
 
 pub returns-in-0-to-5 : goal.returns-in-0-to-5
-returns-in-0-to-5 c = fixed-got c.in_ok-n.was c.read_u8.ensures narrow-byte (tag-low _ (omega arith))
+returns-in-0-to-5 c = fixed-got c.in_ok-n.was c.read_u8.ensures narrow_byte (tag-low _ (omega arith))
 
 pub returns-in-0-to-5-2 : goal.returns-in-0-to-5-2
-returns-in-0-to-5-2 c = fixed-got c.in_ok-n.was c.read_u8.ensures narrow-byte (tag-high _ (omega arith) (omega arith) (omega arith))
+returns-in-0-to-5-2 c = fixed-got c.in_ok-n.was c.read_u8.ensures narrow_byte (tag-high _ (omega arith) (omega arith) (omega arith))

@@ -1,5 +1,6 @@
+use Rattle.reader.specs.Leaves.{narrow_byte}
 use Rattle.std.proofs.lemmas.Bool.{lt-leb, le-leb}
-use Rattle.reader.proofs.Leaves.{fixed-short, fixed_no, fixed-got, narrow-byte}
+use Rattle.reader.proofs.Leaves.{fixed-short, fixed_no, fixed-got}
 use Rattle.number_leaves.proofs.read_small.Goals as goal
 
 pub returns-in_err-n : goal.returns-in_err-n
@@ -9,4 +10,4 @@ pub returns-then-most-n : goal.returns-then-most-n
 returns-then-most-n c = fixed_no c.in_ok-n.was c.read_u8.ensures (lt-leb _ _ c.if-most-n.true) c.refuse.ensures
 
 pub returns : goal.returns
-returns c = fixed-got c.in_ok-n.was c.read_u8.ensures narrow-byte (le-leb _ _ c.if-most-n.false)
+returns c = fixed-got c.in_ok-n.was c.read_u8.ensures narrow_byte (le-leb _ _ c.if-most-n.false)

@@ -1,13 +1,11 @@
-use Rattle.reader.proofs.Leaves.{leaves}
-use Rattle.number_leaves.proofs.Marks.{marks}
-use Rattle.std.proofs.Common.{rules}
+use Rattle.number_leaves.proofs.Marks.{version-short, version-no, version-got}
 use Rattle.number_leaves.proofs.read_version.Goals as goal
 
 pub returns-in_err-n : goal.returns-in_err-n
-returns-in_err-n c = search (rules, leaves, marks, c.in_err-n.was)
+returns-in_err-n c = version-short c.in_err-n.was c.from_residual.ensures.1 c.read_u32.ensures
 
 pub returns-then-n-ne24 : goal.returns-then-n-ne24
-returns-then-n-ne24 c = search (rules, leaves, marks)
+returns-then-n-ne24 c = version-no c.in_ok-n.was c.read_u32.ensures c.if-n-ne24.true c.refuse.ensures
 
 pub returns : goal.returns
-returns c = search (rules, leaves, marks)
+returns c = version-got c.in_ok-n.was c.read_u32.ensures c.if-n-ne24.false

@@ -9,7 +9,7 @@ read_once-requires c = opens_at (search rules) (search rules)
 
 pub returns-then-pack-le-SMALL : goal.returns-then-pack-le-SMALL
 unfolding settings_of
-returns-then-pack-le-SMALL c = search rules
+returns-then-pack-le-SMALL c = c.read_once.ensures
 
 pub closed_whole-requires-clause-since : goal.closed_whole-requires-clause-since
 closed_whole-requires-clause-since c = read-since _ (c.opening_whole-start).ensures c.deserialize-first.ensures

@@ -1,9 +1,8 @@
-use Rattle.std.proofs.Common.{rules}
-use Rattle.reader.proofs.Leaves.{leaves}
+use Rattle.reader.proofs.Paying.{paid-no, paid-yes}
 use Rattle.reader.proofs.charge_allocation.Goals as goal
 
 pub returns-then-left-requested : goal.returns-then-left-requested
-returns-then-left-requested c = search (rules, leaves)
+returns-then-left-requested c = rw c.from.ensures (paid-no c.if-left-requested.true)
 
 pub returns : goal.returns
-returns c = search (rules, leaves)
+returns c = paid-yes c.if-left-requested.false

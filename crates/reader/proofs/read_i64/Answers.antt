@@ -1,9 +1,9 @@
-use Rattle.reader.proofs.Leaves.{leaves}
+use Rattle.reader.proofs.Leaves.{leaves, signed-not}
 use Rattle.std.proofs.Common.{rules}
 use Rattle.reader.proofs.read_i64.Goals as goal
 
 pub returns-in_err-bits : goal.returns-in_err-bits
-returns-in_err-bits c = search (rules, leaves, c.in_err-bits.was)
+returns-in_err-bits c = signed-not c.in_err-bits.was c.from_residual.ensures.1 c.read_u64.ensures
 
 pub returns : goal.returns
 returns c = search (rules, leaves)

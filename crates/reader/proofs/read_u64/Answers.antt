@@ -1,8 +1,10 @@
-use Rattle.reader.proofs.Leaves.{fetch-short, fetch8}
+use Rattle.std.proofs.Common.{◌∙◌}
+use Rattle.reader.proofs.Leaves.{fetch-short, fetch-there}
+use Rattle.reader.proofs.Little.{little_8}
 use Rattle.reader.proofs.read_u64.Goals as goal
 
-pub returns-in_default : goal.returns-in_default
-returns-in_default c = fetch-short c.requires c.in_default.ensures.cases c.refuse.ensures
+pub returns-in_err-bytes : goal.returns-in_err-bytes
+returns-in_err-bytes c = fetch-short c.fetch.ensures c.in_err-bytes.was c.from_residual.ensures.1
 
 pub returns : goal.returns
-returns c = rw c.past.ensures (fetch8 c.requires c.in-Some.ensures.cases c.from_le_bytes.ensures (λ i. (c.type_inv.s i).fits))
+returns c = fetch-there c.fetch.ensures c.in_ok-bytes.was (λ l. c.from_le_bytes.ensures ∙ little_8 _ l)

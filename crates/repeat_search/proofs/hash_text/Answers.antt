@@ -1,6 +1,5 @@
-use Rattle.std.proofs.Common.{rules}
-use Rattle.repeat_search.proofs.Hashes.{hashing}
+use Rattle.repeat_search.proofs.Hashes.{text-hash}
 use Rattle.repeat_search.proofs.hash_text.Goals as goal
 
 pub returns : goal.returns
-returns c = search (rules, hashing)
+returns c = text-hash c.requires c.word_at-n.ensures c.mix.ensures c.hash_bytes.ensures

@@ -1,9 +1,8 @@
-use Rattle.std.proofs.Common.{rules}
 use Rattle.repeat_search.proofs.Hashes.{taken-stays, taken-letter}
 use Rattle.repeat_search.proofs.take_letter.Goals as goal
 
 pub returns-in_default : goal.returns-in_default
-returns-in_default c = search (rules, taken-stays)
+returns-in_default c = taken-stays c.requires c.in_default.ensures c.from.ensures c.mix.ensures
 
 pub returns : goal.returns
 returns c =

@@ -1,17 +1,15 @@
-use Rattle.std.proofs.Common.{refl, arith}
+use Rattle.std.proofs.Common.{refl}
 use Rattle.reader.specs.Recorded.{recorded}
-use Rattle.reader.proofs.Recording.{fixed-fits, last_two}
+use Rattle.reader.proofs.Recording.{last_two}
+use Rattle.runtime_type.specs.Numbered.{dir_at}
 use Rattle.runtime_type.proofs.Laws.{lost_first, lost_second}
 use Rattle.runtime_type.proofs.directed.Goals as goal
 
 pub returns-in_err-dir : goal.returns-in_err-dir
-returns-in_err-dir c = lost_first c.in_err-dir.was c.from_residual.ensures.1 c.number_direction.ensures
+returns-in_err-dir c = lost_first c.in_err-dir.was c.from_residual.ensures.1 c.number.ensures
 
 pub returns-in_err-elem : goal.returns-in_err-elem
-returns-in_err-elem c = lost_second c.in_ok-dir.was c.number_direction.ensures c.in_err-elem.was c.from_residual-in_err-elem.ensures.1 c.one_rttid.ensures
-
-pub overflow_cast-result : goal.overflow_cast-result
-overflow_cast-result c = record { fits = fixed-fits c.in_ok-dir.was c.number_direction.ensures (λ i. omega (arith, c.type_inv.s i)) }
+returns-in_err-elem c = lost_second c.in_ok-dir.was c.number.ensures c.in_err-elem.was c.from_residual-in_err-elem.ensures.1 c.one_rttid.ensures
 
 pub returns : goal.returns
-returns c = recorded (last_two c.in_ok-dir.was c.number_direction.ensures c.in_ok-elem.was c.one_rttid.ensures (λ m n _. (m, n)) refl)
+returns c = rw c.chan_dir.ensures (recorded (last_two c.in_ok-dir.was c.number.ensures c.in_ok-elem.was c.one_rttid.ensures (λ m n _. (dir_at m, n)) refl))

@@ -11,19 +11,19 @@ use Rattle.runtime_type.proofs.interface.Goals as goal
 
 pub returns-in_err-id : goal.returns-in_err-id
 unfolding runtime_interface
-returns-in_err-id c = lost_first c.in_err-id.was c.from_residual.ensures.1 c.number_u32.ensures
+returns-in_err-id c = lost_first c.in_err-id.was c.from_residual.ensures.1 c.number.ensures
 
 pub number_new_methods-requires : goal.number_new_methods-requires
 unfolding runtime_interface
-number_new_methods-requires c = (got-ready c.in_ok-id.was c.number_u32.ensures, accepted-next (number_just c.in_ok-id.was c.number_u32.ensures) c.requires.1)
+number_new_methods-requires c = (got-ready c.in_ok-id.was c.number.ensures, accepted-next (number_just c.in_ok-id.was c.number.ensures) c.requires.1)
 
 pub returns-in_err-n : goal.returns-in_err-n
 unfolding runtime_interface
-returns-in_err-n c = lost_second c.in_ok-id.was c.number_u32.ensures c.in_err-n.was c.from_residual-in_err-n.ensures.1 c.number_new_methods.ensures
+returns-in_err-n c = lost_second c.in_ok-id.was c.number.ensures c.in_err-n.was c.from_residual-in_err-n.ensures.1 c.number_new_methods.ensures
 
 pub overflow_cast-result : goal.overflow_cast-result
-overflow_cast-result c = record { fits = fixed-fits c.in_ok-id.was c.number_u32.ensures (λ i. omega (arith, c.type_inv.s i)) }
+overflow_cast-result c = record { fits = fixed-fits c.in_ok-id.was c.number.ensures (λ i. omega (arith, c.type_inv.s i)) }
 
 pub returns : goal.returns
 unfolding runtime_interface
-returns c = recorded (last_two c.in_ok-id.was c.number_u32.ensures c.in_ok-n.was c.number_new_methods.ensures (λ m n p. listed_at (kind.Interface m) (p + 4) n) (listed c.list_at.ensures (fixed-place c.in_ok-id.was c.number_u32.ensures)))
+returns c = recorded (last_two c.in_ok-id.was c.number.ensures c.in_ok-n.was c.number_new_methods.ensures (λ m n p. listed_at (kind.Interface m) (p + 4) n) (listed c.list_at.ensures (fixed-place c.in_ok-id.was c.number.ensures)))

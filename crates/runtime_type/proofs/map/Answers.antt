@@ -1,6 +1,6 @@
 use Rattle.reader.specs.Recorded.{recorded}
 use Rattle.reader.proofs.Recording.{last_two}
-use Rattle.runtime_type.specs.Records.{bare_of}
+use Rattle.lists.specs.Records.{bare_of}
 use Rattle.runtime_type.specs.declared.RuntimeType.TheVariants as kind
 use Rattle.runtime_type.proofs.Laws.{lost_first, lost_second}
 use Rattle.runtime_type.proofs.map.Goals as goal

@@ -8,7 +8,7 @@ pub returns-in_err-c : goal.returns-in_err-c
 returns-in_err-c c = up-refused c.in_err-c.was c.from_residual.ensures.1
 
 pub returns-then-n-gt0 : goal.returns-then-n-gt0
-returns-then-n-gt0 c = at-step c.in_ok-c.was (number_just refl (good-list (ready_at c.in_ok-c.was c.requires) c.size-size.ensures.0 c.if-size-left.true (keeps-good c.if-n-gt0.true c.short-n.ensures) refl))
+returns-then-n-gt0 c = at-step c.in_ok-c.was (number_just refl (good-list (ready_at c.in_ok-c.was c.requires) c.bytes-size.ensures.0 c.if-size-left.true (keeps-good c.if-n-gt0.true c.short-n.ensures) refl))
 
 pub returns-in_err-d : goal.returns-in_err-d
 returns-in_err-d c =

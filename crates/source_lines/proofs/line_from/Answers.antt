@@ -16,4 +16,4 @@ pub best_of-best-requires : goal.best_of-best-requires
 best_of-best-requires c = list-items (settings_of c.args.set.now) c.list_at-list.ensures.placed c.word_at-count.ensures
 
 pub returns : goal.returns
-returns c = line-shown (settings_of c.args.set.now) c.requires c.word_at-n.ensures c.args.function c.args.address c.args.end c.if-n-function.false c.list_at-list.ensures c.word_at-count.ensures c.best_of-best.ensures (search rules)
+returns c = line-shown (settings_of c.args.set.now) c.requires c.word_at-n.ensures c.args.function c.args.address c.args.end c.if-n-function.false c.list_at-list.ensures c.word_at-count.ensures (rw c.from.ensures at c.best_of-best.ensures) (search rules)

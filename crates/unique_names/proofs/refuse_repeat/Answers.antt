@@ -1,8 +1,8 @@
-use Rattle.std.proofs.Common.{arith, rules, inl, inr}
+use Rattle.std.proofs.Common.{arith, inl, inr}
 use Rattle.in_place.specs.Tables.{item_of}
 use Rattle.in_place.proofs.Places.{item-name, runtime-package}
 use Rattle.in_place.proofs.Keys.{placed-in}
-use Rattle.unique_names.proofs.Asking.{told-method, told-alike, answering}
+use Rattle.unique_names.proofs.Asking.{told-field, told-method, told-identity, told-alike}
 use Rattle.unique_names.proofs.refuse_repeat.Goals as goal
 
 pub repeated-requires : goal.repeated-requires
@@ -18,10 +18,10 @@ pub repeated-requires-in-Identities : goal.repeated-requires-in-Identities
 repeated-requires-in-Identities c = item-name (item_of c.args.table) c.requires
 
 pub returns-in-Fields : goal.returns-in-Fields
-returns-in-Fields c = search (rules, answering)
+returns-in-Fields c = told-field c.requires c.in-Fields.is c.repeated.ensures
 
 pub returns-in-Methods : goal.returns-in-Methods
 returns-in-Methods c = elim c.in-Methods.is [ inl h ↦ told-method c.requires h.1 c.repeated-in-Methods.ensures | inr h ↦ told-alike c.requires h.1 c.repeated-in-Methods.ensures ]
 
 pub returns-in-Identities : goal.returns-in-Identities
-returns-in-Identities c = search (rules, answering)
+returns-in-Identities c = told-identity c.requires c.in-Identities.is c.package_at-package.ensures c.repeated-in-Identities.ensures

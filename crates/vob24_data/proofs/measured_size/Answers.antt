@@ -4,4 +4,4 @@ use Rattle.vob24_data.proofs.measured_size.Goals as goal
 
 pub returns : goal.returns
 unfolding settings_of
-returns c = (c.size.ensures.0, rw c.size.ensures.0 (size-most settings-licensed _))
+returns c = (c.size_at.ensures.0, rw c.size_at.ensures.0 (size-most settings-licensed _))

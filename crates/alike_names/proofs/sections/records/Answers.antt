@@ -1,5 +1,5 @@
 use Rattle.std.proofs.Common.{arith}
-use Rattle.alike_names.proofs.Lists.{list-stands}
+use Rattle.in_place.proofs.Lists.{list-stands}
 use Rattle.alike_names.proofs.Pairs.{walked_start, walked_here, walked-found, walked_more, walked-done}
 use Rattle.alike_names.proofs.sections.records.Goals as goal
 

@@ -1,5 +1,6 @@
 use Rattle.std.proofs.Common.{arith}
-use Rattle.alike_names.proofs.Lists.{leaving-list, leaving-here, leaving-more, leaving-done}
+use Rattle.in_place.proofs.Walking.{leaving-here, leaving-more, leaving-done}
+use Rattle.alike_names.proofs.Lists.{leaving-list}
 use Rattle.alike_names.proofs.Skipping.{itabs-list, itab-words, itab-past}
 use Rattle.alike_names.proofs.skips.past_itabs.Goals as goal
 

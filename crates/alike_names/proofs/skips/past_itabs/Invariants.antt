@@ -1,5 +1,5 @@
 use Rattle.std.proofs.Common.{◌-◌}
-use Rattle.alike_names.proofs.Lists.{Leaving}
+use Rattle.in_place.proofs.Walking.{Leaving}
 use Rattle.vob24.specs.Settings.{settings_of}
 use Rattle.vob24.specs.Grammar.{itab, section, itabs}
 use Rattle.in_place.specs.Walk.{next_at}

@@ -1,8 +1,7 @@
-use Rattle.reader.proofs.Reading.{reading}
 use Rattle.vob24.specs.Grammar.{frame}
-use Rattle.std.proofs.Common.{rules}
+use Rattle.reader.proofs.Laws.{field_then}
 use Rattle.debug_info.proofs.FrameEntry.read.Goals as goal
 
 pub returns : goal.returns
 unfolding frame
-returns c = search (rules, reading)
+returns c = field_then c.field-parent.ensures (λ _. field_then c.field-function_id.ensures (λ _. c.optional_span.ensures))

@@ -1,8 +1,7 @@
 use Rattle.vob24.specs.Grammar.{transfer}
-use Rattle.reader.proofs.Reading.{reading}
-use Rattle.std.proofs.Common.{rules}
+use Rattle.reader.proofs.Laws.{field_then}
 use Rattle.functions.proofs.TransferTypeEntry.read.Goals as goal
 
 pub returns : goal.returns
 unfolding transfer
-returns c = search (rules, reading)
+returns c = field_then c.field-meta.ensures (λ _. field_then c.field-rttid.ensures (λ _. c.field.ensures))

@@ -9,14 +9,14 @@ use Rattle.in_place.proofs.Asking.{list-refused}
 use Rattle.unique_names.proofs.Accepting.{accepted-list}
 use Rattle.interfaces.proofs.InterfaceEntry.read.Goals as goal
 
-pub method_set-unique-requires : goal.method_set-unique-requires
+pub asked-unique-requires : goal.asked-unique-requires
 unfolding interface_record
-method_set-unique-requires c = (first-behind c.read_list-names.ensures c.read_list-methods.ensures c.field_str-name.ensures.ready, accepted-list (λ x a. field_then c.field_str-name.ensures (λ _. lists_ask c.read_list-names.ensures c.read_list-methods.ensures a (list-refused {l = λ vs. method_set (settings_of c.args.self.now.set.now) (names_of InterfaceMethod vs)} refl))) c.requires.accepted)
+asked-unique-requires c = (first-behind c.read_list-names.ensures c.read_list-methods.ensures c.field_str-name.ensures.ready, accepted-list (λ x a. field_then c.field_str-name.ensures (λ _. lists_ask c.read_list-names.ensures c.read_list-methods.ensures a (list-refused {l = λ vs. method_set (settings_of c.args.self.now.set.now) (names_of InterfaceMethod vs)} refl))) c.requires.accepted)
 
-pub method_set-requires : goal.method_set-requires
+pub asked-requires : goal.asked-requires
 unfolding interface_record
-method_set-requires c = (second-behind c.read_list-names.ensures c.read_list-methods.ensures c.method_set-unique.ensures, accepted-list (λ x a. field_then c.field_str-name.ensures (λ _. lists_ask c.read_list-names.ensures c.read_list-methods.ensures c.method_set-unique.ensures a)) c.requires.accepted)
+asked-requires c = (second-behind c.read_list-names.ensures c.read_list-methods.ensures c.asked-unique.ensures, accepted-list (λ x a. field_then c.field_str-name.ensures (λ _. lists_ask c.read_list-names.ensures c.read_list-methods.ensures c.asked-unique.ensures a)) c.requires.accepted)
 
 pub returns : goal.returns
 unfolding interface_record
-returns c = field_then c.field_str-name.ensures (λ _. lists_ask c.read_list-names.ensures c.read_list-methods.ensures c.method_set-unique.ensures c.method_set.ensures)
+returns c = field_then c.field_str-name.ensures (λ _. lists_ask c.read_list-names.ensures c.read_list-methods.ensures c.asked-unique.ensures c.asked.ensures)

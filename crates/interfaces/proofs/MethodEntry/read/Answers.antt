@@ -4,4 +4,4 @@ use Rattle.interfaces.proofs.MethodEntry.read.Goals as goal
 
 pub returns : goal.returns
 unfolding interface_method
-returns c = field_then c.field_member_name-name.ensures (λ _. c.field_u32.ensures)
+returns c = field_then c.field_member_name-name.ensures (λ _. c.field.ensures)

@@ -3,4 +3,4 @@ use Rattle.lists.proofs.Copying.{byte_at}
 use Rattle.lists.proofs.ByteFixed.put.Goals as goal
 
 pub returns : goal.returns
-returns c = rw (c.wide.ensures.0, byte_at c.args.s.now c.args.p (omega arith)) refl
+returns c = rw (c.from.ensures, byte_at c.args.s.now c.args.p (omega arith)) refl

@@ -4,4 +4,4 @@ use Rattle.runtime_members.proofs.MethodEntry.read.Goals as goal
 
 pub returns : goal.returns
 unfolding runtime_method
-returns c = field_then c.field_member_name-name.ensures (λ _. c.field_value_rttid.ensures)
+returns c = field_then c.field_member_name-name.ensures (λ _. c.field.ensures)

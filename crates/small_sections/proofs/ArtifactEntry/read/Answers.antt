@@ -1,8 +1,7 @@
-use Rattle.reader.proofs.Reading.{reading}
 use Rattle.vob24.specs.Grammar.{artifact}
-use Rattle.std.proofs.Common.{rules}
+use Rattle.reader.proofs.Laws.{field_then}
 use Rattle.small_sections.proofs.ArtifactEntry.read.Goals as goal
 
 pub returns : goal.returns
 unfolding artifact
-returns c = search (rules, reading)
+returns c = field_then c.field_artifact_name-name.ensures (λ _. field_then c.field-version.ensures (λ _. c.field_artifact_payload.ensures))

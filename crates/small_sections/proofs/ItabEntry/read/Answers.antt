@@ -1,8 +1,7 @@
-use Rattle.reader.proofs.Reading.{reading}
 use Rattle.vob24.specs.Grammar.{itab}
-use Rattle.std.proofs.Common.{rules}
+use Rattle.reader.proofs.Laws.{field_then}
 use Rattle.small_sections.proofs.ItabEntry.read.Goals as goal
 
 pub returns : goal.returns
 unfolding itab
-returns c = search (rules, reading)
+returns c = field_then c.field-iface_meta_id.ensures (λ _. c.read_list.ensures)

@@ -9,7 +9,7 @@ pub overflow_add-result : goal.overflow_add-result
 overflow_add-result c = omega (arith, packed-room c.requires, c.requires.small)
 
 pub returns-then-first-lt128 : goal.returns-then-first-lt128
-returns-then-first-lt128 c = packed-short c.requires c.if-first-lt128.true c.wide.ensures
+returns-then-first-lt128 c = packed-short c.requires c.if-first-lt128.true c.from.ensures
 
 pub returns-in-Ok : goal.returns-in-Ok
 returns-in-Ok c = packed-got c.requires c.read_source_u32-q.ensures c.in-Ok.is

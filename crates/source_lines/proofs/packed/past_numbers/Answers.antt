@@ -6,7 +6,7 @@ pub ends_in-requires : goal.ends_in-requires
 ends_in-requires c = (passing-room c.loop-k.invariant c.loop-k-test.true).0
 
 pub loop-k-preserved : goal.loop-k-preserved
-loop-k-preserved c = passing-block c.loop-k.invariant c.loop-k-test.true c.ends_in.ensures
+loop-k-preserved c = passing-block c.loop-k.invariant c.loop-k-test.true (rw (← c.from-k.ensures) at c.ends_in.ensures)
 
 pub loop-init : goal.loop-init
 loop-init c = passing-on c.loop-k.invariant (omega arith)

@@ -4,10 +4,10 @@ use Rattle.in_place.proofs.Following.{list-here, list_asks}
 use Rattle.unique_names.proofs.Accepting.{accepted-list}
 use Rattle.structs.proofs.StructureEntry.read.Goals as goal
 
-pub field_index-requires : goal.field_index-requires
+pub asked-requires : goal.asked-requires
 unfolding struct
-field_index-requires c = (list-here c.slot_types-slot_types.ensures.ready c.read_list-fields.ensures, accepted-list (λ x a. field_then c.slot_types-slot_types.ensures (λ _. list_asks c.read_list-fields.ensures a)) c.requires.accepted)
+asked-requires c = (list-here c.slot_types-slot_types.ensures.ready c.read_list-fields.ensures, accepted-list (λ x a. field_then c.slot_types-slot_types.ensures (λ _. list_asks c.read_list-fields.ensures a)) c.requires.accepted)
 
 pub returns : goal.returns
 unfolding struct
-returns c = field_then c.slot_types-slot_types.ensures (λ _. list_asks c.read_list-fields.ensures c.field_index.ensures)
+returns c = field_then c.slot_types-slot_types.ensures (λ _. list_asks c.read_list-fields.ensures c.asked.ensures)

@@ -1,8 +1,0 @@
-use Rattle.std.proofs.Common.{◌-◌}
-use Rattle.alike_names.proofs.Lists.{Leaving}
-use Rattle.in_place.specs.Items.{format_of}
-use Rattle.in_place.specs.Walk.{last_at}
-use Rattle.alike_names.proofs.skips.past_items.Given as goal
-
-abbrev pub invariant-loop : goal.invariant-loop
-invariant-loop l = Leaving (format_of l.item) l.s (last_at (format_of l.item) l.n l.s l.from) l.p (l.n - l.counter)
