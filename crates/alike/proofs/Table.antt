@@ -56,6 +56,7 @@ pub decompositions-fit : AllFit 0xc0 decompositions
 unfolding decompositions
 decompositions-fit = all_fit 0xc0 decompositions tt
 
+-- States how many rows the table has; no proof cites it.
 pub many-decompositions : length decompositions ≡ 161
 unfolding decompositions
 many-decompositions = refl

@@ -30,7 +30,8 @@ pub(crate) fn past_itabs(s: &[u8], set: &Settings, p: usize) -> usize
 }
 
 // The place past a runtime type other than an interface, from behind its tag. In order of tags: Basic, Named, Pointer,
-// Array, Slice, Map, Chan, Func, Struct, Tuple, Port; an Island has no bytes.
+// Array, Slice, Map, Chan, Func, Struct, Tuple, Port; an Island has no bytes. A `match`, as the arms are calls of
+// different contracts: a closure's type would have to say each.
 pub(crate) fn past_variant(s: &[u8], set: &Settings, tag: u8, p: usize) -> usize
     requires { OtherAt (settings_of set.now) tag s.now p }
     ensures { Past (variant (settings_of set.now) tag) s.now p result }

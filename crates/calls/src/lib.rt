@@ -109,6 +109,7 @@ pub fn copy_record(from: &[u32], n: usize, to: &mut [u32])
 
 // ---- the call on a whole pack
 
+// So that the place 0 of a whole pack stands once.
 pub fn opening_whole(pack: &[u8], budget: u64) -> Step
     ensures { Opens pack.now 0 budget result }
 {

@@ -25,27 +25,22 @@ fn constant_bool(s: &[u8], c: Cursor, tape: &mut [u32]) -> Read<Constant>
     Ok((Constant::Bool(n == 1), d))
 }
 
-// The words of an Int or a Float are those of its bits.
+// The words of an Int or a Float are those of its bits. Each has a leaf's reader and a constructor of its own.
 fn constant_int(s: &[u8], c: Cursor, tape: &mut [u32]) -> Read<Constant>
     requires { ReadyAt s.now c }
     ensures { RecordOf u64 (λ p v. int_of v) s.now c tape.old result tape.new }
 {
     let (Bits { value, bits }, d) = reader::read_i64(s, c)?;
-    Ok((
-        Constant::Int(value),
-        reader::keep_pair(d, bits % 0x1_0000_0000, bits / 0x1_0000_0000, tape),
-    ))
+    Ok((Constant::Int(value), reader::keep_long(d, bits, tape)))
 }
 
+// As `constant_int`, but for the reader and the constructor.
 fn constant_float(s: &[u8], c: Cursor, tape: &mut [u32]) -> Read<Constant>
     requires { ReadyAt s.now c }
     ensures { RecordOf u64 (λ p v. float_of v) s.now c tape.old result tape.new }
 {
     let (Bits { value, bits }, d) = reader::read_f64(s, c)?;
-    Ok((
-        Constant::Float(value),
-        reader::keep_pair(d, bits % 0x1_0000_0000, bits / 0x1_0000_0000, tape),
-    ))
+    Ok((Constant::Float(value), reader::keep_long(d, bits, tape)))
 }
 
 fn constant_text(s: &[u8], c: Cursor, tape: &mut [u32]) -> Read<Constant>
@@ -56,6 +51,7 @@ fn constant_text(s: &[u8], c: Cursor, tape: &mut [u32]) -> Read<Constant>
     Ok((Constant::Text(span), d))
 }
 
+// A `match`, as the arms are calls of different contracts: a closure's type would have to say each.
 pub fn constant(s: &[u8], c: Cursor, tape: &mut [u32]) -> Read<Constant>
     requires { ReadyAt s.now c }
     ensures { RecordOf constant_format constant_of s.now c tape.old result tape.new }
@@ -84,6 +80,7 @@ impl Entry for Item {
     }
 }
 
+// One call, under the section's name and contract: its entry stays private.
 pub fn constants(s: &[u8], set: &Settings, r: Step, tape: &mut [u32]) -> Step
     requires { Ready s.now r }
     ensures { Reader (constant_list (settings_of set.now)) s.now r tape.old result

@@ -30,6 +30,7 @@ impl Entry for File {
     }
 }
 
+// One call, under the section's name and contract: its entry stays private.
 pub fn files(s: &[u8], set: &Settings, r: Step, tape: &mut [u32]) -> Step
     requires { Ready s.now r }
     ensures { Reader (file_list (settings_of set.now)) s.now r tape.old result
@@ -192,6 +193,7 @@ impl Entry for Locations<'_> {
     }
 }
 
+// One call, under the section's name and contract: its entry stays private.
 pub fn function_locations(s: &[u8], set: &Settings, r: Step, tape: &mut [u32]) -> Step
     requires { Ready s.now r }
     ensures { Reader (function_locations (settings_of set.now)) s.now r tape.old

@@ -19,6 +19,7 @@ pub record Reaches (set : Settings) (i : ℕ) (s : List ℕ) (r r' : Step) : Typ
   pub ready : Ready s r'
 
 -- Where r stands there is a list of f, with these entries: a count, and as many items behind it.
+-- Not the `ListStands` of in_place's proofs, which says that a format reads as a counted list at a place.
 pub record ListStands (f : Format) (vs : List Value) (s : List ℕ) (r : Step) : Type 0 where
   pub cursor : Cursor
   pub is : r ≡ Ok cursor

@@ -104,6 +104,7 @@ pub fn deserialize(s: &[u8], set: &Settings, r: Step, again: bool, tape: &mut [u
 }
 
 // One section. A second pass leaves out the search for repeated names.
+// A `match`, as the arms are calls of different contracts: a closure's type would have to say each.
 pub fn section(
     s: &[u8],
     set: &Settings,

@@ -60,10 +60,7 @@ pub fn number_u64(s: &[u8], c: Cursor, tape: &mut [u32]) -> Read<u64>
     ensures { NumberOf u64 number s.now c tape.old result tape.new }
 {
     let (n, d) = reader::read_u64(s, c)?;
-    Ok((
-        n,
-        reader::keep_pair(d, n % 0x1_0000_0000, n / 0x1_0000_0000, tape),
-    ))
+    Ok((n, reader::keep_long(d, n, tape)))
 }
 
 // As it is stored: the id plus 1; 0 where there is none.
@@ -106,6 +103,7 @@ pub fn number_debug_count(
     )
 }
 
+// A leaf of its own, with settings: a `Word` of it would be longer.
 pub fn number_artifact_count(s: &[u8], set: &Settings, c: Cursor, tape: &mut [u32]) -> Read<u64>
     requires { ReadyAt s.now c }
     ensures { NumberOf (artifact_count (settings_of set.now)) number s.now c tape.old result tape.new }
@@ -113,6 +111,7 @@ pub fn number_artifact_count(s: &[u8], set: &Settings, c: Cursor, tape: &mut [u3
     kept(length_leaves::read_artifact_count(s, set, c), tape)
 }
 
+// Another leaf, with settings: a `Word` of it would be longer, too.
 pub fn number_method_count(s: &[u8], set: &Settings, c: Cursor, tape: &mut [u32]) -> Read<u64>
     requires { ReadyAt s.now c }
     ensures { NumberOf (method_count (settings_of set.now)) number s.now c tape.old result tape.new }
@@ -130,6 +129,7 @@ pub fn field<W: Word>(s: &[u8], r: Step, tape: &mut [u32]) -> Step
     Ok(d)
 }
 
+// Named as the grammar names the leaf, which is no `Word`: its number takes two words of the tape.
 pub fn field_optional_id(s: &[u8], r: Step, tape: &mut [u32]) -> Step
     requires { Ready s.now r }
     ensures { Reader optional_id s.now r tape.old result tape.new }
@@ -150,6 +150,7 @@ pub fn span_str(s: &[u8], c: Cursor, tape: &mut [u32]) -> Read<Span>
     kept_span(Ok((text.span, d)), tape)
 }
 
+// Named as the grammar names the leaf, for readers that have no use for the span.
 pub fn field_str(s: &[u8], r: Step, tape: &mut [u32]) -> Step
     requires { Ready s.now r }
     ensures { Reader str s.now r tape.old result tape.new }
@@ -158,7 +159,7 @@ pub fn field_str(s: &[u8], r: Step, tape: &mut [u32]) -> Step
     Ok(d)
 }
 
-// The name of a struct's field, an interface's method or a named type's method.
+// The name of a struct's field, an interface's method or a named type's method. Named as the grammar names the leaf.
 pub fn field_member_name(s: &[u8], r: Step, tape: &mut [u32]) -> Step
     requires { Ready s.now r }
     ensures { Reader member_name s.now r tape.old result tape.new }
@@ -201,6 +202,7 @@ pub fn field_artifact_payload(s: &[u8], set: &Settings, r: Step, tape: &mut [u32
 
 // ---- marks, which are not on the tape
 
+// Named as the grammar names the mark, and takes the answer so far, as the other fields do.
 pub fn field_magic(s: &[u8], r: Step, tape: &mut [u32]) -> Step
     requires { Ready s.now r }
     ensures { Reader magic s.now r tape.old result tape.new }
@@ -208,6 +210,7 @@ pub fn field_magic(s: &[u8], r: Step, tape: &mut [u32]) -> Step
     number_leaves::read_magic(s, r?)
 }
 
+// Named as the grammar names it, and of the shape of `field_magic`.
 pub fn field_version(s: &[u8], r: Step, tape: &mut [u32]) -> Step
     requires { Ready s.now r }
     ensures { Reader version s.now r tape.old result tape.new }

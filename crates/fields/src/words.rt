@@ -8,6 +8,7 @@ ghost use Rattle.reader.specs.Leaves.{Answers, OneWord, one_fixed, one_packed, n
 
 use reader::{Cursor, Kind, Read};
 
+// Each `impl` names its leaf and the leaf's reader, so that all their methods are of one shape.
 pub trait Word {
     ghost leaf: { Leaf };
 

@@ -1,5 +1,6 @@
 // The bytes of a name as if its letters with a canonical decomposition were decomposed: one by one, without a copy of
 // the name.
+// `as` stands where a number is known to fit a narrower type: a `TryFrom` would have a case that no caller meets.
 #![tactic(auto)]
 
 ghost use Rattle.std.specs.Prelude.{◌≡◌, ◌+◌, ◌-◌, ◌*◌, ◌≤◌, ◌<◌, length};

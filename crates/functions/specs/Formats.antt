@@ -12,9 +12,6 @@ code_format set = vob.code set
 abbrev pub transfer_format : Format
 transfer_format = vob.transfer
 
-abbrev pub transfer_list : Settings → Format
-transfer_list set = vob.list set of.TransferType transfer_format
-
 -- context is that of the meta word
 abbrev pub transfer_types : Settings → ℕ → Format
 transfer_types set context = vob.transfers set context

@@ -1,12 +1,14 @@
 // The functions section: each function's head, returns, traits, slot types, code, captures and parameters.
 // Ports FunctionDef of bytecode.rs and its reading in serialize.rs. Transfer words are judged after their whole list,
 // the slot count last of all. The list also returns the number of functions, which limits the inline sources.
+// `as` of an enum gives its number.
 #![tactic(auto)]
 
 ghost use Rattle.std.specs.Prelude.{Bool, false, ◌<◌};
 ghost use Rattle.vob24.specs.Settings.{settings_of};
 ghost use Rattle.format.specs.Format.{counted};
 ghost use Rattle.reader.specs.Contract.{Ready, ReadyAt, Reader, NumberOf};
+ghost use Rattle.reader.specs.Numbers.{part_number};
 ghost use Rattle.functions.specs.Formats.{code_format, transfer_format, transfer_types, function_head, function_returns, function_traits, function_body, function_slots, function_format, function_list};
 
 use fields::{U16, U32};
@@ -47,17 +49,17 @@ impl Entry for TransferType {
     }
 }
 
-// Captures or parameters; context is that of the meta word. Inlined for speed, as measured: docs/CHANGES.md, "The design
+// Captures or parameters; the part is that of the meta word. Inlined for speed, as measured: docs/CHANGES.md, "The design
 // pass".
 #[inline(always)]
-fn transfer_types(s: &[u8], set: &Settings, r: Step, context: u64, tape: &mut [u32]) -> Step
+fn transfer_types(s: &[u8], set: &Settings, r: Step, part: Part, tape: &mut [u32]) -> Step
     requires ready { Ready s.now r }
-    requires low { context < 4 }
-    ensures { Reader (transfer_types (settings_of set.now) context) s.now r tape.old result
+    requires low { part_number part < 4 }
+    ensures { Reader (transfer_types (settings_of set.now) (part_number part)) s.now r tape.old result
         tape.new }
 {
     let list = lists::read_list(s, set, r, Size::TransferType, &TransferType, tape);
-    transfers::transfer_words(s, context, r, list)
+    transfers::transfer_words(s, part, r, list)
 }
 
 // ---- functions
@@ -111,9 +113,9 @@ fn function_body(
         tape.old result tape.new }
 {
     let code = code(s, set, r, tape);
-    let captures = transfer_types(s, set, code, Part::CaptureMeta as u64, tape);
+    let captures = transfer_types(s, set, code, Part::CaptureMeta, tape);
     let capture_slot_types = slots::slot_types(s, set, captures, tape);
-    let params = transfer_types(s, set, capture_slot_types, Part::ParameterMeta as u64, tape);
+    let params = transfer_types(s, set, capture_slot_types, Part::ParameterMeta, tape);
     let c = params?;
     if types != locals {
         return Err(Refusal {

@@ -98,6 +98,7 @@ pub fn package_at(s: &[u8], p: usize) -> usize
     embedded + 1
 }
 
+// A `match`, as the arms rest on different formats behind the name: a closure's type would have to say each.
 pub fn past(s: &[u8], item: Item, p: usize) -> usize
     requires { Placed (format_of item) s.now p }
     ensures { Past (format_of item) s.now p result }
@@ -124,7 +125,7 @@ pub fn past_items(s: &[u8], item: Item, from: usize, n: usize) -> usize
     p
 }
 
-// What the items of a table are.
+// What the items of a table are. A `match`, as it is a closed list of cases.
 pub fn item_of(table: Table) -> Item
     ensures { result ≡ item_of table }
 {
@@ -161,6 +162,7 @@ fn same_folded(s: &[u8], a: usize, b: usize) -> bool
 }
 
 // Have the items at a and at b the same name, as the table tells names apart?
+// A `match`, as the arms are calls of different contracts: a closure's type would have to say each.
 fn same_name(s: &[u8], table: Table, a: usize, b: usize) -> bool
     requires { (TextAt s.now a) × (TextAt s.now b) }
     ensures { SameName table s.now a b result }
@@ -171,7 +173,7 @@ fn same_name(s: &[u8], table: Table, a: usize, b: usize) -> bool
     }
 }
 
-// Have the items at a and at b the same key?
+// Have the items at a and at b the same key? A `match`, as packages may be compared in one table only.
 pub fn same_key(s: &[u8], table: Table, a: usize, b: usize) -> bool
     requires { TwoPlaced (format_in table) s.now a b }
     ensures { SameKey table s.now a b result }

@@ -60,7 +60,7 @@ impl Fixed for Instruction {
     }
 }
 
-// Also returns the count.
+// Also returns the count. One call, under the list's name and contract: its entry stays private.
 pub fn number_instructions(s: &[u8], set: &Settings, c: Cursor, tape: &mut [u32]) -> Read<u64>
     requires { ReadyAt s.now c }
     ensures { NumberOf (instruction_list (settings_of set.now)) counted s.now c tape.old result tape.new }

@@ -64,6 +64,7 @@ impl Entry for Interface<'_> {
     }
 }
 
+// One call, under the section's name and contract: its entry stays private.
 pub fn interfaces(s: &[u8], set: &Settings, r: Step, again: bool, tape: &mut [u32]) -> Step
     requires { (Ready s.now r) × (Accepted again (interface_list (settings_of set.now)) s.now r) }
     ensures { Reader (interface_list (settings_of set.now)) s.now r tape.old result

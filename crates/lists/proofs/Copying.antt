@@ -1,10 +1,10 @@
 -- The laws of copies to the tape.
-use Prim.Native.Nat.{ℕ, suc, zero, ◌+◌, ◌-◌, ◌*◌, ◌/◌, ◌≤◌, ◌<◌}
+use Prim.Native.Nat.{ℕ, suc, zero, ◌+◌, ◌-◌, ◌*◌, ◌≤◌, ◌<◌}
 use mathlib.Core.Path.{◌≡◌, refl, sym, ap, ◌∙◌}
 use mathlib.Core.List.{List, [], ◌∷◌, ◌++◌, append_assoc}
 use native.Mathlib.Omega.{arith}
-use native.Mathlib.Nat.{add_assoc, mul-suc, mul-le-mul_left, mul-div-le}
-use lib.ListN.{length, length-append, get_or, set}
+use native.Mathlib.Nat.{mul-suc}
+use lib.ListN.{length, length-append, get_or}
 use lib.Seq.{sets, set_out, length-sets}
 use Rattle.format.specs.Reading.{little, part}
 use Rattle.reader.proofs.Gather.{read_take}
@@ -31,9 +31,6 @@ sets-out t at (w ∷ ws) h = rw (set_out t at w h) (sets-out t (suc at) ws (omeg
 pub copied-ended : {ws : List ℕ} {n : ℕ} {s : List ℕ} {from at : ℕ} {t : List ℕ} → length t ≤ at
     → Copied ws n s from t at t
 copied-ended {ws} {n} {s} {from} {at} {t} h = record { is = sym (sets-out t at (words_at ws n s from) h) }
-
-pub fits_div : {j q at l : ℕ} → at < l → q ≤ (l - at) / j → Fits j q at l
-fits_div {j} {q} {at} {l} h k = room (omega (arith, mul-le-mul_left j k, mul-div-le (l - at) j))
 
 fits-room : {j n at l : ℕ} → Fits j n at l → at < l → at + j * n ≤ l
 fits-room (ended h) k = absurd (omega arith)

@@ -19,7 +19,7 @@ ghost use Rattle.lists.specs.Runs.{advanced, Runs, width, numbers_at, Copied, Fi
 ghost use Rattle.lists.specs.Records.{bare_of};
 ghost use Rattle.lists.specs.Fixed.{Sized, sized_byte, sized_half, sized_word, Flat, flat_byte, flat_half, flat_word};
 
-use fields::{SlotType, U16, U32};
+use fields::{SlotType, U8, U16, U32};
 use reader::{Cursor, ListAt, Read, Step};
 use vob24_data::{Settings, Size};
 
@@ -33,6 +33,7 @@ pub struct Rest {
 }
 
 // An entry of a list, by its format and its reader.
+// Each `impl` says its format in one line, so that the methods `read` are of one shape.
 pub trait Entry {
     ghost format: { Self → Format };
 
@@ -137,23 +138,22 @@ const PART: usize = 4096;
 // ---- how many items
 
 // The smaller of n and `most`.
-pub fn fewer(n: u64, most: usize) -> usize
+fn fewer(n: u64, most: usize) -> usize
     ensures { (result ≤ n) × (result ≤ most) }
 {
-    if n < (most as u64) { n as usize } else { most }
+    n.min(most as u64) as usize
 }
 
 // How many of n items of `words` words fit from `at` on; all n where the tape has ended, as words are then only
 // counted.
-pub fn fitting(n: usize, words: usize, at: usize, length: usize) -> usize
+fn fitting(n: usize, words: usize, at: usize, length: usize) -> usize
     requires { 0 < words }
     ensures { (result ≤ n) × Fits words result at length }
 {
     if length <= at {
         return n;
     }
-    let room = (length - at) / words;
-    if room < n { room } else { n }
+    n.min((length - at) / words)
 }
 
 // The rest of n items after k of them, which took `bytes` bytes and `words` words.
@@ -173,6 +173,8 @@ pub fn remaining(c: Cursor, n: u64, k: usize, bytes: usize, words: usize) -> Res
 
 // ---- numbers
 
+// The number of two bytes at p. One call of the library, a function so that its contract says it in the words of the
+// layout.
 pub fn half(s: &[u8], p: usize) -> u32
     requires { p + 2 ≤ length s.now }
     ensures { result ≡ little (part s.now p 2) }
@@ -208,9 +210,7 @@ pub trait Fixed {
     ghost flat: { (x : Self) → Flat (form x) (widths x) };
 }
 
-struct Byte;
-
-impl Fixed for Byte {
+impl Fixed for U8 {
     ghost form = { λ _. u8 };
 
     ghost widths = { λ _. 1 ∷ [] };
@@ -232,7 +232,9 @@ impl Fixed for Byte {
     }
 }
 
-pub fn copy<T: Fixed>(s: &[u8], from: usize, n: usize, entry: &T, tape: &mut [u32], at: usize)
+// The words of n entries, one after the other. Counts p and t by hand, as two places move together, by BYTES and by
+// WORDS.
+fn copy<T: Fixed>(s: &[u8], from: usize, n: usize, entry: &T, tape: &mut [u32], at: usize)
     requires there { from + width (T.widths entry.now) * n ≤ length s.now }
     requires fits { Fits (length (T.widths entry.now)) n at (length tape.old) }
     ensures { Copied (T.widths entry.now) n s.now from tape.old at tape.new }
@@ -253,40 +255,29 @@ pub fn copy_bytes(s: &[u8], from: usize, n: usize, tape: &mut [u32], at: usize)
     requires { (from + n ≤ length s.now) × Fits 1 n at (length tape.old) }
     ensures { Copied (1 ∷ []) n s.now from tape.old at tape.new }
 {
-    copy(s, from, n, &Byte, tape, at);
+    copy(s, from, n, &U8, tape, at);
 }
 
 // ---- small bytes
 
-// Is one of the n bytes at `from` above `most`? With no early exit the loop is compiled to vector code.
+// Is one of the n bytes at `from` above `most`? A fold has no early exit, so that it is compiled to vector code; `any`
+// would have one.
 fn one_above(s: &[u8], from: usize, n: usize, most: u8) -> bool
     requires { from + n ≤ length s.now }
     ensures { result ≡ false → Low s.now from (from + n) most }
 {
-    let mut m: u8 = 0;
-    for k in from..from + n {
-        m = m.max(s[k]);
-    }
-    most < m
-}
-
-// How many of n bytes the next part has.
-fn part_of(n: usize) -> usize
-    requires { 0 < n }
-    ensures { (0 < result) × (result ≤ n) }
-{
-    n.min(PART)
+    most < s[from..from + n].iter().fold(0u8, |m, b| m.max(*b))
 }
 
 // Copies the parts before the first with a byte above `most`. The contract does not say why it stopped: the item reader
-// tests again from there. A part's length is its step, so there is no range to go over.
+// tests again from there. No iterator: a part's length is its step, and its copy goes to another index.
 fn copy_low(s: &[u8], from: usize, n: usize, most: u8, tape: &mut [u32], at: usize) -> usize
     requires { (from + n ≤ length s.now) × (at + n < 18446744073709551616) × Fits 1 n at (length tape.old) }
     ensures { CopiedLow n s.now from most tape.old at result tape.new }
 {
     let mut i = 0;
     while i < n {
-        let m = part_of(n - i);
+        let m = (n - i).min(PART);
         if one_above(s, from + i, m, most) {
             return i;
         }
@@ -298,21 +289,6 @@ fn copy_low(s: &[u8], from: usize, n: usize, most: u8, tape: &mut [u32], at: usi
 
 // ---- lists
 
-fn slot_type_run(s: &[u8], c: Cursor, n: u64, tape: &mut [u32]) -> Rest
-    requires { ReadyAt s.now c }
-    ensures { Runs slot_type s.now c tape.old n result tape.new }
-{
-    if n < SHORT {
-        return Rest { items: n, at: c };
-    }
-    let place = c.place;
-    let at = c.at;
-    let there = fewer(n, s.len() - place);
-    let most = fitting(there, 1, at, tape.len());
-    let k = copy_low(s, place, most, 5, tape, at);
-    remaining(c, n, k, k, k)
-}
-
 impl Entry for SlotType {
     ghost format = { λ _. slot_type };
 
@@ -323,7 +299,13 @@ impl Entry for SlotType {
     }
 
     fn run(&self, s: &[u8], c: Cursor, n: u64, tape: &mut [u32]) -> Rest {
-        slot_type_run(s, c, n, tape)
+        if n < SHORT {
+            return Rest { items: n, at: c };
+        }
+        let there = fewer(n, s.len() - c.place);
+        let most = fitting(there, 1, c.at, tape.len());
+        let k = copy_low(s, c.place, most, 5, tape, c.at);
+        remaining(c, n, k, k, k)
     }
 }
 

@@ -64,8 +64,6 @@ pub enum Metadata {
 // A metadata and its lists in file order; absent lists are empty.
 pub type MetadataRecord = WithLists<Metadata>;
 
-// ---- the parts of a metadata
-
 // ---- metadata by their shapes
 
 // One slot layout.
@@ -262,10 +260,7 @@ fn is_tag(s: &[u8], place: usize, tag: u8) -> bool
     requires { place ≤ length s.now }
     ensures { result ≡ true → get_or s.now place 0 ≡ tag }
 {
-    if s.len() - place < 1 {
-        return false;
-    }
-    s[place] == tag
+    s.get(place) == Some(&tag)
 }
 
 fn two_layouts(s: &[u8], set: &Settings, c: Cursor, tape: &mut [u32]) -> Step

@@ -104,6 +104,7 @@ impl Entry for NamedType<'_> {
     }
 }
 
+// One call, under the section's name and contract: its entry stays private.
 pub fn named_types(s: &[u8], set: &Settings, r: Step, again: bool, tape: &mut [u32]) -> Step
     requires { (Ready s.now r) × (Accepted again (named_list (settings_of set.now)) s.now r) }
     ensures { Reader (named_list (settings_of set.now)) s.now r tape.old result

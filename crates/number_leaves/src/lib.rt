@@ -1,5 +1,6 @@
 // Leaves that judge a number by a rule, packed numbers, and the file's marks.
 // Ports the methods of `impl ByteReader` in serialize.rs that judge what they read.
+// `as` stands where a number is known to fit a narrower type: a `TryFrom` would have a case that no caller meets.
 #![tactic(auto)]
 
 ghost use Rattle.format.specs.Format.{Leaf, Width};

@@ -70,8 +70,7 @@ fn located(s: &[u8], set: &Settings, r: Step, name: &[u8], end: Cursor) -> Resul
     requires { Whole (settings_of set.now) s.now r end }
     ensures { Located (settings_of set.now) s.now r name.now end result }
 {
-    let mut none = [0u32; 1];
-    let at = deserialize::to_section(s, set, Section::Artifacts, r, &mut none[..0]);
+    let at = deserialize::to_section(s, set, Section::Artifacts, r, &mut []);
     lookup::look_from(s, set, at?.place, name, end)
 }
 
@@ -80,9 +79,8 @@ pub fn locate_artifact(pack: &[u8], name: &[u8]) -> Result<Span, Refusal>
     ensures { LocateCall settings pack.now name.now result }
 {
     let set = &vob24_data::MEASURED;
-    let mut none = [0u32; 1];
     let start = calls::opening_whole(pack, STARTING_BUDGET);
-    let first = deserialize::deserialize(pack, set, start, false, &mut none[..0]);
+    let first = deserialize::deserialize(pack, set, start, false, &mut []);
     let end = calls::ended(first, pack.len())?;
     located(pack, set, start, name, end)
 }
@@ -107,9 +105,8 @@ pub fn alike_names(pack: &[u8]) -> Result<Option<AlikeNames>, Refusal>
     ensures { AlikeCall settings pack.now result }
 {
     let set = &vob24_data::MEASURED;
-    let mut none = [0u32; 1];
     let start = calls::opening_whole(pack, STARTING_BUDGET);
-    let first = deserialize::deserialize(pack, set, start, false, &mut none[..0]);
+    let first = deserialize::deserialize(pack, set, start, false, &mut []);
     calls::ended(first, pack.len())?;
     Ok(alike_names::find_alike(pack, set))
 }

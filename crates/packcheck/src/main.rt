@@ -55,6 +55,7 @@ fn read_input(input: &mut impl Read, buf: &mut [u8]) -> io::Result<usize>
 }
 
 fn check(rt: &impl Print, pack: &[u8]) -> io::Result<()> {
+    // An array, as `buf` below.
     let mut tape = [0; 16384];
     let answer = pack::read(pack, pack::STARTING_BUDGET, &mut tape);
     println!(rt; "{}", Line(answer))

@@ -1,6 +1,7 @@
 // Prints one record of each kind from its bytes: runtime types, instructions' metadata, select cases and constants. A
 // line has the enum's case with its fields; for a record, the start and count of its lists; then the place after it. A
 // constant's line ends with its words on the tape.
+// `as` of an enum gives its number.
 #![tactic(auto)]
 
 ghost use Rattle.std.specs.Prelude.{◌≤◌, length};
@@ -8,12 +9,12 @@ ghost use Rattle.std.specs.Prelude.{◌≤◌, length};
 use constants::answers::Constant;
 use metadata::{Metadata, MetadataRecord};
 use reader::{Cursor, ListAt, Read};
-use runtime_type::RuntimeType;
+use runtime_type::{RuntimeType, RuntimeTypeRecord};
 use select_case::SelectCase;
 use std::fmt::{self, Display};
 use std::io;
 
-// More than any record here.
+// More than any record here. Tapes are arrays, as nothing here takes from a heap.
 const MOST: usize = 64;
 
 const START: Cursor = Cursor {
@@ -27,17 +28,30 @@ const START: Cursor = Cursor {
 struct Shown<T>(T);
 
 // A kind with its two lists.
-#[derive(Drop)]
-struct WithLists<K>(K, ListAt, ListAt);
+fn write_record<W: fmt::Write>(
+    f: &mut fmt::Formatter<W>,
+    kind: impl Display + Drop,
+    first: ListAt,
+    second: ListAt,
+) -> fmt::Result {
+    write!(
+        f,
+        "{kind}, lists {} {} {} {}",
+        first.start, first.count, second.start, second.count
+    )
+}
 
-impl<K: Display> Display for WithLists<K> {
+impl Display for Shown<RuntimeTypeRecord> {
     fn fmt<W: fmt::Write>(&self, f: &mut fmt::Formatter<W>) -> fmt::Result {
-        let WithLists(kind, first, second) = self;
-        write!(
-            f,
-            "{kind}, lists {} {} {} {}",
-            first.start, first.count, second.start, second.count
-        )
+        let record = self.0;
+        write_record(f, Shown(record.kind), record.first, record.second)
+    }
+}
+
+impl Display for Shown<MetadataRecord> {
+    fn fmt<W: fmt::Write>(&self, f: &mut fmt::Formatter<W>) -> fmt::Result {
+        let record = self.0;
+        write_record(f, Shown(record.kind), record.first, record.second)
     }
 }
 
@@ -87,13 +101,7 @@ fn runtime_type(rt: &impl Print, s: &[u8]) -> io::Result<()>
 {
     let mut tape = [0; 64];
     let read = runtime_type::runtime_type(s, &vob24_data::MEASURED, START, false, &mut tape);
-    line(
-        rt,
-        read.map(|(record, d)| (
-            WithLists(Shown(record.kind), record.first, record.second),
-            d,
-        )),
-    )
+    line(rt, read.map(|(record, d)| (Shown(record), d)))
 }
 
 // ---- instructions' metadata
@@ -150,13 +158,7 @@ fn metadata(rt: &impl Print, s: &[u8]) -> io::Result<()>
     requires { length s.now ≤ MOST }
 {
     let read = read_metadata(s);
-    line(
-        rt,
-        read.map(|(record, d)| (
-            WithLists(Shown(record.kind), record.first, record.second),
-            d,
-        )),
-    )
+    line(rt, read.map(|(record, d)| (Shown(record), d)))
 }
 
 // ---- select cases

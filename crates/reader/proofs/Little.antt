@@ -1,12 +1,8 @@
 -- The numbers of little-endian bytes, as std and as the layout has them.
 use Rattle.std.specs.Prelude.{ℕ, ◌≡◌, List, [], ◌∷◌, length}
-use Rattle.std.specs.Array.{IsFirstChunk}
 use Rattle.std.specs.Int.{w16, w32, w64, from_le_bytes}
-use Rattle.std.proofs.Common.{ap, ◌∙◌, arith, get_or, length-take-le}
+use Rattle.std.proofs.Common.{arith, get_or}
 use Rattle.format.specs.Reading.{little}
-
-pub chunk-length : {k : ℕ} {xs bs : List ℕ} → IsFirstChunk xs bs k → length bs ≡ k
-chunk-length {k} {xs} h = ap length h.same ∙ length-take-le k xs h.enough
 
 pub little_1 : (bs : List ℕ) → length bs ≡ 1 → get_or bs 0 0 ≡ little bs
 unfolding little

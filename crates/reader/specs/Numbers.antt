@@ -1,9 +1,11 @@
--- Document 01's numbers of the code's kinds of refusal and contexts.
+-- Document 01's numbers of the code's kinds of refusal, contexts and parts of a function.
 use Rattle.std.specs.Prelude.{ℕ}
 use Rattle.vob24.specs.Refusals as vob
 use Rattle.reader.specs.declared.kinds.Kind.{Kind}
 use Rattle.reader.specs.declared.kinds.Kind.TheVariants.{InputTooLarge, UnexpectedEof, InvalidMagic, UnsupportedVersion, AllocationBudgetExceeded, InvalidUtf8, InvalidBoolean, InvalidSlotType, InvalidValueKind, InvalidPackedValueMeta, InvalidPackedValueRttid, InvalidChanDir, InvalidRuntimeType, InvalidConstant, InvalidInstructionMetadata, DuplicateStructField, DuplicateInterfaceMethod, DuplicateNamedMethod, DuplicateRuntimeStructField, InvalidFunctionMetadata, InvalidSourceInteger, ModuleArtifactLimitExceeded, DebugMetadataLimitExceeded, TrailingBytes, HostCalls, NoRoom, NoSuchArtifact, NoSuchFunction}
 use Rattle.reader.specs.declared.kinds.Context.{Context}
+use Rattle.reader.specs.declared.kinds.Part.{Part}
+use Rattle.reader.specs.declared.kinds.Part.TheVariants.{CaptureMeta, ParameterMeta, SlotCount}
 use Rattle.reader.specs.declared.kinds.Context.TheVariants.{ByteString, Vector, StructFieldIndex, StructFieldKey, InterfaceMethodSet, NamedMethodMap, RuntimeStructFieldSet, ModuleArtifacts, ArtifactName, ArtifactPayload, ArtifactCount, InlineFrames, InlineFunctions, InlineEntries}
 
 abbrev pub kind_number : Kind → ℕ
@@ -51,3 +53,8 @@ context_number ArtifactCount = vob.artifact_count
 context_number InlineFrames = vob.inline_frames
 context_number InlineFunctions = vob.inline_functions
 context_number InlineEntries = vob.inline_entries
+
+abbrev pub part_number : Part → ℕ
+part_number CaptureMeta = vob.capture_meta
+part_number ParameterMeta = vob.parameter_meta
+part_number SlotCount = vob.slot_count

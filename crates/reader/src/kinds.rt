@@ -1,7 +1,8 @@
 // The kinds of refusal and what charges and limits are for, by document 01's names and numbers; vob24's
 // specs/Refusals.antt has the numbers for the contracts.
+// `as` of an enum gives its number.
 ghost use Rattle.std.specs.Prelude.{◌≡◌};
-ghost use Rattle.reader.specs.Numbers.{kind_number, context_number};
+ghost use Rattle.reader.specs.Numbers.{kind_number, context_number, part_number};
 
 // What is wrong.
 #[derive(Clone, Copy, PartialEq, Eq, Debug)]
@@ -79,4 +80,12 @@ pub enum Part {
     CaptureMeta = 1,
     ParameterMeta = 3,
     SlotCount = 5,
+}
+
+impl From<Part> for u64 {
+    ghost from_gives = { λ part n. n ≡ part_number part };
+
+    fn from(part: Part) -> u64 {
+        part as u64
+    }
 }

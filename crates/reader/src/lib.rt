@@ -6,7 +6,7 @@
 // `as` stands between usize and u64, where Rust has no `From`, and where a number is known to fit a narrower type.
 #![tactic(auto)]
 
-ghost use Rattle.std.specs.Prelude.{◌+◌, ◌<◌, ◌≡◌, set};
+ghost use Rattle.std.specs.Prelude.{◌+◌, ◌%◌, ◌/◌, ◌<◌, ◌≡◌, set};
 ghost use Rattle.std.specs.Float.{binary64};
 ghost use Rattle.std.specs.Float.Ieee.{of_bits};
 ghost use Rattle.std.specs.Int.{w64};
@@ -118,13 +118,21 @@ pub fn keep(c: Cursor, word: u64, tape: &mut [u32]) -> Cursor
     Cursor { at: c.at + 1, ..c }
 }
 
-// Two words: a 64-bit number, an optional id, a text or a payload.
+// Two words: an optional id, a text or a payload.
 pub fn keep_pair(c: Cursor, low: u64, high: u64, tape: &mut [u32]) -> Cursor
     requires { WordyPair c low high }
     ensures { KeptPair c low high tape.old result tape.new }
 {
     let d = keep(c, low, tape);
     keep(d, high, tape)
+}
+
+// A 64-bit number, its low word first.
+pub fn keep_long(c: Cursor, n: u64, tape: &mut [u32]) -> Cursor
+    requires { WordyPair c (n % 4294967296) (n / 4294967296) }
+    ensures { KeptPair c (n % 4294967296) (n / 4294967296) tape.old result tape.new }
+{
+    keep_pair(c, n % 0x1_0000_0000, n / 0x1_0000_0000, tape)
 }
 
 // ---- fixed widths
@@ -136,7 +144,7 @@ pub fn le4(b: [u8; 4]) -> u32
 }
 
 // The cursor n bytes on.
-pub fn past(n: usize, c: Cursor) -> Cursor
+fn past(n: usize, c: Cursor) -> Cursor
     requires { c.place + n < 18446744073709551616 }
     ensures { result ≡ past n c }
 {
@@ -166,6 +174,7 @@ pub fn read_u8(s: &[u8], c: Cursor) -> Read<u64>
     Ok((u64::from(bytes[0]), d))
 }
 
+// `read_u16` and `read_u32` differ in the type whose `from_le_bytes` reads them.
 pub fn read_u16(s: &[u8], c: Cursor) -> Read<u64>
     requires { ReadyAt s.now c }
     ensures { Fetches 2 s.now c result }
@@ -174,7 +183,7 @@ pub fn read_u16(s: &[u8], c: Cursor) -> Read<u64>
     Ok((u64::from(u16::from_le_bytes(bytes)), d))
 }
 
-// Also `read_i32`: a signed number is its bits.
+// Also `read_i32`: a signed number is its bits. Differs from `read_u16` in the type whose `from_le_bytes` reads it.
 pub fn read_u32(s: &[u8], c: Cursor) -> Read<u64>
     requires { ReadyAt s.now c }
     ensures { Fetches 4 s.now c result }

@@ -1,5 +1,6 @@
 // Runs document 01's marked cases through the leaves. A line says what was taken, for a text how many characters, or
 // the refusal's number; then the place.
+// `as` stands between usize and u64, where Rust has no `From`.
 #![tactic(auto)]
 
 ghost use Rattle.std.specs.Prelude.{◌≤◌, length};

@@ -62,7 +62,7 @@ const ALL_CLASSES: Classes = Classes { lo: 0, hi: 65536 };
 
 // ---- whether an item repeats one before it
 
-// May the name at p be repeated?
+// May the name at p be repeated? A `match`, as one arm is a call with a contract of its own and the other a value.
 fn exempt(s: &[u8], table: Table, p: usize) -> bool
     requires { TextAt s.now p }
     ensures { ExemptIs table s.now p result }
@@ -85,6 +85,7 @@ fn mark_text(s: &[u8], p: usize) -> u64
 }
 
 // A bit for the name at p: where names are folded, by its hash.
+// A `match`, as the arms are calls of different contracts: a closure's type would have to say each.
 fn mark(s: &[u8], table: Table, p: usize) -> u64
     requires { TextAt s.now p }
     ensures { MarkIs table s.now p result }
@@ -130,7 +131,7 @@ fn all_new(s: &[u8], table: Table, from: usize, n: usize) -> bool
 }
 
 // The first item that repeats one before it, or the number of items: each whose mark is not new is compared with
-// all before it.
+// all before it. Answers as `first_repeat` does: n where nothing repeats.
 fn scan(s: &[u8], list: Listing) -> usize
     requires { Listed s.now list }
     ensures { FirstRepeat (keys_of s.now list) list.n result }
@@ -332,6 +333,7 @@ fn hash_folded(s: &[u8], p: usize, seed: u32) -> u64
     ended(seed, hash)
 }
 
+// A `match`, as the arms are calls of different contracts: a closure's type would have to say each.
 fn hash_key(s: &[u8], table: Table, p: usize, seed: u32) -> u64
     requires { Placed (format_in table) s.now p }
     ensures { KeyHash seed table s.now p result }
@@ -468,7 +470,7 @@ fn probed(
     Ok(false)
 }
 
-// The first repeat, of the suspects of these classes, by a filter that is empty yet; or the number of items.
+// The first repeat, of the suspects of these classes, by a filter that is empty yet; or n, as `first_repeat` answers.
 fn pass(
     s: &[u8],
     list: Listing,
@@ -567,7 +569,7 @@ fn two_passes(s: &[u8], list: Listing, classes: Classes, seed: u32) -> Result<us
     pass(s, list, classes, seed, &mut filter, &suspects)
 }
 
-// The first repeat under this seed: one pass, or two for each 196608 items.
+// The first repeat under this seed, or n, as `first_repeat` answers: one pass, or two for each 196608 items.
 fn under_seed(s: &[u8], list: Listing, seed: u32) -> Result<usize, GaveUp>
     requires { Listed s.now list }
     ensures { FirstOr (keys_of s.now list) list.n result }
@@ -609,8 +611,9 @@ fn fresh_seed(s: &[u8], list: Listing, seed: u32) -> u32
     2147483649 + (h / 65536 % 1073741824) as u32 * 2
 }
 
-// The first repeat where marks don't tell: of few items by comparing, else by filters. Names that were made to collide
-// under one seed do not collide under the next. Not inlined: most tables need none of this.
+// The first repeat where marks don't tell, or n, as `first_repeat` answers: of few items by comparing, else by filters.
+// Names that were made to collide under one seed do not collide under the next. Not inlined: most tables need none of
+// this.
 #[inline(never)]
 fn searched(s: &[u8], table: Table, from: usize, n: usize) -> usize
     requires { Items (format_in table) n s.now from }
@@ -631,6 +634,8 @@ fn searched(s: &[u8], table: Table, from: usize, n: usize) -> usize
 }
 
 // The first of the n items from `from` on that repeats one before it, or n. A set of the library would need a heap.
+// It is how many items come before that one, n of n where none repeats, as `partition_point` counts: each caller would
+// turn an `Option` into that number.
 pub fn first_repeat(s: &[u8], table: Table, from: usize, n: usize) -> usize
     requires { Items (format_in table) n s.now from }
     ensures { FirstRepeat (keys_at table s.now from) n result }

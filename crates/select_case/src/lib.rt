@@ -92,7 +92,7 @@ impl Entry for Case {
     }
 }
 
-// Also returns the count.
+// Also returns the count. One call, under the list's name and contract: its entry stays private.
 pub fn number_select_cases(s: &[u8], set: &Settings, c: Cursor, tape: &mut [u32]) -> Read<u64>
     requires { ReadyAt s.now c }
     ensures { NumberOf (select_list (settings_of set.now)) counted s.now c

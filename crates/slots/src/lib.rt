@@ -15,7 +15,7 @@ use fields::SlotType;
 use reader::{Cursor, Read, Step};
 use vob24_data::{Settings, Size};
 
-// A list of any length.
+// A list of any length. One call, under the list's contract, which the two short ways go on to.
 fn number_any(s: &[u8], set: &Settings, c: Cursor, tape: &mut [u32]) -> Read<u64>
     requires { ReadyAt s.now c }
     ensures { NumberOf (slot_types (settings_of set.now)) counted s.now c

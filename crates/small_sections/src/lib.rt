@@ -28,6 +28,7 @@ impl Entry for Itab<'_> {
     }
 }
 
+// One call, under the section's name and contract: its entry stays private.
 pub fn itabs(s: &[u8], set: &Settings, r: Step, tape: &mut [u32]) -> Step
     requires { Ready s.now r }
     ensures { Reader (itab_list (settings_of set.now)) s.now r tape.old result
@@ -103,6 +104,7 @@ impl Entry for Global<'_> {
     }
 }
 
+// One call, under the section's name and contract: its entry stays private.
 pub fn globals(s: &[u8], set: &Settings, r: Step, tape: &mut [u32]) -> Step
     requires { Ready s.now r }
     ensures { Reader (global_list (settings_of set.now)) s.now r tape.old result

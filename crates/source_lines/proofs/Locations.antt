@@ -1,6 +1,6 @@
 -- The laws of the best entry, of a function's locations, and of the lists of a pack.
 use Rattle.std.proofs.Common.{ℕ, suc, zero, ◌+◌, ◌-◌, ◌*◌, ◌≤◌, ◌<◌, ◌≡◌, refl, ap, sym, ◌∙◌, List, map, Bool, true, false, ◌&&◌, arith, add-one, length, get_or, leb, lt-ltb, le-ltb, Option, Some, None, Ok, Err}
-use Rattle.std.specs.Option.{option_map}
+use Rattle.std.specs.Option.{MatchOption, option_map}
 use Rattle.format.specs.Trace.{pick}
 use Rattle.format.specs.Format.{none, number, Format}
 use Rattle.format.specs.Reading.{little, part}
@@ -27,6 +27,10 @@ use Rattle.source_lines.proofs.Skips.{list-end}
 abbrev pub least_of : Option Best → ℕ
 least_of None = 0
 least_of (Some b) = b.pc
+
+pub least-is : (b : Option Best) {m : ℕ} → MatchOption b (m ≡ 0) (λ x. m ≡ x.pc) → m ≡ least_of b
+least-is None h = h
+least-is (Some b) h = h
 
 module _ (b : Option Best) (i a pc : ℕ) {m : ℕ} (e : m ≡ least_of b) where
   -- at or below the address, and not below the best

@@ -1,5 +1,6 @@
 -- The laws of packed numbers that were read, by the bytes that end them.
 use Rattle.std.proofs.Common.{ℕ, suc, zero, ◌+◌, ◌-◌, ◌*◌, ◌≤◌, ◌<◌, ◌≡◌, refl, ap, sym, ◌∙◌, List, Bool, true, false, arith, add-one, length, get_or, ltb, leb→le, ltb-true, ltb-false, lt-ltb, le-ltb, Ok, Err}
+use Rattle.std.specs.Int.{from_bool}
 use Rattle.format.specs.Trace.{pick, out, Ends, amounts, sum, total}
 use Rattle.format.specs.Format.{num, number, first, packed}
 use Rattle.format.specs.Reading.{little, part, packed_step, trace_packed, trace_leaf, trace}
@@ -255,13 +256,13 @@ locations-skip (suc n) s p h =
     let e : 5 + n * 5 ≡ suc n * 5 = omega arith in
     rw e at (skips-join (number-skips a.first a.rest) (locations-skip n s (next_at location s p) h.1))
 
-pub ending-one : (b : ℕ) → b < 128 → (1 ≡ ending b) × (1 ≤ 1)
+pub ending-is : (b : ℕ) {n : ℕ} → n ≡ from_bool (ltb b 128) → (n ≡ ending b) × (n ≤ 1)
 unfolding pick
-ending-one b h = (rw (lt-ltb b 128 h), omega arith)
-
-pub ending-none : (b : ℕ) → 128 ≤ b → (0 ≡ ending b) × (0 ≤ 1)
-unfolding pick
-ending-none b h = (rw (le-ltb b 128 h), omega arith)
+ending-is b {n} e = go (ltb b 128) refl e
+  where
+    go : (d : Bool) → ltb b 128 ≡ d → n ≡ from_bool d → (n ≡ ending b) × (n ≤ 1)
+    go true i f = (rw (i, f), omega (arith, f))
+    go false i f = (rw (i, f), omega (arith, f))
 
 -- ---- a location as the code reads it
 

@@ -28,10 +28,7 @@ struct Best {
 fn better(best: Option<Best>, i: usize, pc: u64, address: u64) -> Option<Best>
     ensures { best_of result ≡ source.better address (best_of best) i pc }
 {
-    let least = match best {
-        Some(b) => b.pc,
-        None => 0,
-    };
+    let least = best.map_or(0, |b| b.pc);
     if (least <= pc) & (pc <= address) {
         return Some(Best { entry: i, pc });
     }

@@ -21,10 +21,7 @@ pub(crate) struct Packed {
 fn ends(b: u8) -> u8
     ensures { (result ≡ ending b) × (result ≤ 1) }
 {
-    if b < 128 {
-        return 1;
-    }
-    0
+    u8::from(b < 128)
 }
 
 // How many of the bytes of a block end one: with no branch and no early end the loop is compiled to vector code.
@@ -39,7 +36,8 @@ fn ends_in(s: &[u8], p: usize) -> u8
     n
 }
 
-// The place past the packed number at p. No `for`: the number's last byte ends the loop, and no count does.
+// The place past the packed number at p. No `for`, as the number's last byte ends the loop and no count does, and no
+// `position`, as it would be an `Option` whose `None` the pack rules out.
 fn past_number(s: &[u8], p: usize) -> usize
     requires { NumbersAt 1 s.now p }
     ensures { Skips s.now 1 p result }

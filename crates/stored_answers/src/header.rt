@@ -133,7 +133,16 @@ fn size(h: &[u8; 128], at: usize) -> usize
 fn long(h: &[u8; 128], at: usize) -> u64
     requires { at < 121 }
 {
-    u64::from(number(h, at)) + u64::from(number(h, at + 4)) * 4294967296
+    u64::from_le_bytes([
+        h[at],
+        h[at + 1],
+        h[at + 2],
+        h[at + 3],
+        h[at + 4],
+        h[at + 5],
+        h[at + 6],
+        h[at + 7],
+    ])
 }
 
 impl TryFrom<&[u8; 128]> for Header {

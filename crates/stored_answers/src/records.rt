@@ -53,6 +53,7 @@ impl Buffers {
         file: &mut impl Read,
         records: u64,
     ) -> Result<Option<Header>, Broken> {
+        // An array, as nothing here takes from a heap.
         let mut bytes = [0; 128];
         file.read_exact(&mut bytes)?;
         if header::number(&bytes, header::KIND) == 0 {
@@ -91,6 +92,7 @@ impl Buffers {
 }
 
 fn is_at_end(file: &mut impl Read) -> bool {
+    // One byte is asked for, to see that there is none.
     let mut one = [0];
     file.read(&mut one).is_ok_and(|n| n == 0)
 }

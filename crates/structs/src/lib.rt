@@ -51,6 +51,7 @@ impl Entry for Structure<'_> {
     }
 }
 
+// One call, under the section's name and contract: its entry stays private.
 pub fn structs(s: &[u8], set: &Settings, r: Step, again: bool, tape: &mut [u32]) -> Step
     requires { (Ready s.now r) × (Accepted again (struct_list (settings_of set.now)) s.now r) }
     ensures { Reader (struct_list (settings_of set.now)) s.now r tape.old result

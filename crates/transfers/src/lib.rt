@@ -8,12 +8,13 @@ ghost use Rattle.vob24.specs.Leaves.{packed_ok};
 ghost use Rattle.vob24.specs.Questions.{transfer_words};
 ghost use Rattle.reader.specs.declared.kinds.Kind.TheVariants.{InvalidFunctionMetadata};
 ghost use Rattle.vob24.specs.Grammar.{transfer as transfer_format, transferred};
+ghost use Rattle.reader.specs.Numbers.{part_number};
 ghost use Rattle.reader.specs.Contract.{refusal, Asks};
 ghost use Rattle.in_place.specs.Walk.{value_at, items_at};
 ghost use Rattle.in_place.specs.Contract.{over, Items, ListBehind, ListAsked};
 ghost use Rattle.transfers.specs.Words.{transfer_asks, transfer_over, TransferAt};
 
-use reader::{Cursor, Kind, Refusal, Step};
+use reader::{Cursor, Kind, Part, Refusal, Step};
 
 // Is it a kind in the low byte, and an id above it?
 fn packed_ok(word: usize) -> bool
@@ -64,15 +65,15 @@ fn transfers(s: &[u8], context: u64, from: usize, n: usize, c: Cursor) -> Step
     Ok(here)
 }
 
-// The words of the entries whose list was read at r, asked at r1; context is that of the meta word.
-pub fn transfer_words(s: &[u8], context: u64, r: Step, r1: Step) -> Step
-    requires { (ListBehind transfer_format s.now r r1) × (context < 4) }
-    ensures { ListAsked transfer_format (λ vs. transfer_words context 0 (map transferred vs)) s.now r
+// The words of the entries whose list was read at r, asked at r1; the part is that of the meta word.
+pub fn transfer_words(s: &[u8], part: Part, r: Step, r1: Step) -> Step
+    requires { (ListBehind transfer_format s.now r r1) × (part_number part < 4) }
+    ensures { ListAsked transfer_format (λ vs. transfer_words (part_number part) 0 (map transferred vs)) s.now r
         r1 result }
 {
     let d = r1?;
     let c = r?;
     let place = c.place;
     let n = in_place::word_at(s, place);
-    transfers(s, context, place + 4, n, d)
+    transfers(s, u64::from(part), place + 4, n, d)
 }

@@ -40,6 +40,7 @@ fn repeated(s: &[u8], p: usize, c: Cursor, kind: Kind, context: u64) -> Step
 }
 
 // The refusal, at c, of the item at p. Reading puts no question on names alike: a match has an arm for them all the same.
+// A `match`, as the arms are calls of different contracts: a closure's type would have to say each.
 fn refuse_repeat(s: &[u8], table: Table, p: usize, c: Cursor) -> Step
     requires { Placed (format_in table) s.now p }
     ensures { RepeatTold table s.now p c result }
@@ -74,6 +75,7 @@ fn charge_field(s: &[u8], p: usize, c: Cursor) -> Step
     reader::charge_allocation(c, Context::StructFieldKey, len as u64)
 }
 
+// A `match`, as a key is charged in one table only, under a contract of its own.
 fn charge_key(s: &[u8], table: Table, p: usize, c: Cursor) -> Step
     requires { Placed (format_in table) s.now p }
     ensures { Charged table s.now p c result }
@@ -188,6 +190,7 @@ struct Charge {
 }
 
 // Reading puts no question on names alike: the match has an arm for them all the same.
+// A `match`, as it is a closed list of cases, one of which counts names by a contract of its own.
 fn table_charge(s: &[u8], set: &Settings, table: Table, from: usize, n: usize) -> Charge
     requires { (Items (format_in table) n s.now from) × (n < 4294967296) }
     ensures { ChargedFor (settings_of set.now) table s.now from n result }

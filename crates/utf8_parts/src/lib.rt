@@ -1,6 +1,7 @@
 // Many bytes of a text at once: may each follow the three before it, and how many of them are trailing bytes?
 // The rows of Table 3-7 of the Unicode Standard, seen from a byte and not from a character. A test only accepts: of
 // bytes that it does not accept nothing is said.
+// `as` stands where a number is known to fit a narrower type: a `TryFrom` would have a case that no caller meets.
 #![tactic(auto)]
 
 ghost use Rattle.std.specs.Prelude.{◌≡◌, true, ◌+◌, ◌-◌, ◌≤◌, ◌<◌, length};

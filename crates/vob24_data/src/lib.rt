@@ -1,5 +1,6 @@
 // What the code shares of the VOB 24 rule pack: the list of sections, and the table of sizes and limits that every
 // charge reads. Ports the `size_of` terms and the limits of serialize.rs.
+// `as` of an enum gives its number.
 #![tactic(auto)]
 
 ghost use Rattle.std.specs.Prelude.{◌+◌, ◌*◌, ◌≡◌, ◌≤◌, ◌<◌, get_or};
@@ -33,6 +34,7 @@ pub enum Section {
 }
 
 // The number of a section, in file order: so many stand before it. `as` takes no enum whose variant has a field.
+// A `match`, as it is a closed list of cases.
 pub fn section_number(section: Section) -> usize
     ensures { (result ≡ number_of (section_of section)) × (result ≤ 16) }
 {
@@ -58,7 +60,7 @@ pub fn section_number(section: Section) -> usize
 }
 
 // The section of a number. The last, which goes by the number of functions, is left out. No `TryFrom`: its `Err` would be
-// a case that no caller can meet, as `i < 16` there.
+// a case that no caller can meet, as `i < 16` there. A `match`, as it is a closed list of cases.
 pub fn section_at(i: usize) -> Section
     requires { i < 16 }
     ensures { (section_of result ≡ get_or all_sections i inline_sources) × (functions_of result ≡ 0) }
@@ -145,7 +147,7 @@ impl Size {
     }
 }
 
-// The size numbered i from 1 on; 0 where there is none.
+// The size numbered i from 1 on; 0 where there is none. A `match`, as a range says both ends of the table.
 fn size_at(set: &Settings, i: usize) -> u64
     ensures { (result ≡ size_of (settings_of set.now) i) × (result < 65536) }
 {
@@ -185,6 +187,7 @@ pub fn artifact_name_bytes(set: &Settings) -> u64
     u64::from(set[limits::ARTIFACT_NAME_BYTES])
 }
 
+// The two limits of two entries each are two functions, since each one's contract names its limit.
 #[tactic(auto, unfolding(vob24::specs::Settings::settings_of))]
 pub fn artifact_payload_bytes(set: &Settings) -> u64
     ensures { result ≡ (settings_of set.now).artifact_payload_bytes }
@@ -195,6 +198,7 @@ pub fn artifact_payload_bytes(set: &Settings) -> u64
     )
 }
 
+// A limit of two entries too; its contract names another.
 #[tactic(auto, unfolding(vob24::specs::Settings::settings_of))]
 pub fn inline_records(set: &Settings) -> u64
     ensures { result ≡ (settings_of set.now).inline_records }

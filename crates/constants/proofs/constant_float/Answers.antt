@@ -5,4 +5,4 @@ pub returns-in_err-value : goal.returns-in_err-value
 returns-in_err-value c = float-unread c.in_err-value.was c.from_residual.ensures.1 c.read_f64.ensures
 
 pub returns : goal.returns
-returns c = float-record c.requires c.in_ok-value.was c.read_f64.ensures c.keep_pair.ensures
+returns c = float-record c.requires c.in_ok-value.was c.read_f64.ensures c.keep_long.ensures

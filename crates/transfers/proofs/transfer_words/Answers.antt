@@ -12,7 +12,7 @@ pub word_at-n-requires : goal.word_at-n-requires
 word_at-n-requires c = list-room c.in_ok-c.was c.in_ok-d.was c.requires.0
 
 pub transfers-requires : goal.transfers-requires
-transfers-requires c = (list-items c.in_ok-c.was c.in_ok-d.was c.requires.0 c.word_at-n.ensures, c.requires.1)
+transfers-requires c = (list-items c.in_ok-c.was c.in_ok-d.was c.requires.0 c.word_at-n.ensures, rw c.from.ensures c.requires.1)
 
 pub returns : goal.returns
-returns c = list-asked c.in_ok-c.was c.in_ok-d.was c.word_at-n.ensures (transfers-asked c.args.context _ c.transfers.ensures)
+returns c = list-asked c.in_ok-c.was c.in_ok-d.was c.word_at-n.ensures (transfers-asked _ _ (rw c.from.ensures at c.transfers.ensures))

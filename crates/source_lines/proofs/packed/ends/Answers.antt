@@ -1,8 +1,5 @@
-use Rattle.source_lines.proofs.Skips.{ending-one, ending-none}
+use Rattle.source_lines.proofs.Skips.{ending-is}
 use Rattle.source_lines.proofs.packed.ends.Goals as goal
 
-pub returns-then-b-lt128 : goal.returns-then-b-lt128
-returns-then-b-lt128 c = ending-one c.args.b c.if-b-lt128.true
-
 pub returns : goal.returns
-returns c = ending-none c.args.b c.if-b-lt128.false
+returns c = ending-is c.args.b c.from.ensures
