@@ -221,7 +221,8 @@ fn select_exec_layout(s: &[u8], set: &Settings, c: Cursor, tape: &mut [u32]) -> 
     ))
 }
 
-// The tag, and the metadata that it announces; the last arm is 18, as its leaf refuses all others.
+// The tag, and the metadata that it announces; the last arm is 18, as its leaf refuses all others. A `match`, as the arms
+// are calls of different contracts: a closure's type would have to say each.
 pub fn instruction_metadata(
     s: &[u8],
     set: &Settings,

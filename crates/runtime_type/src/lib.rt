@@ -244,7 +244,8 @@ fn tuple(s: &[u8], set: &Settings, c: Cursor, tape: &mut [u32]) -> Read<RuntimeT
 
 // ---- the section
 
-// The tag, and the type that it announces; the last arm is 12, as its leaf refuses all others.
+// The tag, and the type that it announces; the last arm is 12, as its leaf refuses all others. A `match`, as the arms are
+// calls of different contracts: a closure's type would have to say each.
 pub fn runtime_type(
     s: &[u8],
     set: &Settings,
