@@ -77,7 +77,7 @@ impl Display for Shown<Option<u32>> {
 impl Display for Shown<RuntimeType> {
     fn fmt<W: fmt::Write>(&self, f: &mut fmt::Formatter<W>) -> fmt::Result {
         match self.0 {
-            RuntimeType::Basic(value_kind) => write!(f, "Basic {}", value_kind as u8),
+            RuntimeType::Basic(value_kind) => write!(f, "Basic {}", u8::from(value_kind)),
             RuntimeType::Named { id, struct_meta_id } => {
                 write!(f, "Named id {id} struct_meta_id {}", Shown(struct_meta_id))
             }
@@ -85,12 +85,12 @@ impl Display for Shown<RuntimeType> {
             RuntimeType::Array { len, elem } => write!(f, "Array len {len} elem {elem}"),
             RuntimeType::Slice(elem) => write!(f, "Slice {elem}"),
             RuntimeType::Map { key, val } => write!(f, "Map key {key} val {val}"),
-            RuntimeType::Chan { dir, elem } => write!(f, "Chan dir {} elem {elem}", dir as u8),
+            RuntimeType::Chan { dir, elem } => write!(f, "Chan dir {} elem {elem}", u8::from(dir)),
             RuntimeType::Func { variadic } => write!(f, "Func variadic {variadic}"),
             RuntimeType::Struct { meta_id } => write!(f, "Struct meta_id {meta_id}"),
             RuntimeType::Interface { meta_id } => write!(f, "Interface meta_id {meta_id}"),
             RuntimeType::Tuple => write!(f, "Tuple"),
-            RuntimeType::Port { dir, elem } => write!(f, "Port dir {} elem {elem}", dir as u8),
+            RuntimeType::Port { dir, elem } => write!(f, "Port dir {} elem {elem}", u8::from(dir)),
             RuntimeType::Island => write!(f, "Island"),
         }
     }

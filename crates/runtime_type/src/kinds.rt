@@ -1,6 +1,7 @@
 // Value kinds and a channel's directions, by the Rust's names and numbers.
-ghost use Rattle.std.specs.Prelude.{◌≡◌};
-ghost use Rattle.runtime_type.specs.Numbered.{kind_at, dir_at};
+// `as` of an enum gives its number.
+ghost use Rattle.std.specs.Prelude.{◌≡◌, ◌≤◌};
+ghost use Rattle.runtime_type.specs.Numbered.{kind_at, dir_at, value_kind_number, direction_number};
 
 #[derive(Clone, Copy, PartialEq, Eq, Debug)]
 pub enum ValueKind {
@@ -31,6 +32,14 @@ pub enum ValueKind {
     Island = 24,
 }
 
+impl From<ValueKind> for u8 {
+    ghost from_gives = { λ kind n. n ≡ value_kind_number kind };
+
+    fn from(kind: ValueKind) -> u8 {
+        kind as u8
+    }
+}
+
 #[derive(Clone, Copy, PartialEq, Eq, Debug)]
 pub enum ChanDir {
     Both = 0,
@@ -38,9 +47,18 @@ pub enum ChanDir {
     Recv = 2,
 }
 
+impl From<ChanDir> for u8 {
+    ghost from_gives = { λ dir n. n ≡ direction_number dir };
+
+    fn from(dir: ChanDir) -> u8 {
+        dir as u8
+    }
+}
+
 // The kind of a number that has passed its rule. No `TryFrom`: its `Err` would be a case that no caller can meet.
 pub(crate) fn value_kind(n: u64) -> ValueKind
-    ensures { result ≡ kind_at n }
+    ensures named { result ≡ kind_at n }
+    ensures numbered { n ≤ 24 → value_kind_number result ≡ n }
 {
     match n {
         0 => ValueKind::Void,
@@ -73,7 +91,8 @@ pub(crate) fn value_kind(n: u64) -> ValueKind
 
 // The same of a direction.
 pub(crate) fn chan_dir(n: u64) -> ChanDir
-    ensures { result ≡ dir_at n }
+    ensures named { result ≡ dir_at n }
+    ensures numbered { n ≤ 2 → direction_number result ≡ n }
 {
     match n {
         0 => ChanDir::Both,

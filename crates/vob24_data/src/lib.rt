@@ -148,7 +148,7 @@ impl Size {
 }
 
 // The size numbered i from 1 on; 0 where there is none. A `match`, as a range says both ends of the table.
-fn size_at(set: &Settings, i: usize) -> u64
+pub fn size_at(set: &Settings, i: usize) -> u64
     ensures { (result ≡ size_of (settings_of set.now) i) × (result < 65536) }
 {
     match i {

@@ -10,4 +10,4 @@ pub returns-in_err-kind : goal.returns-in_err-kind
 returns-in_err-kind c = lost_only c.in_err-kind.was c.from_residual.ensures.1 c.number.ensures
 
 pub returns : goal.returns
-returns c = recorded (recorded_last c.in_ok-kind.was c.number.ensures (λ n _. bare_of (kind.Basic (kind_at n))) (rw c.value_kind.ensures at c.bare.ensures))
+returns c = recorded (recorded_last c.in_ok-kind.was c.number.ensures (λ n _. bare_of (kind.Basic (kind_at n))) (rw c.value_kind.ensures.named at c.bare.ensures))

@@ -12,4 +12,4 @@ pub returns-in_err-elem : goal.returns-in_err-elem
 returns-in_err-elem c = lost_second c.in_ok-dir.was c.number.ensures c.in_err-elem.was c.from_residual-in_err-elem.ensures.1 c.one_rttid.ensures
 
 pub returns : goal.returns
-returns c = rw c.chan_dir.ensures (recorded (last_two c.in_ok-dir.was c.number.ensures c.in_ok-elem.was c.one_rttid.ensures (λ m n _. (dir_at m, n)) refl))
+returns c = rw c.chan_dir.ensures.named (recorded (last_two c.in_ok-dir.was c.number.ensures c.in_ok-elem.was c.one_rttid.ensures (λ m n _. (dir_at m, n)) refl))
