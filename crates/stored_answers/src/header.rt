@@ -1,5 +1,6 @@
 // `as` stands between usize and u64, where Rust has no `From`, and where a number is known to fit a narrower type.
-ghost use Rattle.std.specs.Prelude.{◌+◌, ◌<◌, ◌≤◌};
+ghost use Rattle.std.specs.Prelude.{◌+◌, ◌<◌, ◌≤◌, ◌≡◌, length, take, drop};
+ghost use Rattle.std.specs.Int.{w32, from_le_bytes};
 ghost use Rattle.stored_answers.specs.declared.header.TheConstants.{PACK_BYTES, NAME_BYTES, TAPE_WORDS};
 
 use crate::records::Broken;
@@ -115,34 +116,31 @@ impl Header {
     }
 }
 
-// The number in the four bytes from `at` on.
-pub(crate) fn number(h: &[u8; 128], at: usize) -> u32
-    requires { at < 125 }
+// The number in the four bytes from `at` on; 0 where they are not all there.
+pub fn number(b: &[u8], at: usize) -> u32
+    ensures there { at + 4 ≤ length b.now → result ≡ from_le_bytes w32 (take 4 (drop at b.now)) }
+    ensures missing { length b.now < at + 4 → result ≡ 0 }
 {
-    u32::from_le_bytes([h[at], h[at + 1], h[at + 2], h[at + 3]])
+    let Some(rest) = b.get(at..) else {
+        return 0;
+    };
+    let Some(bytes) = rest.first_chunk::<4>() else {
+        return 0;
+    };
+    u32::from_le_bytes(*bytes)
 }
 
-fn size(h: &[u8; 128], at: usize) -> usize
-    requires { at < 125 }
+fn size(h: &[u8], at: usize) -> usize
     ensures { result < 4294967296 }
 {
     number(h, at) as usize
 }
 
-// The number in the eight bytes from `at` on.
-fn long(h: &[u8; 128], at: usize) -> u64
-    requires { at < 121 }
+// The number in a header's eight bytes from `at` on.
+pub fn long(h: &[u8], at: usize) -> u64
+    requires { at < 128 }
 {
-    u64::from_le_bytes([
-        h[at],
-        h[at + 1],
-        h[at + 2],
-        h[at + 3],
-        h[at + 4],
-        h[at + 5],
-        h[at + 6],
-        h[at + 7],
-    ])
+    u64::from(number(h, at)) + u64::from(number(h, at + 4)) * 0x1_0000_0000
 }
 
 impl TryFrom<&[u8; 128]> for Header {

@@ -6,7 +6,7 @@ mod header;
 mod records;
 mod tally;
 
-pub use header::{Header, Kind, TAPE_WORDS, UnknownKind};
+pub use header::{Header, Kind, TAPE_WORDS, UnknownKind, long, number};
 pub use records::{Broken, Buffers, Record};
 pub use tally::Tally;
 

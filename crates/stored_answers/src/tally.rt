@@ -9,11 +9,12 @@ use std::{fmt, io};
 const SHOWN: u64 = 20;
 
 // The records of a list so far, and how many times one of them differed.
-#[derive(Drop)]
+// A plain derive would ask `P`, which is only lent, for the same.
+#[derive_where(Clone, Copy)]
 pub struct Tally<'a, P> {
     rt: &'a P,
     pub records: u64,
-    differences: u64,
+    pub differences: u64,
 }
 
 impl<P> fmt::Display for Tally<'_, P> {
@@ -40,14 +41,16 @@ impl<'a, P: Print> Tally<'a, P> {
     }
 
     // Counts and prints a difference, if it is one.
-    fn hold(&mut self, what: &str, stored: u64, got: u64) -> io::Result<()> {
+    pub fn hold(&mut self, what: &[u8], stored: u64, got: u64) -> io::Result<()> {
         if stored == got {
             return Ok(());
         }
         if self.differences < SHOWN {
             let rt = self.rt;
             let n = self.records;
-            println!(rt; "record {n}: {what}: stored {stored}, got {got}")?;
+            print!(rt; "record {n}: ")?;
+            rt.write_all(what)?;
+            println!(rt; ": stored {stored}, got {got}")?;
         }
         self.differences = self.differences.saturating_add(1);
         Ok(())
@@ -61,17 +64,17 @@ impl<'a, P: Print> Tally<'a, P> {
         count: usize,
         fields: &[(&str, u64)],
     ) -> io::Result<()> {
-        self.hold("status", h.status, status)?;
-        self.hold("count", h.count as u64, count as u64)?;
+        self.hold(b"status", h.status, status)?;
+        self.hold(b"count", h.count as u64, count as u64)?;
         for (stored, (what, got)) in h.fields.iter().zip(fields) {
-            self.hold(what, *stored, *got)?;
+            self.hold(what.as_bytes(), *stored, *got)?;
         }
         Ok(())
     }
 
     // Such a record is taken for a whole pack.
     pub fn hold_kind(&mut self, unknown: UnknownKind) -> io::Result<()> {
-        self.hold("kind", u64::from(unknown.0), Kind::Whole as u64)
+        self.hold(b"kind", u64::from(unknown.0), Kind::Whole as u64)
     }
 
     // Holds an answer against a record's status and fields.
@@ -123,8 +126,8 @@ impl<'a, P: Print> Tally<'a, P> {
         } else {
             (given, h.budget)
         };
-        self.hold("place after it", stored_place, place as u64)?;
-        self.hold("budget after it", stored_budget, budget)
+        self.hold(b"place after it", stored_place, place as u64)?;
+        self.hold(b"budget after it", stored_budget, budget)
     }
 
     pub fn hold_found(&mut self, h: &Header, found: Span) -> io::Result<()> {
@@ -182,10 +185,10 @@ impl<'a, P: Print> Tally<'a, P> {
         let count = h.count.min(tape.len());
         let counted = &tape[..count];
         let sum = u64::from(crate::sum_of(counted));
-        self.hold("sum of the words", u64::from(h.sum), sum)?;
+        self.hold(b"sum of the words", u64::from(h.sum), sum)?;
         let first = crate::first_written(tape, count);
         self.hold(
-            "first change past the words",
+            b"first change past the words",
             tape.len() as u64,
             first as u64,
         )?;
@@ -194,7 +197,7 @@ impl<'a, P: Print> Tally<'a, P> {
         }
         let (stored, _) = record.words.as_chunks::<4>();
         let first = crate::first_other(counted, stored);
-        self.hold("first word that differs", count as u64, first as u64)
+        self.hold(b"first word that differs", count as u64, first as u64)
     }
 
     // Holds the payload that a lookup returned against the part of the pack that a record says; nothing where it is
@@ -203,16 +206,16 @@ impl<'a, P: Print> Tally<'a, P> {
         let h = record.header;
         let got = payload.len() as u64;
         if h.status != 0 {
-            return self.hold("payload's length", 0, got);
+            return self.hold(b"payload's length", 0, got);
         }
         let pack = record.pack;
         let start = (h.fields[0] as usize).min(pack.len());
         let length = (h.fields[1] as usize).min(pack.len() - start);
         let stored = &pack[start..start + length];
-        self.hold("payload's length", length as u64, got)?;
+        self.hold(b"payload's length", length as u64, got)?;
         let first = crate::first_differing(stored, payload);
         self.hold(
-            "first byte of the payload that differs",
+            b"first byte of the payload that differs",
             length as u64,
             first as u64,
         )
