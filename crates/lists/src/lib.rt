@@ -108,12 +108,14 @@ pub fn read_list<T: Entry>(
 
 // ---- the lists of a record
 
-// A kind, which holds no list itself, and its lists in file order; absent lists are empty.
+// A kind, which holds no list itself, and its lists in file order; absent lists are empty. The kind stands last: before the
+// lists its narrow numbers lie where a cursor's words do in an answer without a record, and a word written in halves is
+// slow to read (docs/DESIGN-PASS.md, "Speed").
 #[derive(Clone, Copy, PartialEq, Eq, Debug)]
 pub struct WithLists<K> {
-    pub kind: K,
     pub first: ListAt,
     pub second: ListAt,
+    pub kind: K,
 }
 
 // A kind that has no list.
